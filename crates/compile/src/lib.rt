@@ -1,0 +1,1 @@
+// A constraint tree as a table. The definitions stand in specs/.

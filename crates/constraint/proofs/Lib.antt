@@ -1,0 +1,5 @@
+-- The laws and examples of the definitions.
+pub mod TreeReading
+pub mod Computes
+pub mod Examples
+pub mod TextTable

@@ -1,0 +1,363 @@
+-- What reading a constraint text gives. A refusal's place lies in the text, so the end of the fuel, which would be told behind it, is never the answer. The
+-- records of a tree are numbered in pre-order, and there is room for them. Each byte of the pool comes from a byte of its own of the text. Every part is proper: its lengths,
+-- flags and pairs are as document 01 asks. Assumes nothing.
+use mathlib.Core.Path.{_≡_, refl, ap, _∙_}
+use mathlib.Core.Bool.{Bool, true, false, cond}
+use mathlib.Core.List.{List, [], _∷_, _++_, append-assoc}
+use Prim.Native.Nat.{ℕ, zero, suc, _+_, _-_, _≤_, _<_}
+use native.Mathlib.Omega.{arith}
+use native.Mathlib.Nat.{sub-zero}
+use lib.Dec.{eqb, ltb, lit<}
+use lib.ListN.{length, length-take, length-drop}
+use lib.Seq.{take-length}
+use borrow.Author.Tests.{eqb-true, eqb-false, ltb-false, ltb-true}
+use mathlib.Core.Logic.{_≢_}
+use Rattle.lexis.specs.Runs.{part, listed}
+use Rattle.lexis.specs.Order.{Sub}
+use Rattle.lexis.specs.Spelling.{matches, existence, openBrace, closeBrace, dots, star}
+use Rattle.lexis.specs.Tokens.{tokenAt, textEnd, integer, typeName, name, code, spelling, inner}
+use Rattle.lexis.specs.declared.Token.{Token}
+use Rattle.lexis.proofs.Cases.{and-left}
+use Rattle.lexis.proofs.Places.{Found, token-found}
+use Rattle.lexis.proofs.Parts.{sub-none, sub-all, sub-join, sub-wider, sub-length, part-sub}
+use Rattle.refusals.specs.Limits.{textLimit, levelLimit, recordLimit, nameLimit, codeLimit, poolLimit}
+use Rattle.refusals.specs.Reading.{Reading, refused, got, refuse, andThen}
+use Rattle.refusals.specs.Steps.{expect}
+use Rattle.refusals.specs.declared.Cause.the-variants.{TextTooLong, TooDeep, TooLong, TooManyRecords, RepeatedName, PoolTooLarge}
+use Rattle.refusals.specs.declared.Refusal.{Refusal}
+use Rattle.refusals.proofs.Readings.{Holds, From, Reaches, refuse-holds, got-holds, cond-holds, unless-holds, then-holds, holds-map}
+use Rattle.refusals.proofs.Tokens.{Taken, Passed, strict-of, fault-holds, expect-holds, expect-passes}
+use Rattle.meaning.specs.Constraints.{Object, object, Attributes, noMore, attribute, Value, any, nested, leaf}
+use Rattle.meaning.specs.Proper.{ProperName, ProperObject, ProperAttributes, ProperValue}
+use Rattle.meaning.specs.Counting.{objectRecords, objectPool, objectNumbers, attributeRecords, attributePool, attributeNumbers, valueRecords, valuePool, valueNumbers, upFrom}
+use Rattle.meaning.proofs.Numbers.{up-append}
+use Rattle.items.specs.Leaves
+use Rattle.items.proofs.IntervalReading.{token-past}
+use Rattle.items.proofs.LeafReading.{LeafRead, leaf-holds, inner-sub}
+use Rattle.constraint.specs.Existence.{opening, isNought, isOne, fromNought, fromOne, bounds, existenceFrom}
+use Rattle.constraint.specs.Objects.{Count, count, objectType, objectCode, attributeName, value, Attribute, attributeFrom, past, goOn, attributes, body, objectBy, objectFrom}
+use Rattle.constraint.specs.Texts.{constraintOf}
+
+-- an existence that was read, and the place behind it
+pub record Exists (low high : ℕ) (e : ℕ) (p : ℕ) : Type 0 where
+  pub least : low ≤ p
+  pub most : p ≤ high
+  pub flag : e ≤ 2
+
+-- a TYPE or NAME that was read
+pub record Named (s : List ℕ) (next from : ℕ) (t : Token) (p : ℕ) : Type 0 where
+  pub passed : Passed s from t p
+  pub proper : ProperName (spelling s t)
+  pub room : next ≢ recordLimit
+
+module _ (s : List ℕ) where
+  -- a token's bytes are as many as its places say
+  length-spelling : (from p : ℕ) (t : Token) → Passed s from t p → length (spelling s t) ≡ t .end - t .start
+  length-spelling from p t h = rw (length-take, length-drop) (omega arith)
+
+  -- `matches {`
+  pub opening-holds : (from : ℕ) → from ≤ length s → Holds (length s) (Passed s from) (opening s from)
+  unfolding opening
+  opening-holds from h =
+      let n = length s in
+      then-holds n (Passed s from) (Passed s from) _ _ (expect-passes s matches from h (lit< tt)) (λ t p q.
+      holds-map n (Passed s p) (Passed s from) _ (λ u r x. record { start = omega arith; order = x .order; behind = x .behind; inside = x .inside })
+      (expect-passes s openBrace p (q .inside) (lit< tt)))
+
+  -- existence may be nothing: the place is at or behind the one before
+  reached : (low p : ℕ) (e : ℕ) → e ≤ 2 → low ≤ p → p ≤ length s → Holds (length s) (Exists low (length s)) (got e p)
+  reached low p e f h k = got-holds (length s) (Exists low (length s)) e p (record { least = h; most = k; flag = f })
+
+  next-holds : (low from : ℕ) → low ≤ from → from ≤ length s → (low ≤ tokenAt s from .end) × (tokenAt s from .end ≤ length s) × (tokenAt s from .start ≤ length s)
+  next-holds low from l h = let f = token-found s from h in omega arith
+
+  nought-holds : (low from : ℕ) → low ≤ from → from ≤ length s → Holds (length s) (Exists low (length s)) (fromNought s from)
+  unfolding fromNought
+  nought-holds low from l h =
+      let n = length s in
+      let t = tokenAt s from in
+      let u = tokenAt s (t .end) in
+      let f = next-holds low from l h in
+      let g = next-holds low (t .end) (f .0) (f .1) in
+      cond-holds n (Exists low n) (eqb (t .sort) dots) _ _
+      (λ e. cond-holds n (Exists low n) (isNought s u) _ _ (λ x. reached low (u .end) _ (omega arith) (g .0) (g .1))
+        (λ x. cond-holds n (Exists low n) (isOne s u) _ _ (λ y. reached low (u .end) _ (omega arith) (g .0) (g .1))
+        (λ y. fault-holds s (t .end) u (Exists low n) (token-found s (t .end) (f .1)))))
+      (λ e. reached low from _ (omega arith) l h)
+
+  one-holds : (low from : ℕ) → low ≤ from → from ≤ length s → Holds (length s) (Exists low (length s)) (fromOne s from)
+  unfolding fromOne
+  one-holds low from l h =
+      let n = length s in
+      let t = tokenAt s from in
+      let u = tokenAt s (t .end) in
+      let f = next-holds low from l h in
+      let g = next-holds low (t .end) (f .0) (f .1) in
+      cond-holds n (Exists low n) (eqb (t .sort) dots) _ _
+      (λ e. cond-holds n (Exists low n) (isOne s u) _ _ (λ y. reached low (u .end) _ (omega arith) (g .0) (g .1))
+        (λ y. fault-holds s (t .end) u (Exists low n) (token-found s (t .end) (f .1))))
+      (λ e. reached low from _ (omega arith) l h)
+
+  bounds-holds : (low from : ℕ) → low ≤ from → from ≤ length s → Holds (length s) (Exists low (length s)) (bounds s from)
+  unfolding bounds
+  bounds-holds low from l h =
+      let n = length s in
+      let t = tokenAt s from in
+      let f = next-holds low from l h in
+      cond-holds n (Exists low n) (isNought s t) _ _ (λ e. nought-holds low (t .end) (f .0) (f .1))
+      (λ e. cond-holds n (Exists low n) (isOne s t) _ _ (λ g. one-holds low (t .end) (f .0) (f .1))
+      (λ g. fault-holds s from t (Exists low n) (token-found s from h)))
+
+  pub existence-holds : (from : ℕ) → from ≤ length s → Holds (length s) (Exists from (length s)) (existenceFrom s from)
+  unfolding existenceFrom
+  existence-holds from h =
+      let n = length s in
+      let P = Exists from n in
+      let t = tokenAt s from in
+      let f = next-holds from from (omega arith) h in
+      cond-holds n P (eqb (t .sort) existence) _ _
+      (λ e. then-holds n P (Passed s (t .end)) _ _ (opening-holds (t .end) (f .1)) (λ u p q.
+        then-holds n P (Exists p n) (bounds s p) _ (bounds-holds p p (omega arith) (q .inside)) (λ x r y.
+        then-holds n P (Passed s r) _ _ (expect-passes s closeBrace r (y .most) (lit< tt)) (λ v z w.
+        reached from z x (y .flag) (omega arith) (w .inside)))))
+      (λ e. reached from from _ (omega arith) (omega arith) h)
+
+  named : (next from p : ℕ) (t : Token) → Passed s from t p → ltb nameLimit (length (spelling s t)) ≡ false → eqb next recordLimit ≡ false → Named s next from t p
+  named next from p t q b d =
+      let e = length-spelling from p t q in
+      let f : length (spelling s t) ≤ nameLimit = ltb-false nameLimit (length (spelling s t)) b in
+      record { passed = q; proper = (omega arith, f); room = eqb-false next recordLimit d }
+
+  -- the TYPE of an object, and its code
+  pub type-holds : (levels : ℕ) (c : Count) (from : ℕ) → from ≤ length s → Holds (length s) (Named s (c .next) from) (objectType s levels c from)
+  unfolding objectType
+  type-holds levels c from h =
+      let n = length s in
+      let P = Named s (c .next) from in
+      then-holds n P (Passed s from) _ _ (expect-passes s typeName from h (lit< tt)) (λ t p q.
+      unless-holds n P (eqb levels 0) TooDeep (t .start) _ (omega arith) (λ a.
+      unless-holds n P (ltb nameLimit (length (spelling s t))) TooLong (t .start) _ (omega arith) (λ b.
+      unless-holds n P (eqb (c .next) recordLimit) TooManyRecords (t .start) _ (omega arith) (λ d.
+      unless-holds n P (ltb poolLimit (c .pool + length (spelling s t))) PoolTooLarge (t .start) _ (omega arith) (λ e.
+      got-holds n P t p (named (c .next) from p t q b d))))))
+
+  pub record CodeRead (from : ℕ) (k : List ℕ) (p : ℕ) : Type 0 where
+    pub least : from ≤ p
+    pub most : p ≤ length s
+    pub short : length k ≤ 31
+    pub pool : Sub k (part s from p)
+
+  pub code-holds : (pool from : ℕ) → from ≤ length s → Holds (length s) (CodeRead from) (objectCode s pool from)
+  unfolding objectCode
+  code-holds pool from h =
+      let n = length s in
+      let t = tokenAt s from in
+      let f = token-found s from h in
+      cond-holds n (CodeRead from) (eqb (t .sort) code) _ _
+      (λ e. unless-holds n (CodeRead from) (ltb codeLimit (length (inner s t))) TooLong (t .start) _ (omega arith) (λ a.
+        unless-holds n (CodeRead from) (ltb poolLimit (pool + length (inner s t))) PoolTooLarge (t .start) _ (omega arith) (λ b.
+        let g = strict-of code (lit< tt) t s from f (eqb-true _ _ e) in
+        got-holds n (CodeRead from) (inner s t) (t .end) (record { least = omega arith; most = f .inside; short = ltb-false codeLimit (length (inner s t)) a;
+          pool = inner-sub s from (t .end) t (record { start = f .start; order = g; behind = refl; inside = f .inside }) }))))
+      (λ e. got-holds n (CodeRead from) [] from (record { least = omega arith; most = h; short = omega arith; pool = sub-none _ }))
+
+  pub name-holds : (seen : List (List ℕ)) (c : Count) (from : ℕ) → from ≤ length s → Holds (length s) (Named s (c .next) from) (attributeName s seen c from)
+  unfolding attributeName
+  name-holds seen c from h =
+      let n = length s in
+      let P = Named s (c .next) from in
+      then-holds n P (Passed s from) _ _ (expect-passes s name from h (lit< tt)) (λ t p q.
+      unless-holds n P (ltb nameLimit (length (spelling s t))) TooLong (t .start) _ (omega arith) (λ b.
+      unless-holds n P (eqb (c .next) recordLimit) TooManyRecords (t .start) _ (omega arith) (λ d.
+      unless-holds n P (listed (spelling s t) seen) RepeatedName (t .start) _ (omega arith) (λ a.
+      unless-holds n P (ltb poolLimit (c .pool + length (spelling s t))) PoolTooLarge (t .start) _ (omega arith) (λ e.
+      got-holds n P t p (named (c .next) from p t q b d))))))
+
+  spelling-sub : (from p : ℕ) (t : Token) → Passed s from t p → Sub (spelling s t) (part s from p)
+  spelling-sub from p t h = part-sub s from (t .start) (t .end) p (h .start) (omega arith)
+
+-- trees that were read from a place on, the first record's number given
+pub record ObjectRead (s : List ℕ) (next from : ℕ) (o : Object) (p : ℕ) : Type 0 where
+  pub least : from + 1 ≤ p
+  pub most : p ≤ length s
+  pub numbers : objectNumbers o ≡ upFrom next (objectRecords o)
+  pub room : next ≤ recordLimit → next + objectRecords o ≤ recordLimit
+  pub proper : ProperObject o
+  pub pool : Sub (objectPool o) (part s from p)
+
+pub record AttributesRead (s : List ℕ) (next from : ℕ) (xs : Attributes) (p : ℕ) : Type 0 where
+  pub least : from + 1 ≤ p
+  pub most : p ≤ length s
+  pub numbers : attributeNumbers xs ≡ upFrom next (attributeRecords xs)
+  pub room : next ≤ recordLimit → next + attributeRecords xs ≤ recordLimit
+  pub proper : ProperAttributes xs
+  pub pool : Sub (attributePool xs) (part s from p)
+
+pub record ValueRead (s : List ℕ) (next from : ℕ) (v : Value) (p : ℕ) : Type 0 where
+  pub least : from + 1 ≤ p
+  pub most : p ≤ length s
+  pub numbers : valueNumbers v ≡ upFrom next (valueRecords v)
+  pub room : next ≤ recordLimit → next + valueRecords v ≤ recordLimit
+  pub proper : ProperValue v
+  pub pool : Sub (valuePool v) (part s from p)
+
+pub record AttributeRead (s : List ℕ) (next from : ℕ) (a : Attribute) (p : ℕ) : Type 0 where
+  pub least : from + 1 ≤ p
+  pub most : p ≤ length s
+  pub numbers : valueNumbers (a .value) ≡ upFrom (next + 1) (valueRecords (a .value))
+  pub room : next ≤ recordLimit → next + 1 + valueRecords (a .value) ≤ recordLimit
+  pub proper : (a .existence ≤ 2) × ProperName (a .name) × ProperValue (a .value)
+  pub pool : Sub (a .name ++ valuePool (a .value)) (part s from p)
+
+module _ (s : List ℕ) (down : Count → ℕ → Reading Object) (below : (c : Count) (from : ℕ) → from ≤ length s → Holds (length s) (ObjectRead s (c .next) from) (down c from)) where
+  value-holds : (c : Count) (from : ℕ) → from ≤ length s → Holds (length s) (ValueRead s (c .next) from) (value s down c from)
+  unfolding valueNumbers valueRecords valuePool ProperValue
+  value-holds c from h =
+      let n = length s in
+      let P = ValueRead s (c .next) from in
+      let t = tokenAt s from in
+      cond-holds n P (eqb (t .sort) star) _ _
+      (λ e. let b = token-past s from star h (lit< tt) e in got-holds n P any (t .end) (record { least = b .least; most = b .most; numbers = refl; room = λ m. omega arith; proper = tt; pool = sub-none _ }))
+      (λ e. cond-holds n P (eqb (t .sort) typeName) _ _
+      (λ f. then-holds n P (ObjectRead s (c .next) from) (down c from) _ (below c from h)
+        (λ o p q. got-holds n P (nested o) p (record { least = q .least; most = q .most; numbers = q .numbers; room = q .room; proper = q .proper; pool = q .pool })))
+      (λ f. then-holds n P (LeafRead s (c .next) from) (Leaves.leaf s (c .next) (c .pool) from) _ (leaf-holds s (c .next) (c .pool) from h)
+        (λ l p q. got-holds n P (leaf l) p (record { least = q .least; most = q .most; numbers = q .numbers; room = q .room; proper = q .proper; pool = q .pool }))))
+
+  attribute-holds : (seen : List (List ℕ)) (c : Count) (from : ℕ) → from ≤ length s → Holds (length s) (AttributeRead s (c .next) from) (attributeFrom s down seen c from)
+  unfolding attributeFrom
+  attribute-holds seen c from h =
+      let n = length s in
+      let P = AttributeRead s (c .next) from in
+      then-holds n P (Named s (c .next) from) _ _ (name-holds s seen c from h) (λ t p q₀.
+      let q = q₀ .passed in
+      then-holds n P (Exists p n) _ _ (existence-holds s p (q .inside)) (λ e r x.
+      then-holds n P (Passed s r) _ _ (opening-holds s r (x .most)) (λ u y z.
+      then-holds n P (ValueRead s (c .next + 1) y) _ _ (value-holds (count (c .next + 1) (c .pool + length (spelling s t))) y (z .inside)) (λ v w k.
+      then-holds n P (Passed s w) _ _ (expect-passes s closeBrace w (k .most) (lit< tt)) (λ b m l.
+      got-holds n P _ m (record {
+        least = omega arith;
+        most = l .inside;
+        numbers = k .numbers;
+        room = λ g. k .room (let f = q₀ .room in omega arith);
+        proper = (x .flag, q₀ .proper, k .proper);
+        pool = sub-join s from p m (omega arith) (omega arith) (spelling-sub s from p t q) (sub-wider s p y w m (omega arith) (omega arith) (omega arith) (k .pool));
+      }))))))
+
+  -- an attribute before others: numbers and pool
+  first-holds : (c : Count) (from p q : ℕ) (a : Attribute) (more : Attributes) → AttributeRead s (c .next) from a p → p ≤ q → q ≤ length s
+    → attributeNumbers more ≡ upFrom (past c a .next) (attributeRecords more) → (past c a .next ≤ recordLimit → past c a .next + attributeRecords more ≤ recordLimit) → ProperAttributes more
+    → Sub (attributePool more) (part s p q)
+    → AttributesRead s (c .next) from (attribute (c .next) (a .existence) (a .name) (a .value) more) q
+  unfolding attributeNumbers attributeRecords attributePool ProperAttributes
+  first-holds c from p q a more h l k ns room proper sub = record {
+      least = omega arith;
+      most = k;
+      numbers = ap (λ (xs : List ℕ). c .next ∷ xs) (rw (h .numbers, ns, up-append (valueRecords (a .value)) (attributeRecords more) (c .next + 1)));
+      room = λ m. let z = room (h .room m) in omega arith;
+      proper = (h .proper .0, h .proper .1, h .proper .2, proper);
+      pool = rw (← append-assoc (a .name) (valuePool (a .value)) (attributePool more)) (sub-join s from p q (omega arith) l (h .pool) sub);
+    }
+
+  pub attributes-holds : (fuel : ℕ) (seen : List (List ℕ)) (c : Count) (from : ℕ) → length s < from + fuel → from ≤ length s → Holds (length s) (AttributesRead s (c .next) from) (attributes s down fuel seen c from)
+  unfolding attributes attributeNumbers attributeRecords attributePool ProperAttributes
+  attributes-holds zero seen c from k h = absurd (omega arith)
+  attributes-holds (suc fuel) seen c from k h =
+      let n = length s in
+      let P = AttributesRead s (c .next) from in
+      then-holds n P (AttributeRead s (c .next) from) _ _ (attribute-holds seen c from h) (λ a p q.
+      cond-holds n P (eqb (tokenAt s p .sort) closeBrace) _ _
+      (λ e. let b = token-past s p closeBrace (q .most) (lit< tt) e in
+        got-holds n P _ (tokenAt s p .end) (first-holds c from p (tokenAt s p .end) a noMore q (omega arith) (b .most) refl (λ m. omega arith) tt (sub-none _)))
+      (λ e. then-holds n P (AttributesRead s (past c a .next) p) (attributes s down fuel (a .name ∷ seen) (past c a) p) _
+        (attributes-holds fuel (a .name ∷ seen) (past c a) p (omega arith) (q .most)) (λ xs r x.
+        got-holds n P _ r (first-holds c from p r a xs q (omega arith) (x .most) (x .numbers) (x .room) (x .proper) (x .pool)))))
+
+  body-holds : (c : Count) (from : ℕ) → from ≤ length s → Holds (length s) (AttributesRead s (c .next) from) (body s down c from)
+  unfolding attributeNumbers attributeRecords attributePool ProperAttributes
+  body-holds c from h =
+      let n = length s in
+      let P = AttributesRead s (c .next) from in
+      let t = tokenAt s from in
+      cond-holds n P (eqb (t .sort) star) _ _
+      (λ e. let b = token-past s from star h (lit< tt) e in
+        then-holds n P (Passed s (t .end)) _ _ (expect-passes s closeBrace (t .end) (b .most) (lit< tt)) (λ u p q.
+        got-holds n P noMore p (record { least = omega arith; most = q .inside; numbers = refl; room = λ m. omega arith; proper = tt; pool = sub-none _ })))
+      (λ e. attributes-holds (n + 1) [] c from (omega arith) h)
+
+  by-holds : (levels : ℕ) (c : Count) (from : ℕ) → from ≤ length s → Holds (length s) (ObjectRead s (c .next) from) (objectBy s levels down c from)
+  unfolding objectNumbers objectRecords objectPool ProperObject
+  by-holds levels c from h =
+      let n = length s in
+      let P = ObjectRead s (c .next) from in
+      then-holds n P (Named s (c .next) from) _ _ (type-holds s levels c from h) (λ t p q₀.
+      let q = q₀ .passed in
+      then-holds n P (CodeRead s p) _ _ (code-holds s (c .pool + length (spelling s t)) p (q .inside)) (λ k r x.
+      then-holds n P (Passed s r) _ _ (opening-holds s r (x .most)) (λ u y z.
+      then-holds n P (AttributesRead s (c .next + 1) y) _ _ (body-holds (count (c .next + 1) (c .pool + length (spelling s t) + length k)) y (z .inside)) (λ xs w m.
+      got-holds n P _ w (record {
+        least = omega arith;
+        most = m .most;
+        numbers = ap (λ (l : List ℕ). c .next ∷ l) (m .numbers);
+        room = λ g. let f = q₀ .room in let e = m .room (omega arith) in omega arith;
+        proper = (q₀ .proper, x .short, m .proper);
+        pool = sub-join s from p w (omega arith) (omega arith) (spelling-sub s from p t q)
+          (sub-join s p r w (omega arith) (omega arith) (x .pool) (sub-wider s r y w w (omega arith) (omega arith) (omega arith) (m .pool)));
+      })))))
+
+-- an object, at any level
+pub object-holds : (s : List ℕ) (levels : ℕ) (c : Count) (from : ℕ) → from ≤ length s → Holds (length s) (ObjectRead s (c .next) from) (objectFrom s levels c from)
+unfolding objectFrom
+object-holds s zero c from h = by-holds s (λ d at. refuse TooDeep at) (λ d at k. refuse-holds (length s) (ObjectRead s (d .next) at) TooDeep at k) zero c from h
+object-holds s (suc levels) c from h = by-holds s (objectFrom s levels) (λ d at k. object-holds s levels d at k) (suc levels) c from h
+
+-- a text's tree: its records are numbered from 1 on in pre-order, and its pool's bytes are bytes of the text, in order
+pub record Accepted (s : List ℕ) (o : Object) (p : ℕ) : Type 0 where
+  pub numbers : objectNumbers o ≡ upFrom 1 (objectRecords o)
+  pub room : 1 + objectRecords o ≤ recordLimit
+  pub proper : ProperObject o
+  pub pool : Sub (objectPool o) (part s 0 (length s))
+  pub short : length s ≤ textLimit
+  pub inside : p ≤ length s
+
+pub constraint-holds : (s : List ℕ) → Holds (length s) (Accepted s) (constraintOf s)
+unfolding constraintOf
+constraint-holds s =
+    let n = length s in
+    cond-holds n (Accepted s) (ltb textLimit n) _ _
+    (λ e. refuse-holds n (Accepted s) TextTooLong textLimit (let h : textLimit < n = ltb-true textLimit n e in omega arith))
+    (λ e. then-holds n (Accepted s) (ObjectRead s 1 0) (objectFrom s levelLimit (count 1 0) 0) _ (object-holds s levelLimit (count 1 0) 0 (omega arith)) (λ o p q.
+    then-holds n (Accepted s) (Taken s p) _ _ (expect-holds s textEnd p (q .most)) (λ t r x.
+    got-holds n (Accepted s) o r (record { numbers = q .numbers; room = q .room (omega arith); proper = q .proper; short = ltb-false textLimit n e; pool = sub-wider s 0 0 p n (omega arith) (omega arith) (q .most) (q .pool); inside = x .inside }))))
+
+-- a refusal's place lies in the text
+pub place-inside : (s : List ℕ) (r : Refusal) → constraintOf s ≡ refused r → r .place ≤ length s
+unfolding Holds
+place-inside s r e = rw e at (constraint-holds s)
+
+-- the record numbers of a tree are its pre-order
+pub pre-order : (s : List ℕ) (o : Object) (p : ℕ) → constraintOf s ≡ got o p → objectNumbers o ≡ upFrom 1 (objectRecords o)
+unfolding Holds
+pre-order s o p e = let h : Accepted s o p = rw e at (constraint-holds s) in h .numbers
+
+-- each pool byte comes from a byte of its own of the text
+pub pool-from-text : (s : List ℕ) (o : Object) (p : ℕ) → constraintOf s ≡ got o p → Sub (objectPool o) s
+unfolding Holds
+pool-from-text s o p e = let h : Accepted s o p = rw e at (constraint-holds s) in rw (sub-zero, take-length s) at (h .pool)
+
+-- so the pool of an accepted text is within its limit
+pub pool-fits : (s : List ℕ) (o : Object) (p : ℕ) → constraintOf s ≡ got o p → length (objectPool o) ≤ poolLimit
+unfolding Holds
+pool-fits s o p e =
+    let h : Accepted s o p = rw e at (constraint-holds s) in
+    omega (arith, sub-length (pool-from-text s o p e), h .short)
+
+-- the records of an accepted text are within their limit
+pub records-fit : (s : List ℕ) (o : Object) (p : ℕ) → constraintOf s ≡ got o p → 1 + objectRecords o ≤ recordLimit
+unfolding Holds
+records-fit s o p e = let h : Accepted s o p = rw e at (constraint-holds s) in h .room
+
+-- every part of an accepted text's tree is proper
+pub tree-proper : (s : List ℕ) (o : Object) (p : ℕ) → constraintOf s ≡ got o p → ProperObject o
+unfolding Holds
+tree-proper s o p e = let h : Accepted s o p = rw e at (constraint-holds s) in h .proper

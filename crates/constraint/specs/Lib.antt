@@ -1,0 +1,3 @@
+pub mod Existence
+pub mod Objects
+pub mod Texts

@@ -1,0 +1,1 @@
+// Constraint text. The definitions stand in specs/.

@@ -1,0 +1,1 @@
+// Data text. The definitions stand in specs/.

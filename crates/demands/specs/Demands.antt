@@ -1,0 +1,52 @@
+-- The three demands, as statements over the definitions of the layers below. Their proofs are in proofs/. Assumes nothing.
+use mathlib.Core.Path.{_≡_}
+use mathlib.Core.Bool.{Bool, true, false}
+use mathlib.Core.Option.{Option, none}
+use mathlib.Core.List.{List}
+use Prim.Native.Nat.{ℕ, _+_, _≤_}
+use lib.ListN.{length, take, drop}
+use Rattle.refusals.specs.Reading
+use Rattle.refusals.specs.Reading.{Reading, got}
+use Rattle.refusals.specs.declared.Refusal.{Refusal}
+use Rattle.meaning.specs.Constraints.{Object}
+use Rattle.constraint.specs.Texts.{constraintOf}
+use Rattle.merge.specs.Answer.{mergeAnswer}
+use Rattle.merge.specs.Answer
+use Rattle.merge.specs.Lists.{Step, carried, afterSteps}
+use Rattle.compile.specs.Answer.{compileAnswer, tableOf}
+use Rattle.compile.specs.Answer as Compile
+use Rattle.judge.specs.Answer.{JudgeAnswer, judgeText, judgeAnswer, movedAnswer}
+use Rattle.judge.specs.Answer as Judge
+
+-- what two texts alone mean: no table is made on the way
+abbrev pub meaningBy : Reading Object → List ℕ → JudgeAnswer
+meaningBy (Reading.refused r) form = Judge.refused r
+meaningBy (got tree end) form = judgeText tree form
+
+unfoldable pub meaningOf : List ℕ → List ℕ → JudgeAnswer
+meaningOf text form = meaningBy (constraintOf text) form
+
+-- Demand 1: any bytes may be given, and after a refusal the output buffer holds what it held before.
+pub record Demand1 : Type 0 where
+  pub compiling : (text : List ℕ) (little : Bool) (out : List ℕ) (r : Refusal) → compileAnswer text little out .answer ≡ Compile.refused r → compileAnswer text little out .out ≡ out
+  pub merging : (first second : List ℕ) (little : Bool) (out : List ℕ) (table : ℕ) (r : Refusal)
+    → mergeAnswer first second little out .answer ≡ Answer.refused table r → mergeAnswer first second little out .out ≡ out
+
+-- Demand 2: a text is accepted exactly when the rules read a tree from it; then, where the output has room, the table written is that tree's, and what lies behind it stays.
+pub record Demand2 : Type 0 where
+  pub accepted : (text : List ℕ) (tree : Object) (end : ℕ) (little : Bool) (out : List ℕ)
+    → constraintOf text ≡ got tree end → length (tableOf little tree) ≤ length out
+    → (compileAnswer text little out .answer ≡ Compile.done (length (tableOf little tree)))
+    × (take (length (tableOf little tree)) (compileAnswer text little out .out) ≡ tableOf little tree)
+    × (drop (length (tableOf little tree)) (compileAnswer text little out .out) ≡ drop (length (tableOf little tree)) out)
+  pub refused : (text : List ℕ) (r : Refusal) (little : Bool) (out : List ℕ) → constraintOf text ≡ Reading.refused r → compileAnswer text little out .answer ≡ Compile.refused r
+
+-- Demand 3: take any text that compiling accepts, into either order, then any list of merges, refused ones included. Judging any data by the carried table, lent alone, at record
+-- 1 + the sum gives what the two texts alone mean, with the record moved by the sum.
+abbrev pub Demand3 : Type 0
+Demand3 =
+    (text : List ℕ) (little : Bool) (out : List ℕ) (size : ℕ)
+    → compileAnswer text little out .answer ≡ Compile.done size
+    → (steps : List Step) (form : List ℕ)
+    → let c = afterSteps steps (carried (take size (compileAnswer text little out .out)) 0) in
+    judgeAnswer (c .table) (1 + c .sum) form ≡ movedAnswer (c .sum) (meaningOf text form)

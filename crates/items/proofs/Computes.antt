@@ -1,0 +1,12 @@
+-- What the checker opens to compute with the definitions of this crate and those below. Assumes nothing.
+use Rattle.values.proofs.Computes.{valuesCompute}
+use Rattle.refusals.specs.Refusals.{numberOf}
+use Rattle.refusals.specs.Steps.{expect}
+use Rattle.items.specs.Intervals.{literal, upTo, above, spread, from, between, interval}
+use Rattle.items.specs.Ranges.{start, ranges}
+use Rattle.items.specs.Strings.{startString, strings}
+use Rattle.items.specs.Leaves.{secondBoolean, booleanList, leaf}
+
+unfoldable pub itemsCompute : Unit {0}
+unfolding valuesCompute numberOf expect literal upTo above spread from between interval start ranges startString strings secondBoolean booleanList leaf
+itemsCompute = tt

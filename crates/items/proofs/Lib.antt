@@ -1,0 +1,6 @@
+-- The laws and examples of the definitions.
+pub mod Pairs
+pub mod IntervalReading
+pub mod RangeReading
+pub mod LeafReading
+pub mod Computes

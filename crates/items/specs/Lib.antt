@@ -1,0 +1,4 @@
+pub mod Intervals
+pub mod Ranges
+pub mod Strings
+pub mod Leaves

@@ -1,0 +1,1 @@
+// The leaves of constraint text. The definitions stand in specs/.

@@ -1,0 +1,1 @@
+// Judging a data text by a table. The definitions stand in specs/.

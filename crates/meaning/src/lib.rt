@@ -1,0 +1,1 @@
+// The types of constraint trees, datum trees and verdicts. The definitions stand in specs/.

@@ -1,0 +1,1 @@
+// Merging two tables, and lists of merges. The definitions stand in specs/.

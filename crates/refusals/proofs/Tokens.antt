@@ -1,0 +1,54 @@
+-- A token taken from a place of a text on lies in the text, and so does the place of a syntax fault. Assumes nothing.
+use mathlib.Core.Path.{_≡_, refl, sym, _∙_}
+use mathlib.Core.Bool.{Bool, true, false, cond}
+use mathlib.Core.Logic.{_≢_}
+use mathlib.Core.List.{List}
+use Prim.Native.Nat.{ℕ, _+_, _≤_, _<_}
+use native.Mathlib.Omega.{arith}
+use lib.Dec.{eqb, ltb}
+use lib.ListN.{length}
+use borrow.Author.Tests.{eqb-true, ltb-true}
+use Rattle.lexis.specs.Tokens.{tokenAt, textEnd, unreadable}
+use Rattle.lexis.specs.declared.Token.{Token}
+use Rattle.lexis.proofs.Places.{Found, token-found}
+use Rattle.refusals.specs.Reading.{Reading, got}
+use Rattle.refusals.specs.Steps.{syntaxFault, syntaxCause, expect}
+use Rattle.refusals.proofs.Readings.{Holds, refuse-holds, got-holds, cond-holds}
+
+-- the token t, taken from a place on, and the place p behind it
+pub record Taken (s : List ℕ) (from : ℕ) (t : Token) (p : ℕ) : Type 0 where
+  pub start : from ≤ t .start
+  pub order : t .start ≤ p
+  pub behind : p ≡ t .end
+  pub inside : p ≤ length s
+
+-- the same, of a token with a byte
+pub record Passed (s : List ℕ) (from : ℕ) (t : Token) (p : ℕ) : Type 0 where
+  pub start : from ≤ t .start
+  pub order : t .start < p
+  pub behind : p ≡ t .end
+  pub inside : p ≤ length s
+
+-- sorts from 2 on have a byte
+pub strict-of : (sort : ℕ) → 1 < sort → (t : Token) (s : List ℕ) (from : ℕ) → Found s from t → t .sort ≡ sort → t .start < t .end
+strict-of sort h t s from f e = f .strict (λ z. absurd (omega arith)) (λ z. absurd (omega arith))
+
+pub fault-holds : {A : Type 0} (s : List ℕ) (from : ℕ) (t : Token) (P : A → ℕ → Type 0) → Found s from t → Holds (length s) P (syntaxFault t)
+fault-holds s from t P f = refuse-holds (length s) P (syntaxCause t) (t .start) (omega (arith, f .order, f .inside))
+
+module _ (s : List ℕ) (sort from : ℕ) (h : from ≤ length s) where
+  pub expect-holds : Holds (length s) (Taken s from) (expect s sort from)
+  unfolding expect
+  expect-holds =
+      let f = token-found s from h in
+      cond-holds (length s) (Taken s from) (eqb (tokenAt s from .sort) sort) _ _
+      (λ e. got-holds (length s) (Taken s from) (tokenAt s from) _ (record { start = f .start; order = f .order; behind = refl; inside = f .inside }))
+      (λ e. fault-holds s from (tokenAt s from) (Taken s from) f)
+
+  pub expect-passes : 1 < sort → Holds (length s) (Passed s from) (expect s sort from)
+  unfolding expect
+  expect-passes k =
+      let f = token-found s from h in
+      cond-holds (length s) (Passed s from) (eqb (tokenAt s from .sort) sort) _ _
+      (λ e. got-holds (length s) (Passed s from) (tokenAt s from) _ (record { start = f .start; order = strict-of sort k (tokenAt s from) s from f (eqb-true _ _ e); behind = refl; inside = f .inside }))
+      (λ e. fault-holds s from (tokenAt s from) (Passed s from) f)

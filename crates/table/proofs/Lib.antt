@@ -1,0 +1,2 @@
+-- The laws and examples of the definitions.
+pub mod Checked

@@ -1,0 +1,95 @@
+-- The check of a table. Document 01, 'Table': "Count 2..2,048, pool to 16,384; the root's kind byte is 1. Kind 0 stands at number 0 only. Every link is 0 or above its own
+-- record's number and below the count, and of the kind it needs .. Pool pairs lie in the pool; length 0 has place 0 .. Low ≤ high; dates real, none after 9999-12-31";
+-- 'Numbers of refusal', 12: "not a table: length, header, root", 13: "record breaks a rule", at the lowest such record; "12 comes before 13". Assumes nothing.
+use mathlib.Core.Bool.{Bool, true, false, cond, not, _&&_, _||_}
+use mathlib.Core.Option.{Option, none, some}
+use mathlib.Core.List.{List, [], _∷_}
+use Prim.Native.Nat.{ℕ, zero, suc, _+_, _*_, _^_}
+use lib.Dec.{eqb, leb, ltb}
+use lib.ListN.{getD, take, drop}
+use lib.ListN
+use Rattle.lexis.specs.Bytes.{within, among}
+use Rattle.values.specs.Integers.{twosComplement}
+use Rattle.values.specs.Calendar.{real}
+use Rattle.refusals.specs.Limits.{recordLimit, poolLimit}
+use Rattle.refusals.specs.Refusals.{refusal}
+use Rattle.refusals.specs.declared.Refusal.{Refusal}
+use Rattle.refusals.specs.declared.Cause.the-variants.{NotATable, BrokenRecord}
+use Rattle.table.specs.Records.{Record, Image, recordSize, isMarked, field, count, header, imageOf}
+use Rattle.table.specs.Rows.{Use, unnamed, place, length, link, integers, dates, high, rowOf}
+
+-- the kind of the record with a number; 0 of the header, and of a number that no record has
+abbrev pub kinds : List Record → List ℕ
+kinds [] = []
+kinds (r ∷ rs) = r .kind ∷ kinds rs
+
+abbrev pub kindAt : Image → ℕ → ℕ
+kindAt m n = getD (0 ∷ kinds (m .records)) n 0
+
+-- the rule of a field x, before the field next, of the record with number n
+unfoldable pub fieldRight : Image → ℕ → Use → ℕ → ℕ → Bool
+fieldRight m n unnamed x next = true
+fieldRight m n (place least most) x next = within least most next && cond (eqb next 0) (eqb x 0) (leb (x + next) (ListN.length (m .pool)))
+fieldRight m n length x next = true
+fieldRight m n (link ks) x next = eqb x 0 || ltb n x && ltb x (count m) && among (kindAt m x) ks
+fieldRight m n integers x next = ltb x (2 ^ 32) && ltb next (2 ^ 32) && leb (twosComplement x) (twosComplement next)
+fieldRight m n dates x next = real x && real next && leb x next
+fieldRight m n high x next = true
+
+abbrev pub fieldsRight : Image → ℕ → List Use → List ℕ → Bool
+fieldsRight m n [] xs = true
+fieldsRight m n (u ∷ us) [] = true
+fieldsRight m n (u ∷ us) (x ∷ xs) = fieldRight m n u x (getD xs 0 0) && fieldsRight m n us xs
+
+-- a field that is not named is 0
+abbrev pub isNought : Use → ℕ → Bool
+isNought unnamed x = eqb x 0
+isNought (place least most) x = true
+isNought length x = true
+isNought (link ks) x = true
+isNought integers x = true
+isNought dates x = true
+isNought high x = true
+
+abbrev pub restNought : List Use → List ℕ → Bool
+restNought [] xs = true
+restNought (u ∷ us) [] = true
+restNought (u ∷ us) (x ∷ xs) = isNought u x && restNought us xs
+
+-- the rules of a record: its kind, its flag and its named fields; and that its other fields are 0
+unfoldable pub obeys : Image → ℕ → Record → Bool
+obeys m n r = within 1 8 (r .kind) && within (rowOf (r .kind) .least) (rowOf (r .kind) .most) (r .flag) && fieldsRight m n (rowOf (r .kind) .uses) (r .fields)
+
+unfoldable pub clean : Record → Bool
+clean r = restNought (rowOf (r .kind) .uses) (r .fields)
+
+-- a record's bytes, its number and what they decode to: the mark, the rules, the other fields
+abbrev pub recordRight : Image → ℕ → List ℕ → Record → Bool
+recordRight m n bs r = isMarked bs && obeys m n r && clean r
+
+-- the lowest record at fault, from number n on, of the records and the bytes from there
+unfoldable pub broken : Image → ℕ → List Record → List ℕ → Option ℕ
+broken m n [] bs = none
+broken m n (r ∷ rs) bs =
+    let more = broken m (suc n) rs (drop recordSize bs) in
+    cond (recordRight m n (take recordSize bs) r) more (some n)
+
+-- the length, the header and the root
+unfoldable pub framed : List ℕ → Bool
+framed bs =
+    let h = header bs in
+    leb recordSize (ListN.length bs)
+    && isMarked bs
+    && (eqb (h .kind) 0 && eqb (h .flag) 0 && eqb (field h 3) 0 && eqb (field h 4) 0)
+    && within 2 recordLimit (field h 0)
+    && leb (field h 1) poolLimit
+    && eqb (ListN.length bs) (recordSize * field h 0 + field h 1)
+    && eqb (kindAt (imageOf bs) (field h 2)) 1
+
+abbrev pub brokenRecord : Option ℕ → Option Refusal
+brokenRecord none = none
+brokenRecord (some n) = some (refusal BrokenRecord n)
+
+-- the refusal of bytes as a table, if there is one
+unfoldable pub tableFault : List ℕ → Option Refusal
+tableFault bs = cond (framed bs) (brokenRecord (broken (imageOf bs) 1 (imageOf bs .records) (drop recordSize bs))) (some (refusal NotATable 0))

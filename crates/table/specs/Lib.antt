@@ -1,0 +1,6 @@
+pub mod Order
+pub mod Records
+pub mod Rows
+pub mod Check
+pub mod Names
+pub mod Trees

@@ -1,0 +1,1 @@
+// Tables: records, byte order, the check, names and trees. The definitions stand in specs/.

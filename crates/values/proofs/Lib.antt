@@ -1,0 +1,7 @@
+-- The laws and examples of the definitions.
+pub mod Computes
+pub mod Common
+pub mod IntegerLaws
+pub mod CalendarLaws
+pub mod DateLaws
+pub mod PatternLaws

@@ -1,0 +1,6 @@
+pub mod Integers
+pub mod Calendar
+pub mod Dates
+pub mod Times
+pub mod Patterns
+pub mod Words

@@ -1,0 +1,1 @@
+// The values that literals and words spell. The definitions stand in specs/.
