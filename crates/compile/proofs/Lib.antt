@@ -1,1 +1,4 @@
 -- The laws and examples of the definitions.
+pub mod Placed
+pub mod FlattenLaws
+pub mod CheckedCompiled

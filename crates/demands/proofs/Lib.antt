@@ -1,1 +1,3 @@
--- The laws and examples of the definitions.
+-- The proofs of the demands.
+pub mod Buffers
+pub mod Merges

@@ -1,3 +1,4 @@
 -- The laws and examples of the definitions.
 pub mod Numbers
+pub mod NumberedLaws
 pub mod Moved

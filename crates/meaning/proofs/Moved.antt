@@ -4,6 +4,7 @@ use mathlib.Core.Bool.{Bool, true, false, cond, _||_}
 use mathlib.Core.Option.{Option, none, some}
 use mathlib.Core.List.{List, [], _∷_, map}
 use Prim.Native.Nat.{ℕ, _+_, _≤_}
+use native.Mathlib.Nat.{zero-add, add-assoc}
 use native.Mathlib.Omega.{arith}
 use lib.Dec.{eqb}
 use lib.ListN.{length}
@@ -110,3 +111,66 @@ mutual
       ap (λ n. judgeContent n (λ d. judge (movedObject o s) d) c) (object-number o s)
       ∙ content-moved s (objectNumber o) (λ d. judge (movedObject o s) d) (λ d. judge o d) (λ d. judge-moved o s h d) c
   value-moved (leaf l) s h c = leaf-moved s l h c
+
+-- moving by nothing, and moving twice
+ranges-none : (l : List Range) → map (movedRange 0) l ≡ l
+ranges-none [] = refl
+ranges-none (x ∷ xs) = ap₂ _∷_ (λ i. record { number = zero-add (x .number) i; low = x .low; high = x .high }) (ranges-none xs)
+
+texts-none : (l : List Text) → map (movedText 0) l ≡ l
+texts-none [] = refl
+texts-none (x ∷ xs) = ap₂ _∷_ (λ i. record { number = zero-add (x .number) i; text = x .text }) (texts-none xs)
+
+ranges-twice : (s r : ℕ) (l : List Range) → map (movedRange s) (map (movedRange r) l) ≡ map (movedRange (s + r)) l
+ranges-twice s r [] = refl
+ranges-twice s r (x ∷ xs) = ap₂ _∷_ (λ i. record { number = sym (add-assoc s r (x .number)) i; low = x .low; high = x .high }) (ranges-twice s r xs)
+
+texts-twice : (s r : ℕ) (l : List Text) → map (movedText s) (map (movedText r) l) ≡ map (movedText (s + r)) l
+texts-twice s r [] = refl
+texts-twice s r (x ∷ xs) = ap₂ _∷_ (λ i. record { number = sym (add-assoc s r (x .number)) i; text = x .text }) (texts-twice s r xs)
+
+leaf-none : (l : Leaf) → movedLeaf 0 l ≡ l
+leaf-none (booleans n f) = simp zero-add
+leaf-none (integers l) = ap integers (ranges-none l)
+leaf-none (strings l) = ap strings (texts-none l)
+leaf-none (datePattern n f) = simp zero-add
+leaf-none (dates l) = ap dates (ranges-none l)
+leaf-none (timePattern n f) = simp zero-add
+
+leaf-twice : (s r : ℕ) (l : Leaf) → movedLeaf s (movedLeaf r l) ≡ movedLeaf (s + r) l
+leaf-twice s r (booleans n f) = simp add-assoc
+leaf-twice s r (integers l) = ap integers (ranges-twice s r l)
+leaf-twice s r (strings l) = ap strings (texts-twice s r l)
+leaf-twice s r (datePattern n f) = simp add-assoc
+leaf-twice s r (dates l) = ap dates (ranges-twice s r l)
+leaf-twice s r (timePattern n f) = simp add-assoc
+
+mutual
+  unfolding movedObject
+
+  pub moved-none : (o : Object) → movedObject o 0 ≡ o
+  moved-none (object n t c xs) = λ i. object (zero-add n i) t c (attributes-none xs i)
+
+  attributes-none : (xs : Attributes) → movedAttributes xs 0 ≡ xs
+  attributes-none Constraints.noMore = refl
+  attributes-none (attribute n e w v more) = λ i. attribute (zero-add n i) e w (value-none v i) (attributes-none more i)
+
+  value-none : (v : Value) → movedValue v 0 ≡ v
+  value-none any = refl
+  value-none (nested o) = ap nested (moved-none o)
+  value-none (leaf l) = ap leaf (leaf-none l)
+
+mutual
+  unfolding movedObject
+
+  pub moved-twice : (o : Object) (s r : ℕ) → movedObject (movedObject o r) s ≡ movedObject o (s + r)
+  moved-twice (object n t c xs) s r = λ i. object (sym (add-assoc s r n) i) t c (attributes-twice xs s r i)
+
+  attributes-twice : (xs : Attributes) (s r : ℕ) → movedAttributes (movedAttributes xs r) s ≡ movedAttributes xs (s + r)
+  attributes-twice Constraints.noMore s r = refl
+  attributes-twice (attribute n e w v more) s r = λ i. attribute (sym (add-assoc s r n) i) e w (value-twice v s r i) (attributes-twice more s r i)
+
+  value-twice : (v : Value) (s r : ℕ) → movedValue (movedValue v r) s ≡ movedValue v (s + r)
+  value-twice any s r = refl
+  value-twice (nested o) s r = ap nested (moved-twice o s r)
+  value-twice (leaf l) s r = ap leaf (leaf-twice s r l)

@@ -1,2 +1,8 @@
 -- The laws and examples of the definitions.
 pub mod Checked
+pub mod OrderLaws
+pub mod RecordLaws
+pub mod UseLaws
+pub mod CheckLaws
+pub mod TreeLaws
+pub mod FieldLaws

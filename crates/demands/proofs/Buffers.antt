@@ -1,0 +1,83 @@
+-- Demands 1 and 2, as far as the definitions go. Assumes nothing.
+use mathlib.Core.Path.{_≡_, refl, sym, _∙_}
+use mathlib.Core.Bool.{Bool, true, false, cond}
+use mathlib.Core.Option.{Option, none, some}
+use mathlib.Core.List.{List, _++_}
+use Prim.Native.Nat.{ℕ, _+_, _≤_}
+use lib.Dec.{ltb}
+use lib.ListN.{length, take, drop}
+use lib.Seq.{take-append-seam, drop-append-seam}
+use native.Mathlib.Omega.{arith}
+use borrow.Author.Tests.{le-ltb}
+use Rattle.refusals.specs.Reading
+use Rattle.refusals.specs.Reading.{Reading, got}
+use Rattle.refusals.specs.Limits.{recordLimit, poolLimit}
+use Rattle.refusals.specs.declared.Refusal.{Refusal}
+use Rattle.meaning.specs.Constraints.{Object}
+use Rattle.constraint.specs.Texts.{constraintOf}
+use Rattle.table.specs.Records.{Image, count, imageOf, bytesOf}
+use Rattle.table.specs.Check.{tableFault}
+use Rattle.merge.specs.Merge.{merged}
+use Rattle.merge.specs.Answer.{MergeAnswer, Merging, mergeAnswer, join, orFault}
+use Rattle.merge.specs.Answer
+use Rattle.compile.specs.Answer.{CompileAnswer, Compiling, compileAnswer, tableOf, write}
+use Rattle.compile.specs.Answer as Compile
+use Rattle.demands.specs.Demands.{Demand1, Demand2}
+
+compile-kept : (text : List ℕ) (little : Bool) (out : List ℕ) (r : Refusal) → compileAnswer text little out .answer ≡ Compile.refused r → compileAnswer text little out .out ≡ out
+unfolding compileAnswer
+compile-kept text little out r = by-reading (constraintOf text)
+  where
+    by-room : (b : Bool) (x : Refusal) (bs : List ℕ) (n : ℕ)
+      → cond b (Compile.compiling (Compile.refused x) out) (Compile.compiling (Compile.done n) bs) .answer ≡ Compile.refused r
+      → cond b (Compile.compiling (Compile.refused x) out) (Compile.compiling (Compile.done n) bs) .out ≡ out
+    by-room true x bs n e = refl
+    by-room false x bs n e = let z : _≡_ {A = ℕ} 0 1 = cc in absurd (omega arith)
+
+    by-reading : (x : Reading Object) → write little out (length text) x .answer ≡ Compile.refused r → write little out (length text) x .out ≡ out
+    by-reading (Reading.refused y) e = refl
+    by-reading (got o p) e = by-room (ltb (length out) (length (tableOf little o))) _ _ _ e
+
+-- a merge's result keeps the buffer where it is refused
+Kept : List ℕ → Merging → Type 0
+Kept out m = (table : ℕ) (r : Refusal) → m .answer ≡ Answer.refused table r → m .out ≡ out
+
+kept-fault : (out : List ℕ) (n : ℕ) (f : Option Refusal) (go : Merging) → Kept out go → Kept out (orFault n f out go)
+unfolding Kept
+kept-fault out n none go k = k
+kept-fault out n (some x) go k = λ table r e. refl
+
+kept-unless : (out : List ℕ) (b : Bool) (x : Refusal) (go : Merging) → Kept out go → Kept out (Answer.unless b x out go)
+unfolding Kept
+kept-unless out true x go k = λ table r e. refl
+kept-unless out false x go k = k
+
+kept-done : (out bs : List ℕ) (a : MergeAnswer) → ((table : ℕ) (r : Refusal) → a ≡ Answer.refused table r → ⊥) → Kept out (Answer.merging a bs)
+unfolding Kept
+kept-done out bs a n table r e = absurd (n table r e)
+
+merge-kept : (first second : List ℕ) (little : Bool) (out : List ℕ) → Kept out (mergeAnswer first second little out)
+unfolding mergeAnswer
+merge-kept first second little out =
+    let x = imageOf first in
+    let y = imageOf second in
+    let bs = bytesOf little (merged x y) in
+    kept-fault out 1 (tableFault first) _
+    (kept-fault out 2 (tableFault second) _
+    (kept-unless out (ltb recordLimit (length (x .records) + count y)) _ _
+    (kept-unless out (ltb poolLimit (length (x .pool) + length (y .pool))) _ _
+    (kept-unless out (ltb (length out) (length bs)) _ _
+    (kept-done out _ _ (λ table r e. let z : _≡_ {A = ℕ} 0 1 = cc in omega arith))))))
+
+pub demand1 : Demand1
+unfolding Kept
+demand1 = record { compiling = compile-kept; merging = merge-kept }
+
+pub demand2 : Demand2
+unfolding compileAnswer
+demand2 = record {
+    accepted = λ text tree end little out e h.
+        let b : ltb (length out) (length (tableOf little tree)) ≡ false = le-ltb (length out) (length (tableOf little tree)) h in
+        rw (e, b) (refl, take-append-seam (tableOf little tree) (drop (length (tableOf little tree)) out), drop-append-seam (tableOf little tree) (drop (length (tableOf little tree)) out));
+    refused = λ text r little out e. rw e;
+  }

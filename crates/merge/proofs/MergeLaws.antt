@@ -1,0 +1,183 @@
+-- A merge's cells are the first table's and then the second's; its trees the first's as they were and the second's with their numbers moved. Assumes nothing.
+use mathlib.Core.Path.{_≡_, refl, ap, ap₂, _∙_}
+use mathlib.Core.Bool.{Bool, true, false, cond, _&&_, false≢true}
+use mathlib.Core.List.{List, [], _∷_, _++_, map}
+use Prim.Native.Nat.{ℕ, zero, suc, _+_, _-_, _≤_, _<_}
+use native.Mathlib.Nat.{add-suc, add-comm}
+use native.Mathlib.Omega.{arith}
+use lib.Dec.{eqb, leb, eqb·suc-zero}
+use lib.ListN.{getD, take, drop, length-drop, length-append, length-map}
+use lib.ListN
+use lib.Seq.{take-append-le, drop-append-le, drop-append-add}
+use borrow.Author.Tests.{leb-true}
+use Rattle.lexis.specs.Bytes.{within}
+use Rattle.lexis.proofs.Cases.{and-left, and-right}
+use Rattle.table.specs.Records.{Record, Image, count}
+use Rattle.table.specs.Rows.{Use, unnamed, place, length, link, integers, dates, high, Row, rows, rowOf}
+use Rattle.table.specs.Check.{fieldRight, fieldsRight}
+use Rattle.table.specs.Trees.{name, step, partOf, partsOf, cells, cellsOf, reach, trees, treesOf, treeAt}
+use Rattle.table.proofs.Checked.{RecordsGood, Checked}
+use Rattle.table.proofs.TreeLaws.{movedTree, trees-moved, trees-append, length-cells, length-trees-of, cells-append, reach-moved, reach-append, reach-past}
+use Rattle.table.proofs.FieldLaws.{fields-obey, closed}
+use Rattle.merge.specs.Merge.{Shifts, movedField, movedFields, moved, shiftsBy, merged}
+
+-- the sizes of a merge
+pub count-merged : (x y : Image) → count (merged x y) ≡ ListN.length (x .records) + count y
+unfolding merged
+count-merged x y = rw (length-append, length-map) (omega arith)
+
+pub pool-merged : (x y : Image) → ListN.length (merged x y .pool) ≡ ListN.length (x .pool) + ListN.length (y .pool)
+unfolding merged
+pool-merged x y = length-append (x .pool) (y .pool)
+
+-- uses whose meaning and rule read the next field too
+abbrev pub reads : Use → Bool
+reads unnamed = false
+reads (place least most) = true
+reads length = false
+reads (link ks) = false
+reads integers = true
+reads dates = true
+reads high = false
+
+-- no merge moves the first of the fields
+abbrev pub fixed : List Use → Bool
+fixed [] = true
+fixed (unnamed ∷ us) = true
+fixed (place least most ∷ us) = false
+fixed (length ∷ us) = true
+fixed (link ks ∷ us) = false
+fixed (integers ∷ us) = true
+fixed (dates ∷ us) = true
+fixed (high ∷ us) = true
+
+-- no field that another reads is moved
+abbrev pub steady : List Use → Bool
+steady [] = true
+steady (u ∷ us) = cond (reads u) (fixed us) true && steady us
+
+abbrev pub allSteady : List Row → Bool
+allSteady [] = true
+allSteady (r ∷ rs) = steady (r .uses) && allSteady rs
+
+steady-at : (rs : List Row) (d : Row) (k : ℕ) → allSteady rs ≡ true → steady (d .uses) ≡ true → steady (getD rs k d .uses) ≡ true
+steady-at [] d k h g = g
+steady-at (r ∷ rs) d zero h g = and-left (steady (r .uses)) (allSteady rs) h
+steady-at (r ∷ rs) d (suc k) h g = steady-at rs d k (and-right (steady (r .uses)) (allSteady rs) h) g
+
+-- so it is in every kind
+pub steady-row : (kind : ℕ) → steady (rowOf kind .uses) ≡ true
+unfolding rowOf
+steady-row kind = steady-at rows _ kind refl refl
+
+-- a field that no merge moves is what it was
+next-fixed : (s : Shifts) (us : List Use) (xs : List ℕ) → fixed us ≡ true → getD (movedFields s us xs) 0 0 ≡ getD xs 0 0
+next-fixed s [] xs h = refl
+next-fixed s (u ∷ us) [] h = refl
+next-fixed s (unnamed ∷ us) (x ∷ xs) h = refl
+next-fixed s (place least most ∷ us) (x ∷ xs) h = absurd (false≢true h)
+next-fixed s (length ∷ us) (x ∷ xs) h = refl
+next-fixed s (link ks ∷ us) (x ∷ xs) h = absurd (false≢true h)
+next-fixed s (integers ∷ us) (x ∷ xs) h = refl
+next-fixed s (dates ∷ us) (x ∷ xs) h = refl
+next-fixed s (high ∷ us) (x ∷ xs) h = refl
+
+-- what a field reads of the next is what it was
+abbrev pub Same : Use → ℕ → ℕ → Type 0
+Same u a b = reads u ≡ true → a ≡ b
+
+pub next-same : (s : Shifts) (u : Use) (us : List Use) (xs : List ℕ) → steady (u ∷ us) ≡ true → Same u (getD (movedFields s us xs) 0 0) (getD xs 0 0)
+next-same s u us xs h e = next-fixed s us xs (rw e at (and-left (cond (reads u) (fixed us) true) (steady us) h))
+
+-- a name moved into the joined pool is the same name
+name-moved : (P Q : List ℕ) (x next : ℕ) → take next (drop (cond (eqb next 0) x (ListN.length P + x)) (P ++ Q)) ≡ take next (drop x Q)
+name-moved P Q x zero = refl
+name-moved P Q x (suc n) = rw (eqb·suc-zero, drop-append-add)
+
+-- a name within the first pool is the same in the joined one
+name-kept : (P Q : List ℕ) (x next : ℕ) → cond (eqb next 0) (eqb x 0) (leb (x + next) (ListN.length P)) ≡ true → take next (drop x (P ++ Q)) ≡ take next (drop x P)
+name-kept P Q x zero h = refl
+name-kept P Q x (suc n) h =
+    let l = leb-true (x + suc n) (ListN.length P) (rw eqb·suc-zero at h) in
+    ap (take (suc n)) (drop-append-le x P Q (omega arith)) ∙ take-append-le (suc n) (drop x P) Q (simp length-drop (omega arith))
+
+-- a link moved with its record is the same step
+step-moved : (s i x : ℕ) → cond (eqb x 0) 0 (s + x) - (s + i) ≡ x - i
+step-moved s i zero = omega arith
+step-moved s i (suc x) = rw eqb·suc-zero (omega arith)
+
+-- the second table's fields, moved, mean what they meant; the first's do as they are
+module _ (x : Image) (Q : List ℕ) where
+  part-moved : (i : ℕ) (u : Use) (f next was : ℕ) → Same u next was
+      → partOf (x .pool ++ Q) (ListN.length (x .records) + i) u (movedField (shiftsBy x) u f was) next ≡ partOf Q i u f was
+  part-moved i unnamed f next was h = refl
+  part-moved i (place least most) f next was h = rw (h refl) (ap name (name-moved (x .pool) Q f was))
+  part-moved i length f next was h = refl
+  part-moved i (link ks) f next was h = ap step (step-moved (ListN.length (x .records)) i f)
+  part-moved i integers f next was h = refl
+  part-moved i dates f next was h = refl
+  part-moved i high f next was h = refl
+
+  parts-moved : (i : ℕ) (us : List Use) (fs : List ℕ) → steady us ≡ true
+      → partsOf (x .pool ++ Q) (ListN.length (x .records) + i) us (movedFields (shiftsBy x) us fs) ≡ partsOf Q i us fs
+  parts-moved i [] fs h = refl
+  parts-moved i (u ∷ us) [] h = refl
+  parts-moved i (u ∷ us) (f ∷ fs) h =
+      ap₂ _∷_ (part-moved i u f _ (getD fs 0 0) (next-same (shiftsBy x) u us fs h)) (parts-moved i us fs (and-right (cond (reads u) (fixed us) true) (steady us) h))
+
+  cells-moved : (i : ℕ) (rs : List Record) → cells (x .pool ++ Q) (ListN.length (x .records) + i) (map (moved (shiftsBy x)) rs) ≡ cells Q i rs
+  cells-moved i [] = refl
+  cells-moved i (r ∷ rs) =
+      ap₂ _∷_ (λ j. record { kind = r .kind; flag = r .flag; parts = parts-moved i (rowOf (r .kind) .uses) (r .fields) (steady-row (r .kind)) j })
+      (rw (← add-suc) (cells-moved (suc i) rs))
+
+  part-kept : (n : ℕ) (u : Use) (f next : ℕ) → fieldRight x n u f next ≡ true → partOf (x .pool ++ Q) n u f next ≡ partOf (x .pool) n u f next
+  unfolding fieldRight
+  part-kept n unnamed f next h = refl
+  part-kept n (place least most) f next h = ap name (name-kept (x .pool) Q f next (and-right (within least most next) _ h))
+  part-kept n length f next h = refl
+  part-kept n (link ks) f next h = refl
+  part-kept n integers f next h = refl
+  part-kept n dates f next h = refl
+  part-kept n high f next h = refl
+
+  parts-kept : (n : ℕ) (us : List Use) (fs : List ℕ) → fieldsRight x n us fs ≡ true → partsOf (x .pool ++ Q) n us fs ≡ partsOf (x .pool) n us fs
+  parts-kept n [] fs h = refl
+  parts-kept n (u ∷ us) [] h = refl
+  parts-kept n (u ∷ us) (f ∷ fs) h =
+      ap₂ _∷_ (part-kept n u f (getD fs 0 0) (and-left _ (fieldsRight x n us fs) h)) (parts-kept n us fs (and-right (fieldRight x n u f (getD fs 0 0)) _ h))
+
+  cells-kept : (n : ℕ) (rs : List Record) → RecordsGood x n rs → cells (x .pool ++ Q) n rs ≡ cells (x .pool) n rs
+  cells-kept n [] h = refl
+  cells-kept n (r ∷ rs) h =
+      ap₂ _∷_ (λ j. record { kind = r .kind; flag = r .flag; parts = parts-kept n (rowOf (r .kind) .uses) (r .fields) (fields-obey x n r (h .0 .obeyed)) j })
+      (cells-kept (suc n) rs (h .1))
+
+-- the cells of a merge
+pub cells-merged : (x y : Image) → Checked x → cellsOf (merged x y) ≡ cellsOf x ++ cellsOf y
+unfolding cellsOf merged
+cells-merged x y h =
+    cells-append _ 1 (x .records) _
+    ∙ ap₂ _++_ (cells-kept x (y .pool) 1 (x .records) (h .records)) (rw (add-comm 1) (cells-moved x (y .pool) 1 (y .records)))
+
+-- the trees of a merge
+pub trees-merged : (x y : Image) → Checked x → treesOf (merged x y) ≡ treesOf x ++ map (movedTree (ListN.length (x .records))) (treesOf y)
+unfolding treesOf cellsOf
+trees-merged x y h =
+    ap (trees 1) (cells-merged x y h)
+    ∙ trees-append 1 (cellsOf x) (cellsOf y) (closed x h)
+    ∙ ap (treesOf x ++_) (rw (length-cells, add-comm 1) (trees-moved (ListN.length (x .records)) 1 (cellsOf y)))
+
+-- a record of the first table stands for what it stood for
+pub tree-kept : (x y : Image) → Checked x → (n : ℕ) → n < count x → treeAt (merged x y) n ≡ treeAt x n
+unfolding treeAt
+tree-kept x y h n l = ap (λ ts. reach ts n) (trees-merged x y h) ∙ reach-append n (treesOf x) _ (rw length-trees-of (omega arith))
+
+-- a record of the second table stands, at its moved number, for the same with its numbers moved
+pub tree-moved : (x y : Image) → Checked x → (n : ℕ) → 1 ≤ n → treeAt (merged x y) (ListN.length (x .records) + n) ≡ movedTree (ListN.length (x .records)) (treeAt y n)
+unfolding treeAt
+tree-moved x y h zero l = absurd (omega arith)
+tree-moved x y h (suc n) l =
+    ap (λ ts. reach ts (ListN.length (x .records) + suc n)) (trees-merged x y h)
+    ∙ rw (← length-trees-of x) (reach-past n (treesOf x) _)
+    ∙ reach-moved _ (suc n) (treesOf y)

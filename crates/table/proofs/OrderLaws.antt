@@ -1,0 +1,38 @@
+-- Byte order: what is put is got back in the order it was put in, whichever of the two that is. Assumes nothing.
+use mathlib.Core.Path.{_≡_, refl, sym, ap, _∙_}
+use mathlib.Core.Bool.{Bool, true, false}
+use mathlib.Core.List.{reverse-reverse}
+use Prim.Native.Nat.{ℕ, zero, suc, _/_, _^_, _<_}
+use native.Mathlib.Nat.{mod-add-div, div-lt-iff-lt-mul, pow-suc}
+use native.Mathlib.Omega.{arith}
+use lib.ListN.{length, length-reverse}
+use Rattle.table.specs.Order.{lowestFirst, valueOf, put, get}
+
+-- a number that fits so many bytes is the value of its bytes
+pub value-lowest : (width n : ℕ) → n < 256 ^ width → valueOf (lowestFirst width n) ≡ n
+value-lowest zero n h = omega arith
+value-lowest (suc width) n h =
+    rw (value-lowest width (n / 256) (div-lt-iff-lt-mul (omega arith) .1 (rw pow-suc at h))) (mod-add-div n 256)
+
+-- what is got back in the order it was put in is the value of the lowest bytes first: the order is in the parameter alone
+pub get-put-value : (little : Bool) (width n : ℕ) → get little (put little width n) ≡ valueOf (lowestFirst width n)
+get-put-value true width n = refl
+get-put-value false width n = ap valueOf (reverse-reverse (lowestFirst width n))
+
+-- so it is the same for either order
+pub order-free : (a b : Bool) (width n : ℕ) → get a (put a width n) ≡ get b (put b width n)
+order-free a b width n = get-put-value a width n ∙ sym (get-put-value b width n)
+
+-- a number that fits is got back
+pub get-put : (little : Bool) (width n : ℕ) → n < 256 ^ width → get little (put little width n) ≡ n
+get-put little width n h = get-put-value little width n ∙ value-lowest width n h
+
+-- there are as many bytes as asked, the lowest first
+pub length-lowest : (width n : ℕ) → length (lowestFirst width n) ≡ width
+length-lowest zero n = refl
+length-lowest (suc width) n = ap suc (length-lowest width (n / 256))
+
+-- and in either order
+pub length-put : (little : Bool) (width n : ℕ) → length (put little width n) ≡ width
+length-put true width n = length-lowest width n
+length-put false width n = length-reverse (lowestFirst width n) ∙ length-lowest width n
