@@ -1,34 +1,30 @@
 -- The table of a tree passes the check. Assumes nothing.
-use mathlib.Core.Path.{_≡_, refl, ap, _∙_}
+use mathlib.Core.Path.{_≡_, refl}
 use mathlib.Core.Bool.{true}
 use mathlib.Core.List.{List, [], _∷_, _++_}
 use Prim.Native.Nat.{ℕ, zero, suc, _+_, _≤_, _<_}
 use native.Mathlib.Omega.{arith}
 use native.Mathlib.Numerals.{add-one}
-use lib.Dec.{eqb, leb, ltb}
-use lib.ListN.{getD, drop}
-use lib.ListN
+use lib.ListN.{length, getD, drop}
 use borrow.Author.Tests.{lt-ltb, le-leb, ne-eqb}
 use Rattle.lexis.specs.Bytes.{within, among}
-use Rattle.refusals.specs.Limits.{recordLimit, poolLimit}
-use Rattle.values.specs.Integers.{twosComplement, greatest}
-use Rattle.values.specs.Calendar.{real}
+use Rattle.refusals.specs.Limits.{recordLimit, poolLimit, nameLimit, codeLimit, stringLimit}
+use Rattle.values.specs.Integers.{twosComplement}
 use Rattle.values.proofs.IntegerLaws.{complement-back, complement-fits}
-use Rattle.meaning.specs.Constraints.{Range, Text, Leaf, booleans, strings, datePattern, timePattern, Object, object, Attributes, noMore, attribute, Value, any, nested, leaf}
-use Rattle.meaning.specs.Constraints
+use Rattle.meaning.specs.Constraints.{Range, Text, Leaf, booleans, integers, strings, datePattern, dates, timePattern, Object, object, Attributes, noMore, attribute, Value, any, nested, leaf}
 use Rattle.meaning.specs.Counting.{objectRecords, valueRecords, textPool, leafPool, objectPool, attributePool, valuePool}
 use Rattle.meaning.specs.Admission.{leafNumber, firstRange, firstText}
 use Rattle.meaning.specs.Proper.{ProperIntegers, ProperDates, ProperString, Flag, ProperLeaf, Each, ProperObject, ProperAttributes, ProperValue}
 use Rattle.meaning.proofs.NumberedLaws.{NumberedRanges, NumberedTexts, NumberedLeaf, NumberedObject, NumberedAttributes, NumberedValue}
 use Rattle.table.specs.Records.{Record, Image, count, headerOf}
 use Rattle.table.specs.Rows.{place, link, row, nothing, rowOf, items}
-use Rattle.table.specs.Check.{kinds, kindAt, fieldRight, obeys, clean}
+use Rattle.table.specs.Check.{kinds, fieldRight, obeys, clean}
 use Rattle.table.proofs.Checked.{RecordGood, RecordsGood, Checked}
 use Rattle.compile.specs.Flatten.{placeFor, make, attributesLink, valueLink, stringRecords, leafRecords, objectTable, attributesTable, valueTable, imageOfTree}
 use Rattle.compile.proofs.Placed.{At, at-left, at-end, Placed, past-record, past-name, placed-left, placed-right}
 use Rattle.compile.proofs.FlattenLaws.{rangeRecords, integers-ranges, dates-ranges, object-length, value-length, placed-tree}
 
--- the kind of the record that stands at a number, which is below the count
+-- the kind of the record that stands at a place
 kind-there : (n : ℕ) (l rest : List Record) (r : Record) → drop n l ≡ r ∷ rest → getD (kinds l) n 0 ≡ r .kind
 kind-there zero [] rest r e = let z : _≡_ {A = ℕ} 0 1 = cc in absurd (omega arith)
 kind-there (suc n) [] rest r e = let z : _≡_ {A = ℕ} 0 1 = cc in absurd (omega arith)
@@ -45,32 +41,31 @@ link-right : {m : Image} {n p : ℕ} {bs : List ℕ} (k l next : ℕ) (ks : List
 unfolding fieldRight
 link-right k l next ks [] h e s = rw e
 link-right {m} {n} k l next ks (r ∷ rs) h e s =
-    let there = s .records .there in
     let b = at-end (s .records) in
     rw (
       e .0,
       ne-eqb n 0 (omega arith),
       lt-ltb k n h,
       lt-ltb n (count m) (omega arith),
-      kind-there n (headerOf m ∷ m .records) (rs ++ s .records .rest) r there,
+      kind-there n (headerOf m ∷ m .records) (rs ++ s .records .rest) r (s .records .there),
     ) (e .1)
 
 -- a name in the pool, at its place
-place-right : {p : ℕ} (m : Image) (n least most : ℕ) (w : List ℕ) → least ≤ ListN.length w → ListN.length w ≤ most → At (m .pool) p w → fieldRight m n (place least most) (placeFor w p) (ListN.length w) ≡ true
+place-right : {p : ℕ} (m : Image) (n least most : ℕ) (w : List ℕ) → least ≤ length w → length w ≤ most → At (m .pool) p w → fieldRight m n (place least most) (placeFor w p) (length w) ≡ true
 unfolding fieldRight
 place-right m n least most [] h g s = rw (le-leb least 0 h, le-leb 0 most g)
 place-right {p} m n least most (b ∷ bs) h g s =
-    let l = suc (ListN.length bs) in
-    rw (le-leb least l h, le-leb l most g, ne-eqb l 0 (omega arith)) (le-leb (p + l) (ListN.length (m .pool)) (at-end s))
+    let l = suc (length bs) in
+    rw (le-leb least l h, le-leb l most g, ne-eqb l 0 (omega arith)) (le-leb (p + l) (length (m .pool)) (at-end s))
 
 -- good records one after the other
 goods-cons : {m : Image} {n : ℕ} {r : Record} (rs : List Record) → RecordGood m n r → RecordsGood m (n + 1) rs → RecordsGood m n (r ∷ rs)
 goods-cons {n = n} rs h g = (h, rw add-one at g)
 
-goods-append : (m : Image) (n : ℕ) (rs qs : List Record) → RecordsGood m n rs → RecordsGood m (n + ListN.length rs) qs → RecordsGood m n (rs ++ qs)
+goods-append : (m : Image) (n : ℕ) (rs qs : List Record) → RecordsGood m n rs → RecordsGood m (n + length rs) qs → RecordsGood m n (rs ++ qs)
 goods-append m n [] qs h g = let e : n + 0 ≡ n = omega arith in rw e at g
 goods-append m n (r ∷ rs) qs h g =
-    let e : n + suc (ListN.length rs) ≡ suc n + ListN.length rs = omega arith in
+    let e : n + suc (length rs) ≡ suc n + length rs = omega arith in
     (h .0, goods-append m (suc n) rs qs (h .1) (rw e at g))
 
 -- the record of Booleans or of a pattern, which has a flag and nothing else
@@ -78,7 +73,7 @@ flag-good : {m : Image} {n : ℕ} (kind most f : ℕ) → rowOf kind ≡ row 1 m
 unfolding obeys clean fieldRight
 flag-good kind most f e k h = record { five = refl; obeyed = rw (e, k, le-leb 1 f (h .0), le-leb f most (h .1)); cleaned = rw e }
 
--- the links to items
+-- the links lead to items
 ranges-lead : (ks : List ℕ) (kind : ℕ) (write : ℕ → ℕ) (l : List Range) (n : ℕ) → among kind ks ≡ true → NumberedRanges l n → Leads ks (firstRange l) n (rangeRecords kind write l)
 ranges-lead ks kind write [] n h i = refl
 ranges-lead ks kind write (x ∷ xs) n h i = (i .0, h)
@@ -89,13 +84,13 @@ texts-lead ks (x ∷ xs) n p h i = (i .0, h)
 
 leaf-lead : (l : Leaf) (n p : ℕ) → NumberedLeaf l n → Leads (1 ∷ items) (leafNumber l) n (leafRecords p l)
 leaf-lead (booleans a f) n p i = (i, refl)
-leaf-lead (Constraints.integers l) n p i = rw integers-ranges (ranges-lead (1 ∷ items) 4 twosComplement l n refl i)
+leaf-lead (integers l) n p i = rw integers-ranges (ranges-lead (1 ∷ items) 4 twosComplement l n refl i)
 leaf-lead (strings l) n p i = texts-lead (1 ∷ items) l n p refl i
 leaf-lead (datePattern a f) n p i = (i, refl)
-leaf-lead (Constraints.dates l) n p i = rw dates-ranges (ranges-lead (1 ∷ items) 7 (λ x. x) l n refl i)
+leaf-lead (dates l) n p i = rw dates-ranges (ranges-lead (1 ∷ items) 7 (λ x. x) l n refl i)
 leaf-lead (timePattern a f) n p i = (i, refl)
 
--- the links to attributes and to values
+-- the links lead to attributes and to values
 attributes-lead : (xs : Attributes) (n p : ℕ) → NumberedAttributes xs n → Leads (2 ∷ []) (attributesLink xs) n (attributesTable xs p)
 unfolding attributesTable NumberedAttributes
 attributes-lead noMore n p i = refl
@@ -120,6 +115,7 @@ module _ (m : Image) (kind : ℕ) (write : ℕ → ℕ) (Proper : Range → Type
       (good n (firstRange xs) x (g .0) (link-right n (firstRange xs) 0 (kind ∷ []) more (omega arith) (ranges-lead (kind ∷ []) kind write xs (n + 1) same (i .1)) t))
       (ranges-good xs (n + 1) p bs (i .1) (g .1) t)
 
+-- items and leaves that stand at their places are good
 module _ (m : Image) where
   integer-good : (n e : ℕ) (x : Range) → ProperIntegers x → fieldRight m n (link (4 ∷ [])) e 0 ≡ true → RecordGood m n (make 4 0 (twosComplement (x .low)) (twosComplement (x .high)) 0 0 e)
   unfolding obeys clean rowOf fieldRight
@@ -141,20 +137,20 @@ module _ (m : Image) where
   unfolding obeys clean rowOf fieldRight
   strings-good [] n p i g s = tt
   strings-good (x ∷ xs) n p i g s =
-      let q = p + ListN.length (x .text) in
+      let q = p + length (x .text) in
       let more = stringRecords q xs in
       let t = past-name (x .text) (past-record s) in
-      let h = place-right m n 0 255 (x .text) (omega arith) (g .0) (at-left (textPool xs) (s .pool)) in
+      let h = place-right m n 0 stringLimit (x .text) (omega arith) (g .0) (at-left (textPool xs) (s .pool)) in
       let k = link-right n (firstText xs) 0 (5 ∷ []) more (omega arith) (texts-lead (5 ∷ []) xs (n + 1) q refl (i .1)) t in
       goods-cons more (record { five = refl; obeyed = rw (h, k); cleaned = refl }) (strings-good xs (n + 1) q (i .1) (g .1) t)
 
   leaf-good : (l : Leaf) (n p : ℕ) → NumberedLeaf l n → ProperLeaf l → Placed m n (leafRecords p l) p (leafPool l) → RecordsGood m n (leafRecords p l)
   unfolding rowOf
   leaf-good (booleans a f) n p i g s = (flag-good 3 3 f refl refl g, tt)
-  leaf-good (Constraints.integers l) n p i g s = rw integers-ranges (ranges-good m 4 twosComplement ProperIntegers integer-good refl l n p [] i (g .1) (rw integers-ranges at s))
+  leaf-good (integers l) n p i g s = rw integers-ranges (ranges-good m 4 twosComplement ProperIntegers integer-good refl l n p [] i (g .1) (rw integers-ranges at s))
   leaf-good (strings l) n p i g s = strings-good l n p i (g .1) s
   leaf-good (datePattern a f) n p i g s = (flag-good 6 5 f refl refl g, tt)
-  leaf-good (Constraints.dates l) n p i g s = rw dates-ranges (ranges-good m 7 (λ x. x) ProperDates date-good refl l n p [] i (g .1) (rw dates-ranges at s))
+  leaf-good (dates l) n p i g s = rw dates-ranges (ranges-good m 7 (λ x. x) ProperDates date-good refl l n p [] i (g .1) (rw dates-ranges at s))
   leaf-good (timePattern a f) n p i g s = (flag-good 8 4 f refl refl g, tt)
 
   mutual
@@ -163,26 +159,26 @@ module _ (m : Image) where
     -- the records of a tree numbered from n, they and its bytes at their places, are good
     object-good : (o : Object) (n p : ℕ) → NumberedObject o n → ProperObject o → Placed m n (objectTable o p) p (objectPool o) → RecordsGood m n (objectTable o p)
     object-good (object a t c xs) n p i g s =
-        let q = p + ListN.length t + ListN.length c in
+        let q = p + length t + length c in
         let more = attributesTable xs q in
         let u = past-name t s in
         let v = past-record (past-name c u) in
-        let h = place-right m n 1 63 t (g .0 .0) (g .0 .1) (at-left (c ++ attributePool xs) (s .pool)) in
-        let k = place-right m n 0 31 c (omega arith) (g .1) (at-left (attributePool xs) (u .pool)) in
+        let h = place-right m n 1 nameLimit t (g .0 .0) (g .0 .1) (at-left (c ++ attributePool xs) (s .pool)) in
+        let k = place-right m n 0 codeLimit c (omega arith) (g .1) (at-left (attributePool xs) (u .pool)) in
         let l = link-right n (attributesLink xs) 0 (2 ∷ []) more (omega arith) (attributes-lead xs (n + 1) q (i .1)) v in
         goods-cons more (record { five = refl; obeyed = rw (h, k, l); cleaned = refl }) (attributes-good xs (n + 1) q (i .1) (g .2) v)
 
     attributes-good : (xs : Attributes) (n p : ℕ) → NumberedAttributes xs n → ProperAttributes xs → Placed m n (attributesTable xs p) p (attributePool xs) → RecordsGood m n (attributesTable xs p)
     attributes-good noMore n p i g s = tt
     attributes-good (attribute a e w v more) n p i g s =
-        let q = p + ListN.length w in
-        let r = q + ListN.length (valuePool v) in
+        let q = p + length w in
+        let r = q + length (valuePool v) in
         let vs = valueTable v q in
         let ms = attributesTable more r in
         let u = past-record (past-name w s) in
-        let x = placed-left ms (attributePool more) u in
+        let x : Placed m (n + 1) vs q (valuePool v) = placed-left ms (attributePool more) u in
         let y = placed-right vs (valuePool v) (valueRecords v) (value-length v q) u in
-        let h = place-right m n 1 63 w (g .1 .0) (g .1 .1) (at-left (valuePool v ++ attributePool more) (s .pool)) in
+        let h = place-right m n 1 nameLimit w (g .1 .0) (g .1 .1) (at-left (valuePool v ++ attributePool more) (s .pool)) in
         let k = link-right n (valueLink v) (attributesLink more) (1 ∷ items) vs (omega arith) (value-lead v (n + 1) q (i .1)) x in
         let l = link-right n (attributesLink more) 0 (2 ∷ []) ms (omega arith) (attributes-lead more (n + 1 + valueRecords v) r (i .2)) y in
         goods-cons (vs ++ ms) (record { five = refl; obeyed = rw (le-leb 0 e (omega arith), le-leb e 2 (g .0), h, k, l); cleaned = refl })
@@ -194,7 +190,7 @@ module _ (m : Image) where
     value-good (leaf l) n p i g s = leaf-good l n p i g s
 
 -- the table of a tree that keeps the limits passes the check
-pub checked-compiled : (o : Object) → NumberedObject o 1 → ProperObject o → 1 + objectRecords o ≤ recordLimit → ListN.length (objectPool o) ≤ poolLimit → Checked (imageOfTree o)
+pub checked-compiled : (o : Object) → NumberedObject o 1 → ProperObject o → 1 + objectRecords o ≤ recordLimit → length (objectPool o) ≤ poolLimit → Checked (imageOfTree o)
 unfolding imageOfTree objectTable objectRecords
 checked-compiled (object a t c xs) i g h l =
     let o = object a t c xs in

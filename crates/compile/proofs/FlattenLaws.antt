@@ -13,7 +13,7 @@ use Rattle.meaning.specs.Counting.{objectRecords, attributeRecords, valueRecord
 use Rattle.meaning.specs.Counting
 use Rattle.meaning.specs.Admission.{leafNumber, firstRange, firstText}
 use Rattle.meaning.specs.Judging.{objectNumber}
-use Rattle.meaning.specs.Proper.{ProperIntegers, ProperDates, Each, Some, ProperLeaf, ProperObject, ProperAttributes, ProperValue}
+use Rattle.meaning.specs.Proper.{ProperIntegers, ProperDates, Each, ProperLeaf, ProperObject, ProperAttributes, ProperValue}
 use Rattle.meaning.proofs.NumberedLaws.{NumberedRanges, NumberedTexts, NumberedLeaf, NumberedObject, NumberedAttributes, NumberedValue}
 use Rattle.table.specs.Records.{Record, Image, headerOf}
 use Rattle.table.specs.Rows.{rowOf}
@@ -81,7 +81,7 @@ tree-there pool i (suc n) (x ∷ xs) rest r e =
     let f : i + suc n ≡ suc i + n = omega arith in
     rw f (tree-there pool (suc i) n xs rest r e)
 
--- what a link l of the record k leads to
+-- the trees of the records above k, and the one that a link l of the record k leads to
 abbrev above : Image → ℕ → List Tree
 above m k = drop (suc k) (nothing ∷ treesOf m)
 
@@ -135,6 +135,7 @@ module _ (m : Image) (kind : ℕ) (write : ℕ → ℕ) (list : List Range → L
       ∙ read n (write (x .low)) (write (x .high)) (firstRange xs) (above m n)
       ∙ λ j. ofLeaf (list (record { number = sym (i .0) j; low = b .0 j; high = b .1 j } ∷ (ap (itemsIn items) more ∙ list-items list items same xs) j))
 
+-- strings and leaves that stand at their places are read back
 module _ (m : Image) where
   strings-read : (l : List Text) (n k p : ℕ) → k < n → NumberedTexts l n → Placed m n (stringRecords p l) p (textPool l) → linked m k (firstText l) ≡ listTree strings l
   unfolding rowOf
@@ -193,7 +194,7 @@ placed-tree o = record {
   pool = record { rest = []; there = sym (append-nil (objectPool o)) };
 }
 
--- a tree's table says that tree
+-- a tree's table says that tree, at its root
 pub tree-compiled : (o : Object) → NumberedObject o 1 → ProperObject o → treeAt (imageOfTree o) 1 ≡ ofObject o
 unfolding treeAt NumberedObject
 tree-compiled (object a t c xs) i g =

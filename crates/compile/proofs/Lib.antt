@@ -2,3 +2,4 @@
 pub mod Placed
 pub mod FlattenLaws
 pub mod CheckedCompiled
+pub mod Computes

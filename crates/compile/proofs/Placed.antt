@@ -1,11 +1,11 @@
 -- Records and pool bytes of a tree at their places in a table. Assumes nothing.
-use mathlib.Core.Path.{_≡_, refl, sym, ap, _∙_}
+use mathlib.Core.Path.{_≡_, sym, ap, _∙_}
 use mathlib.Core.List.{List, [], _∷_, _++_, append-assoc}
-use Prim.Native.Nat.{ℕ, zero, suc, _+_, _≤_, _<_}
+use Prim.Native.Nat.{ℕ, _+_, _≤_}
 use native.Mathlib.Omega.{arith}
 use lib.ListN.{length, length-append, length-drop, take, drop}
 use lib.Seq.{drop-append-seam, take-append-seam, drop-drop}
-use Rattle.table.specs.Records.{Record, Image, count, headerOf}
+use Rattle.table.specs.Records.{Record, Image, headerOf}
 
 -- xs stands in the list l at place p
 pub record At {A : Type 0} (l : List A) (p : ℕ) (xs : List A) : Type 0 where
@@ -16,7 +16,7 @@ module _ {A : Type 0} {l : List A} {p : ℕ} {xs : List A} where
   pub at-left : (ys : List A) → At l p (xs ++ ys) → At l p xs
   at-left ys h = record { rest = ys ++ h .rest; there = h .there ∙ append-assoc xs ys (h .rest) }
 
-  -- what stands there stands whole
+  -- what stands there is read whole
   pub at-take : At l p xs → take (length xs) (drop p l) ≡ xs
   at-take h = rw (h .there) (take-append-seam xs (h .rest))
 
@@ -26,7 +26,7 @@ at-right {A} {l} {p} xs {ys} h = record {
   there = sym (drop-drop (length xs) p l) ∙ ap (drop (length xs)) (h .there ∙ append-assoc xs ys (h .rest)) ∙ drop-append-seam xs _;
 }
 
--- and ends within the list
+-- what stands in a list ends within it
 pub at-end : {A : Type 0} {l : List A} {p : ℕ} {x : A} {xs : List A} → At l p (x ∷ xs) → p + length (x ∷ xs) ≤ length l
 at-end {A} {l} {p} {x} {xs} h = omega (arith, simp (length-append, length-drop) at (ap length (h .there)))
 

@@ -10,7 +10,8 @@ use lib.ListN.{length}
 use borrow.Author.Tests.{eqb-true, ltb-true}
 use Rattle.lexis.specs.Runs.{listed}
 use Rattle.lexis.specs.Spelling.{less, greater}
-use Rattle.lexis.specs.Tokens.{textEnd, typeName, name, string, spelling, inner}
+use Rattle.lexis.specs.Tokens.{textEnd, typeName, name, spelling, inner}
+use Rattle.lexis.specs.Tokens
 use Rattle.lexis.specs.DataTokens.{dataTokenAt, typeTokenAt, equals, openRound, closeRound, wordRun}
 use Rattle.lexis.specs.declared.Token.{Token}
 use Rattle.lexis.proofs.Places.{Found}
@@ -22,9 +23,9 @@ use Rattle.refusals.specs.declared.Cause.the-variants.{TextTooLong, TooDeep, To
 use Rattle.refusals.specs.declared.Refusal.{Refusal}
 use Rattle.refusals.proofs.Readings.{Holds, From, Reaches, refuse-holds, got-holds, cond-holds, unless-holds, then-holds, holds-map}
 use Rattle.refusals.proofs.Tokens.{Taken, strict-of, fault-holds}
-use Rattle.meaning.specs.Data.{Datum, datum, Members, noMore, member, Content, block}
-use Rattle.meaning.specs.Data
-use Rattle.data.specs.Data.{expect, typeFrom, leafFrom, Down, typed, contentFrom, nameFrom, members, blockFrom, outermost, datumOf}
+use Rattle.meaning.specs.Data.{Datum}
+use Rattle.data.specs.Placed.{Span, Block, block, Entries, noMore, entry, Content, string, word, inside, spelledBlock}
+use Rattle.data.specs.Data.{expect, typeFrom, leafFrom, Down, typed, contentFrom, nameFrom, members, blockFrom, outermost, blockOf, datumOf, spanOf, innerSpan}
 
 module _ (s : List ℕ) where
   pub expect-holds : (sort from : ℕ) → from ≤ length s → Holds (length s) (Taken s from) (expect s sort from)
@@ -49,7 +50,7 @@ module _ (s : List ℕ) where
       let f = type-token-found s from h in
       cond-holds n (Reaches from n) (eqb (t .sort) typeName) _ _
       (λ e. unless-holds n (Reaches from n) (ltb nameLimit (length (spelling s t))) TooLong (t .start) _ (omega arith) (λ g.
-        ending closeRound from (t .end) (spelling s t) (omega arith) (f .inside)))
+        ending closeRound from (t .end) (spanOf t) (omega arith) (f .inside)))
       (λ e. fault-holds s from t (Reaches from n) f)
 
   leaf-holds : (place from : ℕ) → from ≤ length s → Holds (length s) (Reaches from (length s)) (leafFrom s place (dataTokenAt s from))
@@ -58,14 +59,14 @@ module _ (s : List ℕ) where
       let n = length s in
       let t = dataTokenAt s from in
       let f = data-token-found s from h in
-      cond-holds n (Reaches from n) (eqb (t .sort) string) _ _
+      cond-holds n (Reaches from n) (eqb (t .sort) Tokens.string) _ _
       (λ e. unless-holds n (Reaches from n) (ltb stringLimit (length (inner s t))) TooLong (t .start) _ (omega arith) (λ g.
-        ending greater from (t .end) (Data.string place (inner s t)) (omega arith) (f .inside)))
+        ending greater from (t .end) (string place (innerSpan t)) (omega arith) (f .inside)))
       (λ e. unless-holds n (Reaches from n) (not (good (spelling s t))) BadWord (t .start) _ (omega arith) (λ g.
-        ending greater from (t .end) (Data.word place (spelling s t)) (omega arith) (f .inside)))
+        ending greater from (t .end) (word place (spanOf t)) (omega arith) (f .inside)))
 
-module _ (s : List ℕ) (down : Down) (below : (place : ℕ) (type : Option (List ℕ)) (from : ℕ) → place ≤ length s → from ≤ length s → Holds (length s) (Reaches from (length s)) (down place type from)) where
-  typed-holds : (type : List ℕ) (low from : ℕ) → low ≤ from → from ≤ length s → Holds (length s) (Reaches low (length s)) (typed s down type from)
+module _ (s : List ℕ) (down : Down) (below : (place : ℕ) (type : Option Span) (from : ℕ) → place ≤ length s → from ≤ length s → Holds (length s) (Reaches from (length s)) (down place type from)) where
+  typed-holds : (type : Span) (low from : ℕ) → low ≤ from → from ≤ length s → Holds (length s) (Reaches low (length s)) (typed s down type from)
   unfolding typed
   typed-holds type low from l h =
       let n = length s in
@@ -83,11 +84,11 @@ module _ (s : List ℕ) (down : Down) (below : (place : ℕ) (type : Option (Lis
       let leaf : Holds n P (leafFrom s (t .start) u) = holds-map n (Reaches (t .end) n) P _ (λ d r x. omega arith) (leaf-holds s (t .start) (t .end) (f .inside)) in
       cond-holds n P (eqb (t .sort) openRound) _ _
       (λ e. then-holds n P (Reaches (t .end) n) _ _ (type-holds s (t .end) (f .inside)) (λ w p q.
-        then-holds n P (Reaches from n) _ _ (typed-holds w from p (omega arith) (q .most)) (λ d r x. got-holds n P (block d) r x)))
+        then-holds n P (Reaches from n) _ _ (typed-holds w from p (omega arith) (q .most)) (λ d r x. got-holds n P (inside d) r x)))
       (λ e. cond-holds n P (eqb (t .sort) less) _ _
-      (λ g. cond-holds n P (eqb (u .sort) string) _ _ (λ x. leaf) (λ x.
+      (λ g. cond-holds n P (eqb (u .sort) Tokens.string) _ _ (λ x. leaf) (λ x.
         cond-holds n P (eqb (u .sort) wordRun) _ _ (λ y. leaf) (λ y.
-        then-holds n P (Reaches (t .end) n) _ _ (below (t .start) none (t .end) (omega arith) (f .inside)) (λ d r z. got-holds n P (block d) r (omega arith)))))
+        then-holds n P (Reaches (t .end) n) _ _ (below (t .start) none (t .end) (omega arith) (f .inside)) (λ d r z. got-holds n P (inside d) r (omega arith)))))
       (λ g. fault-holds s from t P f))
 
   name-holds : (seen : List (List ℕ)) (from : ℕ) → from ≤ length s → eqb (dataTokenAt s from .sort) name ≡ true → Holds (length s) (Reaches (from + 1) (length s)) (nameFrom s seen (dataTokenAt s from))
@@ -99,31 +100,31 @@ module _ (s : List ℕ) (down : Down) (below : (place : ℕ) (type : Option (Lis
       let g = strict-of name (lit< tt) t s from f (eqb-true _ _ e) in
       unless-holds n (Reaches (from + 1) n) (ltb nameLimit (length (spelling s t))) TooLong (t .start) _ (omega arith) (λ a.
       unless-holds n (Reaches (from + 1) n) (listed (spelling s t) seen) RepeatedName (t .start) _ (omega arith) (λ b.
-      ending s equals (from + 1) (t .end) (spelling s t) (omega arith) (f .inside)))
+      ending s equals (from + 1) (t .end) (spanOf t) (omega arith) (f .inside)))
 
   pub members-holds : (fuel : ℕ) (seen : List (List ℕ)) (from : ℕ) → length s < from + fuel → from ≤ length s → Holds (length s) (Reaches from (length s)) (members s down fuel seen from)
   unfolding members
   members-holds zero seen from k h = absurd (omega arith)
   members-holds (suc fuel) seen from k h =
       let n = length s in
-      let P = Reaches {A = Members} from n in
+      let P = Reaches {A = Entries} from n in
       let t = dataTokenAt s from in
       let f = data-token-found s from h in
       cond-holds n P (eqb (t .sort) greater) _ _ (λ e. got-holds n P noMore (t .end) (omega arith)) (λ e.
       cond-holds n P (eqb (t .sort) name) _ _
       (λ g. then-holds n P (Reaches (from + 1) n) _ _ (name-holds seen from h g) (λ w p q.
         then-holds n P (Reaches p n) _ _ (content-holds p (q .most)) (λ x r y.
-        then-holds n P (Reaches r n) (members s down fuel (w ∷ seen) r) _ (members-holds fuel (w ∷ seen) r (omega arith) (y .most)) (λ ms z b.
-        got-holds n P (member w x ms) z (omega arith)))))
+        then-holds n P (Reaches r n) (members s down fuel (spelling s t ∷ seen) r) _ (members-holds fuel (spelling s t ∷ seen) r (omega arith) (y .most)) (λ ms z b.
+        got-holds n P (entry w x ms) z (omega arith)))))
       (λ g. fault-holds s from t P f))
 
-pub block-holds : (s : List ℕ) (levels place : ℕ) (type : Option (List ℕ)) (from : ℕ) → place ≤ length s → from ≤ length s → Holds (length s) (Reaches from (length s)) (blockFrom s levels place type from)
+pub block-holds : (s : List ℕ) (levels place : ℕ) (type : Option Span) (from : ℕ) → place ≤ length s → from ≤ length s → Holds (length s) (Reaches from (length s)) (blockFrom s levels place type from)
 unfolding blockFrom
 block-holds s zero place type from l h = refuse-holds (length s) (Reaches from (length s)) TooDeep place l
 block-holds s (suc levels) place type from l h =
     then-holds (length s) (Reaches from (length s)) (Reaches from (length s)) _ _
     (members-holds s (blockFrom s levels) (λ p y f a b. block-holds s levels p y f a b) (length s + 1) [] from (omega arith) h)
-    (λ ms p q. got-holds (length s) (Reaches from (length s)) (datum place type ms) p q)
+    (λ ms p q. got-holds (length s) (Reaches from (length s)) (block place type ms) p q)
 
 pub outermost-holds : (s : List ℕ) → Holds (length s) (Reaches 0 (length s)) (outermost s)
 unfolding outermost
@@ -137,13 +138,19 @@ outermost-holds s =
     (λ e. then-holds n (Reaches 0 n) (Taken s 0) _ _ (expect-holds s less 0 (omega arith)) (λ u p q.
       holds-map n (Reaches p n) (Reaches 0 n) _ (λ d r x. omega arith) (block-holds s levelLimit (u .start) none p (omega arith) (q .inside))))
 
+pub block-of-holds : (s : List ℕ) → Holds (length s) (Reaches 0 (length s)) (blockOf s)
+unfolding blockOf
+block-of-holds s =
+    let n = length s in
+    cond-holds n (Reaches 0 n) (ltb textLimit n) _ _
+    (λ e. refuse-holds n (Reaches {A = Block} 0 n) TextTooLong textLimit (let h : textLimit < n = ltb-true textLimit n e in omega arith))
+    (λ e. then-holds n (Reaches 0 n) (Reaches 0 n) (outermost s) _ (outermost-holds s) (λ d p q. ending s textEnd 0 p d (omega arith) (q .most)))
+
 pub datum-holds : (s : List ℕ) → Holds (length s) (Reaches 0 (length s)) (datumOf s)
 unfolding datumOf
 datum-holds s =
-    let n = length s in
-    cond-holds n (Reaches 0 n) (ltb textLimit n) _ _
-    (λ e. refuse-holds n (Reaches {A = Datum} 0 n) TextTooLong textLimit (let h : textLimit < n = ltb-true textLimit n e in omega arith))
-    (λ e. then-holds n (Reaches 0 n) (Reaches 0 n) (outermost s) _ (outermost-holds s) (λ d p q. ending s textEnd 0 p d (omega arith) (q .most)))
+    then-holds (length s) (Reaches 0 (length s)) (Reaches 0 (length s)) (blockOf s) _ (block-of-holds s)
+    (λ d p q. got-holds (length s) (Reaches {A = Datum} 0 (length s)) (spelledBlock d s) p q)
 
 -- a refusal's place lies in the text
 pub place-inside : (s : List ℕ) (r : Refusal) → datumOf s ≡ refused r → r .place ≤ length s

@@ -1,3 +1,4 @@
 -- The proofs of the demands.
 pub mod Buffers
 pub mod Merges
+pub mod Marked

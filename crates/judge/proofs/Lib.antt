@@ -1,1 +1,2 @@
 -- The laws and examples of the definitions.
+pub mod Computes

@@ -2,3 +2,4 @@
 pub mod Numbers
 pub mod NumberedLaws
 pub mod Moved
+pub mod Computes

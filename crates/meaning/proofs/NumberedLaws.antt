@@ -79,9 +79,10 @@ up-length (suc k) n = ap suc (up-length k (n + 1))
 up-split : (a b n : ℕ) (xs ys : List ℕ) → length xs ≡ a → xs ++ ys ≡ upFrom n (a + b) → (xs ≡ upFrom n a) × (ys ≡ upFrom (n + a) b)
 up-split a b n xs ys h e =
     let l = up-length a n in
-    let g = e ∙ up-append a b n in
-    (sym (take-at xs ys a h) ∙ ap (take a) g ∙ take-at (upFrom n a) (upFrom (n + a) b) a l,
-    sym (drop-at xs ys a h) ∙ ap (drop a) g ∙ drop-at (upFrom n a) (upFrom (n + a) b) a l)
+    let g = e ∙ up-append a b n in (
+      sym (take-at xs ys a h) ∙ ap (take a) g ∙ take-at (upFrom n a) (upFrom (n + a) b) a l,
+      sym (drop-at xs ys a h) ∙ ap (drop a) g ∙ drop-at (upFrom n a) (upFrom (n + a) b) a l,
+    )
 
 ranges-numbered : (l : List Range) (n : ℕ) → rangeNumbers l ≡ upFrom n (length l) → NumberedRanges l n
 ranges-numbered [] n e = tt

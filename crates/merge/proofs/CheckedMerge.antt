@@ -21,19 +21,22 @@ use Rattle.table.proofs.FieldLaws.{linked, link-right, length-kinds, numbered}
 use Rattle.merge.specs.Merge.{Shifts, movedField, movedFields, moved, shiftsBy, merged}
 use Rattle.merge.proofs.MergeLaws.{count-merged, pool-merged, reads, fixed, steady, steady-row, Same, next-same}
 
--- the kinds of a merge: the first table's, then the second's
+-- moving keeps the kinds
 kinds-joined : (s : Shifts) (rs qs : List Record) → kinds (rs ++ map (moved s) qs) ≡ kinds rs ++ kinds qs
 kinds-joined s [] [] = refl
 kinds-joined s [] (q ∷ qs) = ap (λ ks. q .kind ∷ ks) (kinds-joined s [] qs)
 kinds-joined s (r ∷ rs) qs = ap (λ ks. r .kind ∷ ks) (kinds-joined s rs qs)
 
+-- the kinds of a merge are the first table's and then the second's
 kinds-merged : (x y : Image) → kinds (merged x y .records) ≡ kinds (x .records) ++ kinds (y .records)
 unfolding merged
 kinds-merged x y = kinds-joined (shiftsBy x) (x .records) (y .records)
 
+-- a record of the first table has the kind that it had
 pub kind-kept : (x y : Image) (n : ℕ) → n < count x → kindAt (merged x y) n ≡ kindAt x n
 kind-kept x y n l = ap (λ ks. getD (0 ∷ ks) n 0) (kinds-merged x y) ∙ List·getD-append (0 ∷ kinds (x .records)) _ 0 n (rw length-kinds l)
 
+-- a record of the second table has, at its moved number, the kind that it had
 pub kind-moved : (x y : Image) (n : ℕ) → 1 ≤ n → kindAt (merged x y) (ListN.length (x .records) + n) ≡ kindAt y n
 kind-moved x y zero l = absurd (omega arith)
 kind-moved x y (suc n) l =
@@ -44,30 +47,33 @@ kind-moved x y (suc n) l =
 abbrev flagRight : Record → Bool
 flagRight r = within 1 8 (r .kind) && within (rowOf (r .kind) .least) (rowOf (r .kind) .most) (r .flag)
 
--- what follows from the second of two tests, and from both
+-- a test beside another may be put for one that it follows from
 and-map : (a b c : Bool) → (b ≡ true → c ≡ true) → (a && b) ≡ true → (a && c) ≡ true
 and-map true b c f h = f h
 and-map false b c f h = h
 
+-- so may both
 and-both : (a b c d : Bool) → (a ≡ true → c ≡ true) → (b ≡ true → d ≡ true) → (a && b) ≡ true → (c && d) ≡ true
 and-both a b c d f g h = rw (f (and-left a b h)) (g (and-right a b h))
 
--- a name within a pool is within a longer one, and a moved name within the joined one
+-- a name within a pool is within a longer one
 place-more : (empty : Bool) (x next n m : ℕ) → n ≤ m → cond empty (eqb x 0) (leb (x + next) n) ≡ true → cond empty (eqb x 0) (leb (x + next) m) ≡ true
 place-more true x next n m l h = h
 place-more false x next n m l h = le-leb (x + next) m (omega (arith, leb-true (x + next) n h))
 
+-- a moved name is within the joined pool
 place-moved : (empty : Bool) (p x next n m : ℕ) → p + n ≡ m → cond empty (eqb x 0) (leb (x + next) n) ≡ true
     → cond empty (eqb (cond empty x (p + x)) 0) (leb (cond empty x (p + x) + next) m) ≡ true
 place-moved true p x next n m e h = h
 place-moved false p x next n m e h = le-leb (p + x + next) m (omega (arith, leb-true (x + next) n h))
 
--- moving keeps the number of fields, and the fields that are not named
+-- moving keeps the number of fields
 length-moved : (s : Shifts) (us : List Use) (fs : List ℕ) → ListN.length (movedFields s us fs) ≡ ListN.length fs
 length-moved s [] fs = refl
 length-moved s (u ∷ us) [] = refl
 length-moved s (u ∷ us) (f ∷ fs) = ap suc (length-moved s us fs)
 
+-- moving leaves a field that is not named
 nought-moved : (s : Shifts) (u : Use) (f next : ℕ) → isNought u (movedField s u f next) ≡ isNought u f
 nought-moved s unnamed f next = refl
 nought-moved s (place least most) f next = refl
@@ -77,6 +83,7 @@ nought-moved s integers f next = refl
 nought-moved s dates f next = refl
 nought-moved s high f next = refl
 
+-- so the others are 0 as before
 rest-moved : (s : Shifts) (us : List Use) (fs : List ℕ) → restNought us (movedFields s us fs) ≡ restNought us fs
 rest-moved s [] fs = refl
 rest-moved s (u ∷ us) [] = refl
@@ -117,12 +124,13 @@ module _ (x y : Image) where
   field-moved n dates f next was s h = rw (s refl) h
   field-moved n high f next was s h = h
 
-  -- so do all fields of a record
+  -- so do all fields of a record of the first table
   fields-kept : (n : ℕ) (us : List Use) (fs : List ℕ) → fieldsRight x n us fs ≡ true → fieldsRight (merged x y) n us fs ≡ true
   fields-kept n [] fs h = refl
   fields-kept n (u ∷ us) [] h = refl
   fields-kept n (u ∷ us) (f ∷ fs) h = and-both _ _ _ _ (field-kept n u f (getD fs 0 0)) (fields-kept n us fs) h
 
+  -- and all of a moved record
   fields-moved : (n : ℕ) (us : List Use) (fs : List ℕ) → steady us ≡ true → fieldsRight y n us fs ≡ true
       → fieldsRight (merged x y) (ListN.length (x .records) + n) us (movedFields (shiftsBy x) us fs) ≡ true
   fields-moved n [] fs s h = refl
@@ -149,14 +157,17 @@ module _ (x y : Image) where
     cleaned = rest-moved (shiftsBy x) (rowOf (r .kind) .uses) (r .fields) ∙ h .cleaned;
   }
 
+  -- so are all records of the second table
   records-moved : (n : ℕ) (rs : List Record) → RecordsGood y n rs → RecordsGood (merged x y) (ListN.length (x .records) + n) (map (moved (shiftsBy x)) rs)
   records-moved n [] h = tt
   records-moved n (r ∷ rs) h = (record-moved n r (h .0), rw (← add-suc) (records-moved (suc n) rs (h .1)))
 
+  -- records of the first table and good records behind them are good
   records-joined : (n : ℕ) (rs qs : List Record) → RecordsGood x n rs → RecordsGood (merged x y) (n + ListN.length rs) qs → RecordsGood (merged x y) n (rs ++ qs)
   records-joined n [] qs h k = rw add-zero at k
   records-joined n (r ∷ rs) qs h k = (record-kept n r (h .0), records-joined (suc n) rs qs (h .1) (rw suc-add (rw add-suc at k)))
 
+  -- the records of a merge are good
   records-merged : Checked x → Checked y → RecordsGood (merged x y) 1 (x .records ++ map (moved (shiftsBy x)) (y .records))
   records-merged h k = records-joined 1 (x .records) _ (h .records) (rw (add-comm 1) (records-moved 1 (y .records) (k .records)))
 

@@ -2,3 +2,4 @@
 pub mod MergeLaws
 pub mod CheckedMerge
 pub mod Answers
+pub mod Computes

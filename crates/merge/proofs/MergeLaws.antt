@@ -21,11 +21,12 @@ use Rattle.table.proofs.TreeLaws.{movedTree, trees-moved, trees-append, length-
 use Rattle.table.proofs.FieldLaws.{fields-obey, closed}
 use Rattle.merge.specs.Merge.{Shifts, movedField, movedFields, moved, shiftsBy, merged}
 
--- the sizes of a merge
+-- the count of a merge is both counts less one
 pub count-merged : (x y : Image) → count (merged x y) ≡ ListN.length (x .records) + count y
 unfolding merged
 count-merged x y = rw (length-append, length-map) (omega arith)
 
+-- the pool of a merge is as long as both pools
 pub pool-merged : (x y : Image) → ListN.length (merged x y .pool) ≡ ListN.length (x .pool) + ListN.length (y .pool)
 unfolding merged
 pool-merged x y = length-append (x .pool) (y .pool)
@@ -56,16 +57,18 @@ abbrev pub steady : List Use → Bool
 steady [] = true
 steady (u ∷ us) = cond (reads u) (fixed us) true && steady us
 
+-- so it is in all of these kinds
 abbrev pub allSteady : List Row → Bool
 allSteady [] = true
 allSteady (r ∷ rs) = steady (r .uses) && allSteady rs
 
+-- so it is then in the kind at any place
 steady-at : (rs : List Row) (d : Row) (k : ℕ) → allSteady rs ≡ true → steady (d .uses) ≡ true → steady (getD rs k d .uses) ≡ true
 steady-at [] d k h g = g
 steady-at (r ∷ rs) d zero h g = and-left (steady (r .uses)) (allSteady rs) h
 steady-at (r ∷ rs) d (suc k) h g = steady-at rs d k (and-right (steady (r .uses)) (allSteady rs) h) g
 
--- so it is in every kind
+-- no field that another reads is moved in any kind
 pub steady-row : (kind : ℕ) → steady (rowOf kind .uses) ≡ true
 unfolding rowOf
 steady-row kind = steady-at rows _ kind refl refl
@@ -82,10 +85,11 @@ next-fixed s (integers ∷ us) (x ∷ xs) h = refl
 next-fixed s (dates ∷ us) (x ∷ xs) h = refl
 next-fixed s (high ∷ us) (x ∷ xs) h = refl
 
--- what a field reads of the next is what it was
+-- two values of the next field are the same to a field: where it reads them, they are equal
 abbrev pub Same : Use → ℕ → ℕ → Type 0
 Same u a b = reads u ≡ true → a ≡ b
 
+-- moving leaves the next field the same to every field
 pub next-same : (s : Shifts) (u : Use) (us : List Use) (xs : List ℕ) → steady (u ∷ us) ≡ true → Same u (getD (movedFields s us xs) 0 0) (getD xs 0 0)
 next-same s u us xs h e = next-fixed s us xs (rw e at (and-left (cond (reads u) (fixed us) true) (steady us) h))
 
@@ -106,8 +110,8 @@ step-moved : (s i x : ℕ) → cond (eqb x 0) 0 (s + x) - (s + i) ≡ x - i
 step-moved s i zero = omega arith
 step-moved s i (suc x) = rw eqb·suc-zero (omega arith)
 
--- the second table's fields, moved, mean what they meant; the first's do as they are
 module _ (x : Image) (Q : List ℕ) where
+  -- a field of the second table, moved, means what it meant
   part-moved : (i : ℕ) (u : Use) (f next was : ℕ) → Same u next was
       → partOf (x .pool ++ Q) (ListN.length (x .records) + i) u (movedField (shiftsBy x) u f was) next ≡ partOf Q i u f was
   part-moved i unnamed f next was h = refl
@@ -118,6 +122,7 @@ module _ (x : Image) (Q : List ℕ) where
   part-moved i dates f next was h = refl
   part-moved i high f next was h = refl
 
+  -- so do the fields of a record
   parts-moved : (i : ℕ) (us : List Use) (fs : List ℕ) → steady us ≡ true
       → partsOf (x .pool ++ Q) (ListN.length (x .records) + i) us (movedFields (shiftsBy x) us fs) ≡ partsOf Q i us fs
   parts-moved i [] fs h = refl
@@ -125,12 +130,14 @@ module _ (x : Image) (Q : List ℕ) where
   parts-moved i (u ∷ us) (f ∷ fs) h =
       ap₂ _∷_ (part-moved i u f _ (getD fs 0 0) (next-same (shiftsBy x) u us fs h)) (parts-moved i us fs (and-right (cond (reads u) (fixed us) true) (steady us) h))
 
+  -- the moved records have the cells that they had
   cells-moved : (i : ℕ) (rs : List Record) → cells (x .pool ++ Q) (ListN.length (x .records) + i) (map (moved (shiftsBy x)) rs) ≡ cells Q i rs
   cells-moved i [] = refl
   cells-moved i (r ∷ rs) =
       ap₂ _∷_ (λ j. record { kind = r .kind; flag = r .flag; parts = parts-moved i (rowOf (r .kind) .uses) (r .fields) (steady-row (r .kind)) j })
       (rw (← add-suc) (cells-moved (suc i) rs))
 
+  -- a field of the first table that obeys its rule means what it meant
   part-kept : (n : ℕ) (u : Use) (f next : ℕ) → fieldRight x n u f next ≡ true → partOf (x .pool ++ Q) n u f next ≡ partOf (x .pool) n u f next
   unfolding fieldRight
   part-kept n unnamed f next h = refl
@@ -141,26 +148,28 @@ module _ (x : Image) (Q : List ℕ) where
   part-kept n dates f next h = refl
   part-kept n high f next h = refl
 
+  -- so do the fields of a record
   parts-kept : (n : ℕ) (us : List Use) (fs : List ℕ) → fieldsRight x n us fs ≡ true → partsOf (x .pool ++ Q) n us fs ≡ partsOf (x .pool) n us fs
   parts-kept n [] fs h = refl
   parts-kept n (u ∷ us) [] h = refl
   parts-kept n (u ∷ us) (f ∷ fs) h =
       ap₂ _∷_ (part-kept n u f (getD fs 0 0) (and-left _ (fieldsRight x n us fs) h)) (parts-kept n us fs (and-right (fieldRight x n u f (getD fs 0 0)) _ h))
 
+  -- the first table's records have the cells that they had
   cells-kept : (n : ℕ) (rs : List Record) → RecordsGood x n rs → cells (x .pool ++ Q) n rs ≡ cells (x .pool) n rs
   cells-kept n [] h = refl
   cells-kept n (r ∷ rs) h =
       ap₂ _∷_ (λ j. record { kind = r .kind; flag = r .flag; parts = parts-kept n (rowOf (r .kind) .uses) (r .fields) (fields-obey x n r (h .0 .obeyed)) j })
       (cells-kept (suc n) rs (h .1))
 
--- the cells of a merge
+-- the cells of a merge are the first table's and then the second's
 pub cells-merged : (x y : Image) → Checked x → cellsOf (merged x y) ≡ cellsOf x ++ cellsOf y
 unfolding cellsOf merged
 cells-merged x y h =
     cells-append _ 1 (x .records) _
     ∙ ap₂ _++_ (cells-kept x (y .pool) 1 (x .records) (h .records)) (rw (add-comm 1) (cells-moved x (y .pool) 1 (y .records)))
 
--- the trees of a merge
+-- the trees of a merge are the first table's and then the second's, moved
 pub trees-merged : (x y : Image) → Checked x → treesOf (merged x y) ≡ treesOf x ++ map (movedTree (ListN.length (x .records))) (treesOf y)
 unfolding treesOf cellsOf
 trees-merged x y h =

@@ -17,17 +17,18 @@ use Rattle.table.specs.Trees.{number, partOf, partsOf, cells, cellsOf, s
 use Rattle.table.proofs.Checked.{RecordsGood, Checked}
 use Rattle.table.proofs.TreeLaws.{Closed, length-cells}
 
--- as many kinds as records
+-- there are as many kinds as records
 pub length-kinds : (rs : List Record) → ListN.length (kinds rs) ≡ ListN.length rs
 length-kinds [] = refl
 length-kinds (r ∷ rs) = ap suc (length-kinds rs)
 
--- a number of a kind other than 0 is a record's
+-- a place with a number other than 0 lies within the list
 at-one : (ks : List ℕ) (n : ℕ) → 1 ≤ getD ks n 0 → n < ListN.length ks
 at-one [] n h = omega arith
 at-one (k ∷ ks) zero h = omega arith
 at-one (k ∷ ks) (suc n) h = let l = at-one ks n h in omega arith
 
+-- a number with a kind other than 0 is below the count
 pub numbered : (m : Image) (n : ℕ) → 1 ≤ kindAt m n → n < count m
 numbered m n h = rw length-kinds at (at-one (0 ∷ kinds (m .records)) n h)
 
@@ -60,8 +61,8 @@ fields-obey m n r h =
     let w = rowOf (r .kind) in
     and-right (within 1 8 (r .kind) && within (w .least) (w .most) (r .flag)) (fieldsRight m n (w .uses) (r .fields)) h
 
--- no step leads out of the table: from number n on, by a field, by a record's fields, by the records
 module _ (m : Image) where
+  -- the step of a field leads to one of the records above its own
   step-within : (n most : ℕ) (u : Use) (x next : ℕ) → count m ≤ suc (n + most) → fieldRight m n u x next ≡ true → stepIn (partOf (m .pool) n u x next) ≤ most
   step-within n most unnamed x next c h = omega arith
   step-within n most (place l g) x next c h = omega arith
@@ -72,6 +73,7 @@ module _ (m : Image) where
   step-within n most dates x next c h = omega arith
   step-within n most high x next c h = omega arith
 
+  -- so does each step of a record
   steps-within : (n most : ℕ) (us : List Use) (xs : List ℕ) → count m ≤ suc (n + most) → fieldsRight m n us xs ≡ true
       → (i : ℕ) → stepIn (getD (partsOf (m .pool) n us xs) i (number 0)) ≤ most
   steps-within n most [] xs c h i = omega arith
@@ -79,6 +81,7 @@ module _ (m : Image) where
   steps-within n most (u ∷ us) (x ∷ xs) c h zero = step-within n most u x (getD xs 0 0) c (and-left _ (fieldsRight m n us xs) h)
   steps-within n most (u ∷ us) (x ∷ xs) c h (suc i) = steps-within n most us xs c (and-right (fieldRight m n u x (getD xs 0 0)) _ h) i
 
+  -- the cells of a table's last records are closed
   closed-cells : (n : ℕ) (rs : List Record) → n + ListN.length rs ≡ count m → RecordsGood m n rs → Closed (cells (m .pool) n rs)
   closed-cells n [] e h = tt
   closed-cells n (r ∷ rs) e h = (
@@ -86,6 +89,7 @@ module _ (m : Image) where
     closed-cells (suc n) rs (omega arith) (h .1),
   )
 
+-- the cells of a checked table are closed
 pub closed : (m : Image) → Checked m → Closed (cellsOf m)
 unfolding cellsOf
 closed m h = closed-cells m 1 (m .records) (omega arith) (h .records)

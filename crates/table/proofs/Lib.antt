@@ -6,3 +6,4 @@ pub mod UseLaws
 pub mod CheckLaws
 pub mod TreeLaws
 pub mod FieldLaws
+pub mod Computes

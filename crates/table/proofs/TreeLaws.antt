@@ -24,7 +24,7 @@ cond-moved : (s : ℕ) (b : Bool) (t u : Tree) → movedTree s (cond b t u) ≡ 
 cond-moved s true t u = refl
 cond-moved s false t u = refl
 
--- what a moved tree holds is moved
+-- the attributes of a moved tree are moved
 attributes-moved : (s : ℕ) (t : Tree) → attributesIn (movedTree s t) ≡ movedAttributes (attributesIn t) s
 unfolding movedAttributes
 attributes-moved s nothing = refl
@@ -32,6 +32,7 @@ attributes-moved s (ofObject o) = refl
 attributes-moved s (ofAttributes xs) = refl
 attributes-moved s (ofLeaf l) = refl
 
+-- the value of a moved tree is moved
 value-moved : (s : ℕ) (t : Tree) → valueIn (movedTree s t) ≡ movedValue (valueIn t) s
 unfolding movedValue
 value-moved s nothing = refl
@@ -39,6 +40,7 @@ value-moved s (ofObject o) = refl
 value-moved s (ofAttributes xs) = refl
 value-moved s (ofLeaf l) = refl
 
+-- the items of a moved tree are moved, where those of a moved leaf are
 items-moved : {A : Type 0} (s : ℕ) (items : Leaf → List A) (move : A → A) → ((l : Leaf) → items (movedLeaf s l) ≡ map move (items l))
     → (t : Tree) → itemsIn items (movedTree s t) ≡ map move (itemsIn items t)
 items-moved s items move h nothing = refl
@@ -46,6 +48,7 @@ items-moved s items move h (ofObject o) = refl
 items-moved s items move h (ofAttributes xs) = refl
 items-moved s items move h (ofLeaf l) = h l
 
+-- those of a moved leaf are: integers, dates, strings
 integers-moved : (s : ℕ) (l : Leaf) → integersOf (movedLeaf s l) ≡ map (movedRange s) (integersOf l)
 integers-moved s (booleans n f) = refl
 integers-moved s (integers l) = refl
@@ -90,20 +93,22 @@ trees-moved s i (x ∷ xs) =
     ap (λ ts. treeOf (s + i) x ts ∷ ts) (ap (λ j. trees j xs) (sym (add-suc s i)) ∙ trees-moved s (suc i) xs)
     ∙ ap (λ t. t ∷ map (movedTree s) (trees (suc i) xs)) (tree-over s i x (trees (suc i) xs))
 
--- as many trees as cells, as many cells as records
+-- there are as many trees as cells
 pub length-trees : (i : ℕ) (xs : List Cell) → length (trees i xs) ≡ length xs
 length-trees i [] = refl
 length-trees i (x ∷ xs) = ap suc (length-trees (suc i) xs)
 
+-- there are as many cells as records
 pub length-cells : (pool : List ℕ) (i : ℕ) (rs : List Record) → length (cells pool i rs) ≡ length rs
 length-cells pool i [] = refl
 length-cells pool i (r ∷ rs) = ap suc (length-cells pool (suc i) rs)
 
+-- a table has as many trees as records
 pub length-trees-of : (m : Image) → length (treesOf m) ≡ length (m .records)
 unfolding treesOf cellsOf
 length-trees-of m = length-trees 1 (cellsOf m) ∙ length-cells (m .pool) 1 (m .records)
 
--- the cells of records and more records
+-- the cells of records and more records are the cells of both, numbered on
 pub cells-append : (pool : List ℕ) (i : ℕ) (rs qs : List Record) → cells pool i (rs ++ qs) ≡ cells pool i rs ++ cells pool (i + length rs) qs
 cells-append pool i [] qs = ap (λ j. cells pool j qs) (sym (add-zero i))
 cells-append pool i (r ∷ rs) qs =

@@ -1,0 +1,9 @@
+-- What the checker opens to compute with the definitions of this crate and those below. Assumes nothing.
+use Rattle.data.proofs.Computes.{dataComputes}
+use Rattle.meaning.proofs.Computes.{meaningComputes}
+use Rattle.table.proofs.Computes.{tableComputes}
+use Rattle.judge.specs.Answer.{judgeAnswer}
+
+unfoldable pub judgeComputes : Unit {0}
+unfolding dataComputes meaningComputes tableComputes judgeAnswer
+judgeComputes = tt
