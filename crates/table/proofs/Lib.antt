@@ -7,3 +7,4 @@ pub mod CheckLaws
 pub mod TreeLaws
 pub mod FieldLaws
 pub mod Computes
+pub mod WalkLaws
