@@ -33,7 +33,7 @@ use Rattle.meaning.specs.Counting.{objectRecords, objectPool, objectNumbers, at
 use Rattle.meaning.proofs.Numbers.{up-append}
 use Rattle.items.specs.Leaves
 use Rattle.items.proofs.IntervalReading.{token-past}
-use Rattle.items.proofs.LeafReading.{LeafRead, leaf-holds, inner-sub}
+use Rattle.items.proofs.LeafReading.{TreeRead, LeafRead, leaf-holds, inner-sub}
 use Rattle.constraint.specs.Existence.{opening, isNought, isOne, fromNought, fromOne, bounds, existenceFrom}
 use Rattle.constraint.specs.Objects.{Count, count, objectType, objectCode, attributeName, value, Attribute, attributeFrom, past, goOn, attributes, body, objectBy, objectFrom}
 use Rattle.constraint.specs.Texts.{constraintOf}
@@ -81,8 +81,8 @@ module _ (s : List ℕ) where
       let g = next-holds low (t .end) (f .0) (f .1) in
       cond-holds n (Exists low n) (eqb (t .sort) dots) _ _
       (λ e. cond-holds n (Exists low n) (isNought s u) _ _ (λ x. reached low (u .end) _ (omega arith) (g .0) (g .1))
-        (λ x. cond-holds n (Exists low n) (isOne s u) _ _ (λ y. reached low (u .end) _ (omega arith) (g .0) (g .1))
-        (λ y. fault-holds s (t .end) u (Exists low n) (token-found s (t .end) (f .1)))))
+      (λ x. cond-holds n (Exists low n) (isOne s u) _ _ (λ y. reached low (u .end) _ (omega arith) (g .0) (g .1))
+      (λ y. fault-holds s (t .end) u (Exists low n) (token-found s (t .end) (f .1)))))
       (λ e. reached low from _ (omega arith) l h)
 
   one-holds : (low from : ℕ) → low ≤ from → from ≤ length s → Holds (length s) (Exists low (length s)) (fromOne s from)
@@ -95,7 +95,7 @@ module _ (s : List ℕ) where
       let g = next-holds low (t .end) (f .0) (f .1) in
       cond-holds n (Exists low n) (eqb (t .sort) dots) _ _
       (λ e. cond-holds n (Exists low n) (isOne s u) _ _ (λ y. reached low (u .end) _ (omega arith) (g .0) (g .1))
-        (λ y. fault-holds s (t .end) u (Exists low n) (token-found s (t .end) (f .1))))
+      (λ y. fault-holds s (t .end) u (Exists low n) (token-found s (t .end) (f .1))))
       (λ e. reached low from _ (omega arith) l h)
 
   bounds-holds : (low from : ℕ) → low ≤ from → from ≤ length s → Holds (length s) (Exists low (length s)) (bounds s from)
@@ -117,9 +117,9 @@ module _ (s : List ℕ) where
       let f = next-holds from from (omega arith) h in
       cond-holds n P (eqb (t .sort) existence) _ _
       (λ e. then-holds n P (Passed s (t .end)) _ _ (opening-holds (t .end) (f .1)) (λ u p q.
-        then-holds n P (Exists p n) (bounds s p) _ (bounds-holds p p (omega arith) (q .inside)) (λ x r y.
-        then-holds n P (Passed s r) _ _ (expect-passes s closeBrace r (y .most) (lit< tt)) (λ v z w.
-        reached from z x (y .flag) (omega arith) (w .inside)))))
+      then-holds n P (Exists p n) (bounds s p) _ (bounds-holds p p (omega arith) (q .inside)) (λ x r y.
+      then-holds n P (Passed s r) _ _ (expect-passes s closeBrace r (y .most) (lit< tt)) (λ v z w.
+      reached from z x (y .flag) (omega arith) (w .inside)))))
       (λ e. reached from from _ (omega arith) (omega arith) h)
 
   named : (next from p : ℕ) (t : Token) → Passed s from t p → ltb nameLimit (length (spelling s t)) ≡ false → eqb next recordLimit ≡ false → Named s next from t p
@@ -155,10 +155,14 @@ module _ (s : List ℕ) where
       let f = token-found s from h in
       cond-holds n (CodeRead from) (eqb (t .sort) code) _ _
       (λ e. unless-holds n (CodeRead from) (ltb codeLimit (length (inner s t))) TooLong (t .start) _ (omega arith) (λ a.
-        unless-holds n (CodeRead from) (ltb poolLimit (pool + length (inner s t))) PoolTooLarge (t .start) _ (omega arith) (λ b.
-        let g = strict-of code (lit< tt) t s from f (eqb-true _ _ e) in
-        got-holds n (CodeRead from) (inner s t) (t .end) (record { least = omega arith; most = f .inside; short = ltb-false codeLimit (length (inner s t)) a;
-          pool = inner-sub s from (t .end) t (record { start = f .start; order = g; behind = refl; inside = f .inside }) }))))
+      unless-holds n (CodeRead from) (ltb poolLimit (pool + length (inner s t))) PoolTooLarge (t .start) _ (omega arith) (λ b.
+      let g = strict-of code (lit< tt) t s from f (eqb-true _ _ e) in
+      got-holds n (CodeRead from) (inner s t) (t .end) (record {
+        least = omega arith;
+        most = f .inside;
+        short = ltb-false codeLimit (length (inner s t)) a;
+        pool = inner-sub s from (t .end) t (record { start = f .start; order = g; behind = refl; inside = f .inside });
+      }))))
       (λ e. got-holds n (CodeRead from) [] from (record { least = omega arith; most = h; short = omega arith; pool = sub-none _ }))
 
   pub name-holds : (seen : List (List ℕ)) (c : Count) (from : ℕ) → from ≤ length s → Holds (length s) (Named s (c .next) from) (attributeName s seen c from)
@@ -177,29 +181,14 @@ module _ (s : List ℕ) where
   spelling-sub from p t h = part-sub s from (t .start) (t .end) p (h .start) (omega arith)
 
 -- trees that were read from a place on, the first record's number given
-pub record ObjectRead (s : List ℕ) (next from : ℕ) (o : Object) (p : ℕ) : Type 0 where
-  pub least : from + 1 ≤ p
-  pub most : p ≤ length s
-  pub numbers : objectNumbers o ≡ upFrom next (objectRecords o)
-  pub room : next ≤ recordLimit → next + objectRecords o ≤ recordLimit
-  pub proper : ProperObject o
-  pub pool : Sub (objectPool o) (part s from p)
+abbrev pub ObjectRead : List ℕ → ℕ → ℕ → Object → ℕ → Type 0
+ObjectRead s next from o p = TreeRead s next from (objectNumbers o) (objectRecords o) (ProperObject o) (objectPool o) p
 
-pub record AttributesRead (s : List ℕ) (next from : ℕ) (xs : Attributes) (p : ℕ) : Type 0 where
-  pub least : from + 1 ≤ p
-  pub most : p ≤ length s
-  pub numbers : attributeNumbers xs ≡ upFrom next (attributeRecords xs)
-  pub room : next ≤ recordLimit → next + attributeRecords xs ≤ recordLimit
-  pub proper : ProperAttributes xs
-  pub pool : Sub (attributePool xs) (part s from p)
+abbrev pub AttributesRead : List ℕ → ℕ → ℕ → Attributes → ℕ → Type 0
+AttributesRead s next from xs p = TreeRead s next from (attributeNumbers xs) (attributeRecords xs) (ProperAttributes xs) (attributePool xs) p
 
-pub record ValueRead (s : List ℕ) (next from : ℕ) (v : Value) (p : ℕ) : Type 0 where
-  pub least : from + 1 ≤ p
-  pub most : p ≤ length s
-  pub numbers : valueNumbers v ≡ upFrom next (valueRecords v)
-  pub room : next ≤ recordLimit → next + valueRecords v ≤ recordLimit
-  pub proper : ProperValue v
-  pub pool : Sub (valuePool v) (part s from p)
+abbrev pub ValueRead : List ℕ → ℕ → ℕ → Value → ℕ → Type 0
+ValueRead s next from v p = TreeRead s next from (valueNumbers v) (valueRecords v) (ProperValue v) (valuePool v) p
 
 pub record AttributeRead (s : List ℕ) (next from : ℕ) (a : Attribute) (p : ℕ) : Type 0 where
   pub least : from + 1 ≤ p
@@ -220,9 +209,9 @@ module _ (s : List ℕ) (down : Count → ℕ → Reading Object) (below : (c : 
       (λ e. let b = token-past s from star h (lit< tt) e in got-holds n P any (t .end) (record { least = b .least; most = b .most; numbers = refl; room = λ m. omega arith; proper = tt; pool = sub-none _ }))
       (λ e. cond-holds n P (eqb (t .sort) typeName) _ _
       (λ f. then-holds n P (ObjectRead s (c .next) from) (down c from) _ (below c from h)
-        (λ o p q. got-holds n P (nested o) p (record { least = q .least; most = q .most; numbers = q .numbers; room = q .room; proper = q .proper; pool = q .pool })))
+      (λ o p q. got-holds n P (nested o) p q))
       (λ f. then-holds n P (LeafRead s (c .next) from) (Leaves.leaf s (c .next) (c .pool) from) _ (leaf-holds s (c .next) (c .pool) from h)
-        (λ l p q. got-holds n P (leaf l) p (record { least = q .least; most = q .most; numbers = q .numbers; room = q .room; proper = q .proper; pool = q .pool }))))
+      (λ l p q. got-holds n P (leaf l) p q)))
 
   attribute-holds : (seen : List (List ℕ)) (c : Count) (from : ℕ) → from ≤ length s → Holds (length s) (AttributeRead s (c .next) from) (attributeFrom s down seen c from)
   unfolding attributeFrom
@@ -246,18 +235,18 @@ module _ (s : List ℕ) (down : Count → ℕ → Reading Object) (below : (c : 
 
   -- an attribute before others: numbers and pool
   first-holds : (c : Count) (from p q : ℕ) (a : Attribute) (more : Attributes) → AttributeRead s (c .next) from a p → p ≤ q → q ≤ length s
-    → attributeNumbers more ≡ upFrom (past c a .next) (attributeRecords more) → (past c a .next ≤ recordLimit → past c a .next + attributeRecords more ≤ recordLimit) → ProperAttributes more
-    → Sub (attributePool more) (part s p q)
-    → AttributesRead s (c .next) from (attribute (c .next) (a .existence) (a .name) (a .value) more) q
+      → attributeNumbers more ≡ upFrom (past c a .next) (attributeRecords more) → (past c a .next ≤ recordLimit → past c a .next + attributeRecords more ≤ recordLimit) → ProperAttributes more
+      → Sub (attributePool more) (part s p q)
+      → AttributesRead s (c .next) from (attribute (c .next) (a .existence) (a .name) (a .value) more) q
   unfolding attributeNumbers attributeRecords attributePool ProperAttributes
   first-holds c from p q a more h l k ns room proper sub = record {
-      least = omega arith;
-      most = k;
-      numbers = ap (λ (xs : List ℕ). c .next ∷ xs) (rw (h .numbers, ns, up-append (valueRecords (a .value)) (attributeRecords more) (c .next + 1)));
-      room = λ m. let z = room (h .room m) in omega arith;
-      proper = (h .proper .0, h .proper .1, h .proper .2, proper);
-      pool = rw (← append-assoc (a .name) (valuePool (a .value)) (attributePool more)) (sub-join s from p q (omega arith) l (h .pool) sub);
-    }
+    least = omega arith;
+    most = k;
+    numbers = ap (λ (xs : List ℕ). c .next ∷ xs) (rw (h .numbers, ns, up-append (valueRecords (a .value)) (attributeRecords more) (c .next + 1)));
+    room = λ m. let z = room (h .room m) in omega arith;
+    proper = (h .proper .0, h .proper .1, h .proper .2, proper);
+    pool = rw (← append-assoc (a .name) (valuePool (a .value)) (attributePool more)) (sub-join s from p q (omega arith) l (h .pool) sub);
+  }
 
   pub attributes-holds : (fuel : ℕ) (seen : List (List ℕ)) (c : Count) (from : ℕ) → length s < from + fuel → from ≤ length s → Holds (length s) (AttributesRead s (c .next) from) (attributes s down fuel seen c from)
   unfolding attributes attributeNumbers attributeRecords attributePool ProperAttributes
@@ -268,10 +257,10 @@ module _ (s : List ℕ) (down : Count → ℕ → Reading Object) (below : (c : 
       then-holds n P (AttributeRead s (c .next) from) _ _ (attribute-holds seen c from h) (λ a p q.
       cond-holds n P (eqb (tokenAt s p .sort) closeBrace) _ _
       (λ e. let b = token-past s p closeBrace (q .most) (lit< tt) e in
-        got-holds n P _ (tokenAt s p .end) (first-holds c from p (tokenAt s p .end) a noMore q (omega arith) (b .most) refl (λ m. omega arith) tt (sub-none _)))
+      got-holds n P _ (tokenAt s p .end) (first-holds c from p (tokenAt s p .end) a noMore q (omega arith) (b .most) refl (λ m. omega arith) tt (sub-none _)))
       (λ e. then-holds n P (AttributesRead s (past c a .next) p) (attributes s down fuel (a .name ∷ seen) (past c a) p) _
-        (attributes-holds fuel (a .name ∷ seen) (past c a) p (omega arith) (q .most)) (λ xs r x.
-        got-holds n P _ r (first-holds c from p r a xs q (omega arith) (x .most) (x .numbers) (x .room) (x .proper) (x .pool)))))
+      (attributes-holds fuel (a .name ∷ seen) (past c a) p (omega arith) (q .most)) (λ xs r x.
+      got-holds n P _ r (first-holds c from p r a xs q (omega arith) (x .most) (x .numbers) (x .room) (x .proper) (x .pool)))))
 
   body-holds : (c : Count) (from : ℕ) → from ≤ length s → Holds (length s) (AttributesRead s (c .next) from) (body s down c from)
   unfolding attributeNumbers attributeRecords attributePool ProperAttributes
@@ -281,8 +270,8 @@ module _ (s : List ℕ) (down : Count → ℕ → Reading Object) (below : (c : 
       let t = tokenAt s from in
       cond-holds n P (eqb (t .sort) star) _ _
       (λ e. let b = token-past s from star h (lit< tt) e in
-        then-holds n P (Passed s (t .end)) _ _ (expect-passes s closeBrace (t .end) (b .most) (lit< tt)) (λ u p q.
-        got-holds n P noMore p (record { least = omega arith; most = q .inside; numbers = refl; room = λ m. omega arith; proper = tt; pool = sub-none _ })))
+      then-holds n P (Passed s (t .end)) _ _ (expect-passes s closeBrace (t .end) (b .most) (lit< tt)) (λ u p q.
+      got-holds n P noMore p (record { least = omega arith; most = q .inside; numbers = refl; room = λ m. omega arith; proper = tt; pool = sub-none _ })))
       (λ e. attributes-holds (n + 1) [] c from (omega arith) h)
 
   by-holds : (levels : ℕ) (c : Count) (from : ℕ) → from ≤ length s → Holds (length s) (ObjectRead s (c .next) from) (objectBy s levels down c from)
@@ -302,7 +291,7 @@ module _ (s : List ℕ) (down : Count → ℕ → Reading Object) (below : (c : 
         room = λ g. let f = q₀ .room in let e = m .room (omega arith) in omega arith;
         proper = (q₀ .proper, x .short, m .proper);
         pool = sub-join s from p w (omega arith) (omega arith) (spelling-sub s from p t q)
-          (sub-join s p r w (omega arith) (omega arith) (x .pool) (sub-wider s r y w w (omega arith) (omega arith) (omega arith) (m .pool)));
+            (sub-join s p r w (omega arith) (omega arith) (x .pool) (sub-wider s r y w w (omega arith) (omega arith) (omega arith) (m .pool)));
       })))))
 
 -- an object, at any level

@@ -50,7 +50,7 @@ module _ (s : List ℕ) where
       let f = type-token-found s from h in
       cond-holds n (Reaches from n) (eqb (t .sort) typeName) _ _
       (λ e. unless-holds n (Reaches from n) (ltb nameLimit (length (spelling s t))) TooLong (t .start) _ (omega arith) (λ g.
-        ending closeRound from (t .end) (spanOf t) (omega arith) (f .inside)))
+      ending closeRound from (t .end) (spanOf t) (omega arith) (f .inside)))
       (λ e. fault-holds s from t (Reaches from n) f)
 
   leaf-holds : (place from : ℕ) → from ≤ length s → Holds (length s) (Reaches from (length s)) (leafFrom s place (dataTokenAt s from))
@@ -61,9 +61,9 @@ module _ (s : List ℕ) where
       let f = data-token-found s from h in
       cond-holds n (Reaches from n) (eqb (t .sort) Tokens.string) _ _
       (λ e. unless-holds n (Reaches from n) (ltb stringLimit (length (inner s t))) TooLong (t .start) _ (omega arith) (λ g.
-        ending greater from (t .end) (string place (innerSpan t)) (omega arith) (f .inside)))
+      ending greater from (t .end) (string place (innerSpan t)) (omega arith) (f .inside)))
       (λ e. unless-holds n (Reaches from n) (not (good (spelling s t))) BadWord (t .start) _ (omega arith) (λ g.
-        ending greater from (t .end) (word place (spanOf t)) (omega arith) (f .inside)))
+      ending greater from (t .end) (word place (spanOf t)) (omega arith) (f .inside)))
 
 module _ (s : List ℕ) (down : Down) (below : (place : ℕ) (type : Option Span) (from : ℕ) → place ≤ length s → from ≤ length s → Holds (length s) (Reaches from (length s)) (down place type from)) where
   typed-holds : (type : Span) (low from : ℕ) → low ≤ from → from ≤ length s → Holds (length s) (Reaches low (length s)) (typed s down type from)
@@ -84,11 +84,11 @@ module _ (s : List ℕ) (down : Down) (below : (place : ℕ) (type : Option Span
       let leaf : Holds n P (leafFrom s (t .start) u) = holds-map n (Reaches (t .end) n) P _ (λ d r x. omega arith) (leaf-holds s (t .start) (t .end) (f .inside)) in
       cond-holds n P (eqb (t .sort) openRound) _ _
       (λ e. then-holds n P (Reaches (t .end) n) _ _ (type-holds s (t .end) (f .inside)) (λ w p q.
-        then-holds n P (Reaches from n) _ _ (typed-holds w from p (omega arith) (q .most)) (λ d r x. got-holds n P (inside d) r x)))
+      then-holds n P (Reaches from n) _ _ (typed-holds w from p (omega arith) (q .most)) (λ d r x. got-holds n P (inside d) r x)))
       (λ e. cond-holds n P (eqb (t .sort) less) _ _
       (λ g. cond-holds n P (eqb (u .sort) Tokens.string) _ _ (λ x. leaf) (λ x.
-        cond-holds n P (eqb (u .sort) wordRun) _ _ (λ y. leaf) (λ y.
-        then-holds n P (Reaches (t .end) n) _ _ (below (t .start) none (t .end) (omega arith) (f .inside)) (λ d r z. got-holds n P (inside d) r (omega arith)))))
+      cond-holds n P (eqb (u .sort) wordRun) _ _ (λ y. leaf) (λ y.
+      then-holds n P (Reaches (t .end) n) _ _ (below (t .start) none (t .end) (omega arith) (f .inside)) (λ d r z. got-holds n P (inside d) r (omega arith)))))
       (λ g. fault-holds s from t P f))
 
   name-holds : (seen : List (List ℕ)) (from : ℕ) → from ≤ length s → eqb (dataTokenAt s from .sort) name ≡ true → Holds (length s) (Reaches (from + 1) (length s)) (nameFrom s seen (dataTokenAt s from))
@@ -113,9 +113,9 @@ module _ (s : List ℕ) (down : Down) (below : (place : ℕ) (type : Option Span
       cond-holds n P (eqb (t .sort) greater) _ _ (λ e. got-holds n P noMore (t .end) (omega arith)) (λ e.
       cond-holds n P (eqb (t .sort) name) _ _
       (λ g. then-holds n P (Reaches (from + 1) n) _ _ (name-holds seen from h g) (λ w p q.
-        then-holds n P (Reaches p n) _ _ (content-holds p (q .most)) (λ x r y.
-        then-holds n P (Reaches r n) (members s down fuel (spelling s t ∷ seen) r) _ (members-holds fuel (spelling s t ∷ seen) r (omega arith) (y .most)) (λ ms z b.
-        got-holds n P (entry w x ms) z (omega arith)))))
+      then-holds n P (Reaches p n) _ _ (content-holds p (q .most)) (λ x r y.
+      then-holds n P (Reaches r n) (members s down fuel (spelling s t ∷ seen) r) _ (members-holds fuel (spelling s t ∷ seen) r (omega arith) (y .most)) (λ ms z b.
+      got-holds n P (entry w x ms) z (omega arith)))))
       (λ g. fault-holds s from t P f))
 
 pub block-holds : (s : List ℕ) (levels place : ℕ) (type : Option Span) (from : ℕ) → place ≤ length s → from ≤ length s → Holds (length s) (Reaches from (length s)) (blockFrom s levels place type from)
@@ -134,9 +134,9 @@ outermost-holds s =
     let f = data-token-found s 0 (omega arith) in
     cond-holds n (Reaches 0 n) (eqb (t .sort) openRound) _ _
     (λ e. then-holds n (Reaches 0 n) (Reaches (t .end) n) _ _ (type-holds s (t .end) (f .inside)) (λ w p q.
-      typed-holds s (blockFrom s levelLimit) (block-holds s levelLimit) w 0 p (omega arith) (q .most)))
+    typed-holds s (blockFrom s levelLimit) (block-holds s levelLimit) w 0 p (omega arith) (q .most)))
     (λ e. then-holds n (Reaches 0 n) (Taken s 0) _ _ (expect-holds s less 0 (omega arith)) (λ u p q.
-      holds-map n (Reaches p n) (Reaches 0 n) _ (λ d r x. omega arith) (block-holds s levelLimit (u .start) none p (omega arith) (q .inside))))
+    holds-map n (Reaches p n) (Reaches 0 n) _ (λ d r x. omega arith) (block-holds s levelLimit (u .start) none p (omega arith) (q .inside))))
 
 pub block-of-holds : (s : List ℕ) → Holds (length s) (Reaches 0 (length s)) (blockOf s)
 unfolding blockOf

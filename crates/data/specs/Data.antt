@@ -85,10 +85,10 @@ members s down zero seen from = refuse EndsEarly (length s + 1)
 members s down (suc fuel) seen from =
     let t = dataTokenAt s from in
     let more =
-        andThen (nameFrom s seen t) (λ w p.
-        andThen (contentFrom s down p) (λ x q.
-        andThen (members s down fuel (spelling s t ∷ seen) q) (λ ms r.
-        got (entry w x ms) r)))
+    andThen (nameFrom s seen t) (λ w p.
+    andThen (contentFrom s down p) (λ x q.
+    andThen (members s down fuel (spelling s t ∷ seen) q) (λ ms r.
+    got (entry w x ms) r)))
     in
     cond (eqb (t .sort) greater) (got noMore (t .end)) (cond (eqb (t .sort) name) more (syntaxFault t))
 

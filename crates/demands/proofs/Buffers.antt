@@ -29,8 +29,8 @@ unfolding compileAnswer
 compile-kept text little out r = by-reading (constraintOf text)
   where
     by-room : (b : Bool) (x : Refusal) (bs : List ℕ) (n : ℕ)
-      → cond b (Compile.compiling (Compile.refused x) out) (Compile.compiling (Compile.done n) bs) .answer ≡ Compile.refused r
-      → cond b (Compile.compiling (Compile.refused x) out) (Compile.compiling (Compile.done n) bs) .out ≡ out
+        → cond b (Compile.compiling (Compile.refused x) out) (Compile.compiling (Compile.done n) bs) .answer ≡ Compile.refused r
+        → cond b (Compile.compiling (Compile.refused x) out) (Compile.compiling (Compile.done n) bs) .out ≡ out
     by-room true x bs n e = refl
     by-room false x bs n e = let z : _≡_ {A = ℕ} 0 1 = cc in absurd (omega arith)
 
@@ -76,8 +76,8 @@ demand1 = record { compiling = compile-kept; merging = merge-kept }
 pub demand2 : Demand2
 unfolding compileAnswer
 demand2 = record {
-    accepted = λ text tree end little out e h.
-        let b : ltb (length out) (length (tableOf little tree)) ≡ false = le-ltb (length out) (length (tableOf little tree)) h in
-        rw (e, b) (refl, take-append-seam (tableOf little tree) (drop (length (tableOf little tree)) out), drop-append-seam (tableOf little tree) (drop (length (tableOf little tree)) out));
-    refused = λ text r little out e. rw e;
-  }
+  accepted = λ text tree end little out e h.
+      let b : ltb (length out) (length (tableOf little tree)) ≡ false = le-ltb (length out) (length (tableOf little tree)) h in
+      rw (e, b) (refl, take-append-seam (tableOf little tree) (drop (length (tableOf little tree)) out), drop-append-seam (tableOf little tree) (drop (length (tableOf little tree)) out));
+  refused = λ text r little out e. rw e;
+}

@@ -116,8 +116,8 @@ step-carries o s c h = by-side (s .carriedFirst)
         (rw e at (merge-gives (s .other) (c .table) (s .little) (s .out) size shifts (rw e f)))
 
     by-side : (b : Bool)
-      → let m = cond b (mergeAnswer (c .table) (s .other) (s .little) (s .out)) (mergeAnswer (s .other) (c .table) (s .little) (s .out)) in
-      Carries o (behind b c (m .out) (m .answer))
+        → let m = cond b (mergeAnswer (c .table) (s .other) (s .little) (s .out)) (mergeAnswer (s .other) (c .table) (s .little) (s .out)) in
+        Carries o (behind b c (m .out) (m .answer))
     by-side true = by-first _ refl _ refl
     by-side false = by-second _ refl _ refl
 
@@ -137,20 +137,20 @@ judge-carried o c p h form = rw (h .passes, h .tree) (datum-moved o (c .sum) p (
 
 -- the table that compiling wrote
 written-table : (little : Bool) (out : List ℕ) (end size : ℕ) (o : Object) (p : ℕ) → write little out end (got o p) .answer ≡ Compile.done size
-  → take size (write little out end (got o p) .out) ≡ tableOf little o
+    → take size (write little out end (got o p) .out) ≡ tableOf little o
 written-table little out end size o p = by-room (ltb (length out) (length (tableOf little o)))
   where
     by-room : (b : Bool)
-      → let c = cond b (Compile.compiling (Compile.refused (record { cause = OutputTooShort; place = end })) out)
-          (Compile.compiling (Compile.done (length (tableOf little o))) (tableOf little o ++ drop (length (tableOf little o)) out)) in
-      c .answer ≡ Compile.done size → take size (c .out) ≡ tableOf little o
+        → let c = cond b (Compile.compiling (Compile.refused (record { cause = OutputTooShort; place = end })) out)
+        (Compile.compiling (Compile.done (length (tableOf little o))) (tableOf little o ++ drop (length (tableOf little o)) out)) in
+        c .answer ≡ Compile.done size → take size (c .out) ≡ tableOf little o
     by-room true f = let z : _≡_ {A = ℕ} 0 1 = cc in absurd (omega arith)
     by-room false f = let n : length (tableOf little o) ≡ size = cc in rw (← n) (take-append-seam (tableOf little o) (drop (length (tableOf little o)) out))
 
 by-reading : (text : List ℕ) (little : Bool) (out : List ℕ) (size : ℕ) (steps : List Step) (form : List ℕ) (x : Reading Object) → constraintOf text ≡ x
-  → write little out (length text) x .answer ≡ Compile.done size
-  → let c = afterSteps steps (carried (take size (write little out (length text) x .out)) 0) in
-  judgeAnswer (c .table) (1 + c .sum) form ≡ movedAnswer (c .sum) (meaningBy x form)
+    → write little out (length text) x .answer ≡ Compile.done size
+    → let c = afterSteps steps (carried (take size (write little out (length text) x .out)) 0) in
+    judgeAnswer (c .table) (1 + c .sum) form ≡ movedAnswer (c .sum) (meaningBy x form)
 by-reading text little out size steps form (Reading.refused r) q e = let z : _≡_ {A = ℕ} 0 1 = cc in absurd (omega arith)
 by-reading text little out size steps form (got o p) q e =
     let c = carried (tableOf little o) 0 in

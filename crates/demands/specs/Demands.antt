@@ -30,15 +30,15 @@ meaningOf text form = meaningBy (constraintOf text) form
 pub record Demand1 : Type 0 where
   pub compiling : (text : List ℕ) (little : Bool) (out : List ℕ) (r : Refusal) → compileAnswer text little out .answer ≡ Compile.refused r → compileAnswer text little out .out ≡ out
   pub merging : (first second : List ℕ) (little : Bool) (out : List ℕ) (table : ℕ) (r : Refusal)
-    → mergeAnswer first second little out .answer ≡ Answer.refused table r → mergeAnswer first second little out .out ≡ out
+      → mergeAnswer first second little out .answer ≡ Answer.refused table r → mergeAnswer first second little out .out ≡ out
 
 -- Demand 2: a text is accepted exactly when the rules read a tree from it; then, where the output has room, the table written is that tree's, and what lies behind it stays.
 pub record Demand2 : Type 0 where
   pub accepted : (text : List ℕ) (tree : Object) (end : ℕ) (little : Bool) (out : List ℕ)
-    → constraintOf text ≡ got tree end → length (tableOf little tree) ≤ length out
-    → (compileAnswer text little out .answer ≡ Compile.done (length (tableOf little tree)))
-    × (take (length (tableOf little tree)) (compileAnswer text little out .out) ≡ tableOf little tree)
-    × (drop (length (tableOf little tree)) (compileAnswer text little out .out) ≡ drop (length (tableOf little tree)) out)
+      → constraintOf text ≡ got tree end → length (tableOf little tree) ≤ length out
+      → (compileAnswer text little out .answer ≡ Compile.done (length (tableOf little tree)))
+      × (take (length (tableOf little tree)) (compileAnswer text little out .out) ≡ tableOf little tree)
+      × (drop (length (tableOf little tree)) (compileAnswer text little out .out) ≡ drop (length (tableOf little tree)) out)
   pub refused : (text : List ℕ) (r : Refusal) (little : Bool) (out : List ℕ) → constraintOf text ≡ Reading.refused r → compileAnswer text little out .answer ≡ Compile.refused r
 
 -- Demand 3: take any text that compiling accepts, into either order, then any list of merges, refused ones included. Judging any data by the carried table, lent alone, at record

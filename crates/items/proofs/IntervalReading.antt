@@ -59,7 +59,7 @@ widen asked low at high r h k =
 
 module _ (s : List ℕ) where
   possible-holds : (kind at : ℕ) (t : Token) (o : Option ℕ) → ((v : ℕ) → o ≡ some v → Value kind v) → t .start ≤ length s → From (at + 1) (length s) (t .end)
-    → Holds (length s) (Literal kind (at + 1) (length s)) (possible t o)
+      → Holds (length s) (Literal kind (at + 1) (length s)) (possible t o)
   possible-holds kind at t none g h f = refuse-holds (length s) (Literal kind (at + 1) (length s)) Impossible (t .start) h
   possible-holds kind at t (some v) g h f = got-holds (length s) (Literal kind (at + 1) (length s)) v (t .end) (record { least = f .least; most = f .most; value = g v refl })
 
@@ -90,8 +90,8 @@ inside-true false h = sym h
 module _ (s : List ℕ) (asked kind : ℕ) (k : Kind kind) (same : asked ≢ undecided → kind ≡ asked) where
   -- a literal, and what is made of it
   then-literal : (at low : ℕ) (go : ℕ → ℕ → Reading Ends) → at ≤ length s → low ≤ at
-    → ((a p : ℕ) → Value kind a → at + 1 ≤ p → p ≤ length s → Holds (length s) (Open asked (low + 1) (length s)) (go a p))
-    → Holds (length s) (Open asked (low + 1) (length s)) (andThen (literal s kind at) go)
+      → ((a p : ℕ) → Value kind a → at + 1 ≤ p → p ≤ length s → Holds (length s) (Open asked (low + 1) (length s)) (go a p))
+      → Holds (length s) (Open asked (low + 1) (length s)) (andThen (literal s kind at) go)
   then-literal at low go h l f =
       then-holds (length s) (Open asked (low + 1) (length s)) (Literal kind (at + 1) (length s)) (literal s kind at) go (literal-holds s kind at (kind-strict kind k) h)
       (λ a p q. f a p (q .value) (q .least) (q .most))
@@ -109,7 +109,7 @@ module _ (s : List ℕ) (asked kind : ℕ) (k : Kind kind) (same : asked ≢ und
   up-to-holds a at l h =
       cond-holds (length s) (Open asked (at + 1) (length s)) (eqb (tokenAt s at .sort) less) _ _
       (λ e. let f = token-past s at less h (lit< tt) e in
-        then-literal (tokenAt s at .end) at _ (f .most) (omega arith) (λ b p v q r. reached at a b true p (record { low = l; high = v }) (omega arith) r))
+      then-literal (tokenAt s at .end) at _ (f .most) (omega arith) (λ b p v q r. reached at a b true p (record { low = l; high = v }) (omega arith) r))
       (λ e. then-literal at at _ h (omega arith) (λ b p v q r. reached at a b false p (record { low = l; high = v }) q r))
 
   -- what stands behind a literal that ends at `at`: it may be nothing
@@ -122,7 +122,7 @@ module _ (s : List ℕ) (asked kind : ℕ) (k : Kind kind) (same : asked ≢ und
 
   -- `+/-` stands in a list of integers, so the kind is that of integers
   spread-reached : (low p a c : ℕ) → kind ≢ date → cond (inside a c) false true ≡ false → a ≤ greatest → low + 1 ≤ p → p ≤ length s
-    → Holds (length s) (Open asked (low + 1) (length s)) (got (ends integer (around a c .low) (around a c .high) false) p)
+      → Holds (length s) (Open asked (low + 1) (length s)) (got (ends integer (around a c .low) (around a c .high) false) p)
   spread-reached low p a c n z b h l =
       let e = k n in
       got-holds (length s) (Open asked (low + 1) (length s)) _ p
@@ -137,20 +137,20 @@ module _ (s : List ℕ) (asked kind : ℕ) (k : Kind kind) (same : asked ≢ und
       cond-holds n (Open asked (low + 1) n) (eqb (t .sort) dots) _ _
       (λ e. let g = token-past s at dots h (lit< tt) e in widen asked (low + 1) (t .end + 1) n _ (omega arith) (up-to-holds a (t .end) (λ d m. v .day d) (g .most)))
       (λ e. cond-holds n (Open asked (low + 1) n) (eqb (t .sort) plusMinus) _ _
-        (λ d. let g = token-past s at plusMinus h (lit< tt) d in
-          cond-holds n (Open asked (low + 1) n) (eqb kind date) _ _
-          (λ x. fault-holds s at t (Open asked (low + 1) n) f)
-          (λ x. let u = token-found s (t .end) (g .most) in
-            then-holds n (Open asked (low + 1) n) (Literal integer (t .end + 1) n) (literal s integer (t .end)) _ (literal-holds s integer (t .end) (lit< tt) (g .most)) (λ c p y.
-            unless-holds n (Open asked (low + 1) n) (cond (inside a c) false true) OutOfRange (tokenAt s (t .end) .start) _ (omega arith) (λ z.
-            spread-reached low p a c (eqb-false kind date x) z (v .number (eqb-false kind date x)) (omega arith) (y .most)))))
-        (λ d. reached low a a false at (record { low = λ q m. v .day q; high = v }) l h))
+      (λ d. let g = token-past s at plusMinus h (lit< tt) d in
+      cond-holds n (Open asked (low + 1) n) (eqb kind date) _ _
+      (λ x. fault-holds s at t (Open asked (low + 1) n) f)
+      (λ x. let u = token-found s (t .end) (g .most) in
+      then-holds n (Open asked (low + 1) n) (Literal integer (t .end + 1) n) (literal s integer (t .end)) _ (literal-holds s integer (t .end) (lit< tt) (g .most)) (λ c p y.
+      unless-holds n (Open asked (low + 1) n) (cond (inside a c) false true) OutOfRange (tokenAt s (t .end) .start) _ (omega arith) (λ z.
+      spread-reached low p a c (eqb-false kind date x) z (v .number (eqb-false kind date x)) (omega arith) (y .most)))))
+      (λ d. reached low a a false at (record { low = λ q m. v .day q; high = v }) l h))
 
 module _ (s : List ℕ) (asked : ℕ) (ok : Asked asked) where
   -- a literal of the kind asked, or of either where that is open
   with-holds : (low at : ℕ) (go : ℕ → ℕ → ℕ → Reading Ends) → low ≤ at → at ≤ length s
-    → ((k a p : ℕ) → Kind k → (asked ≢ undecided → k ≡ asked) → Value k a → at + 1 ≤ p → p ≤ length s → Holds (length s) (Open asked (low + 1) (length s)) (go k a p))
-    → Holds (length s) (Open asked (low + 1) (length s)) (withLiteral s asked at go)
+      → ((k a p : ℕ) → Kind k → (asked ≢ undecided → k ≡ asked) → Value k a → at + 1 ≤ p → p ≤ length s → Holds (length s) (Open asked (low + 1) (length s)) (go k a p))
+      → Holds (length s) (Open asked (low + 1) (length s)) (withLiteral s asked at go)
   with-holds low at go l h f =
       let k = kindBy asked (tokenAt s at) in
       let d = kind-decided asked (tokenAt s at) ok in
@@ -159,7 +159,7 @@ module _ (s : List ℕ) (asked : ℕ) (ok : Asked asked) where
 
   -- one mark and one literal
   simple : (at sort : ℕ) (a b : ℕ → ℕ → ℕ) (below : Bool) → ((k v : ℕ) → Value k v → EndsGood (ends k (a k v) (b k v) below)) → at ≤ length s → 1 < sort → eqb (tokenAt s at .sort) sort ≡ true
-    → Holds (length s) (Open asked (at + 1) (length s)) (withLiteral s asked (tokenAt s at .end) (λ k v p. got (ends k (a k v) (b k v) below) p))
+      → Holds (length s) (Open asked (at + 1) (length s)) (withLiteral s asked (tokenAt s at .end) (λ k v p. got (ends k (a k v) (b k v) below) p))
   simple at sort a b below good h l e =
       let f = token-past s at sort h l e in
       with-holds at (tokenAt s at .end) (λ k v p. got (ends k (a k v) (b k v) below) p) (omega arith) (f .most)

@@ -36,23 +36,21 @@ use Rattle.items.proofs.IntervalReading.{token-past}
 use Rattle.items.proofs.Pairs.{Kind, ProperPair}
 use Rattle.items.proofs.RangeReading.{ProperRange, Listed, ranges-holds}
 
--- strings that were read from a place on
-pub record Texts (s : List ℕ) (number from : ℕ) (l : List Text) (p : ℕ) : Type 0 where
+-- a tree that was read from a place on up to p, the first record's number given: the numbers and the count of its records, what makes it proper, and its pool bytes
+pub record TreeRead (s : List ℕ) (next from : ℕ) (ns : List ℕ) (records : ℕ) (Proper : Type 0) (bs : List ℕ) (p : ℕ) : Type 0 where
   pub least : from + 1 ≤ p
   pub most : p ≤ length s
-  pub numbers : textNumbers l ≡ upFrom number (length l)
-  pub room : number ≤ recordLimit → number + length l ≤ recordLimit
-  pub proper : Some ProperString l
-  pub pool : Sub (textPool l) (part s from p)
+  pub numbers : ns ≡ upFrom next records
+  pub room : next ≤ recordLimit → next + records ≤ recordLimit
+  pub proper : Proper
+  pub pool : Sub bs (part s from p)
 
--- a leaf that was read from a place on
-pub record LeafRead (s : List ℕ) (number from : ℕ) (l : Leaf) (p : ℕ) : Type 0 where
-  pub least : from + 1 ≤ p
-  pub most : p ≤ length s
-  pub numbers : leafNumbers l ≡ upFrom number (leafRecords l)
-  pub room : number ≤ recordLimit → number + leafRecords l ≤ recordLimit
-  pub proper : ProperLeaf l
-  pub pool : Sub (leafPool l) (part s from p)
+abbrev pub LeafRead : List ℕ → ℕ → ℕ → Leaf → ℕ → Type 0
+LeafRead s number from l p = TreeRead s number from (leafNumbers l) (leafRecords l) (ProperLeaf l) (leafPool l) p
+
+-- strings that were read from a place on
+abbrev pub Texts : List ℕ → ℕ → ℕ → List Text → ℕ → Type 0
+Texts s number from l p = TreeRead s number from (textNumbers l) (length l) (Some ProperString l) (textPool l) p
 
 -- a string's token
 pub record StringToken (s : List ℕ) (from : ℕ) (t : Token) (p : ℕ) : Type 0 where
@@ -73,8 +71,8 @@ module _ (s : List ℕ) where
 
   -- behind a string: what holds of the strings that follow holds with it
   more-holds : (number from p : ℕ) (t : Token) (more : ℕ → Reading (List Text)) → number ≢ recordLimit → StringToken s from t p
-    → ((q : ℕ) → from + 1 ≤ q → q ≤ length s → Holds (length s) (Texts s (number + 1) q) (more q))
-    → Holds (length s) (Texts s number from) (goOnStrings s (record { number = number; text = inner s t }) more p)
+      → ((q : ℕ) → from + 1 ≤ q → q ≤ length s → Holds (length s) (Texts s (number + 1) q) (more q))
+      → Holds (length s) (Texts s number from) (goOnStrings s (record { number = number; text = inner s t }) more p)
   more-holds number from p t more w g k =
       let n = length s in
       let P = Texts s number from in
@@ -82,16 +80,16 @@ module _ (s : List ℕ) where
       let x = inner-sub from p t h in
       cond-holds n P (eqb (tokenAt s p .sort) comma) _ _
       (λ e. let b = token-past s p comma (h .inside) (lit< tt) e in
-        let y = sub-wider s from from p (tokenAt s p .end) (omega arith) (omega arith) (omega arith) x in
-        then-holds n P (Texts s (number + 1) (tokenAt s p .end)) (more (tokenAt s p .end)) _ (k (tokenAt s p .end) (omega arith) (b .most))
-        (λ l q z. got-holds n P _ q (record {
-          least = omega arith;
-          most = z .most;
-          numbers = ap (λ (xs : List ℕ). number ∷ xs) (z .numbers);
-          room = λ m. let r = z .room (omega arith) in omega arith;
-          proper = (omega arith, (g .short, z .proper .1));
-          pool = sub-join s from (tokenAt s p .end) q (omega arith) (omega arith) y (z .pool);
-        })))
+      let y = sub-wider s from from p (tokenAt s p .end) (omega arith) (omega arith) (omega arith) x in
+      then-holds n P (Texts s (number + 1) (tokenAt s p .end)) (more (tokenAt s p .end)) _ (k (tokenAt s p .end) (omega arith) (b .most))
+      (λ l q z. got-holds n P _ q (record {
+        least = omega arith;
+        most = z .most;
+        numbers = ap (λ (xs : List ℕ). number ∷ xs) (z .numbers);
+        room = λ m. let r = z .room (omega arith) in omega arith;
+        proper = (omega arith, (g .short, z .proper .1));
+        pool = sub-join s from (tokenAt s p .end) q (omega arith) (omega arith) y (z .pool);
+      })))
       (λ e. got-holds n P _ p (record {
         least = omega arith;
         most = h .inside;
@@ -119,7 +117,7 @@ module _ (s : List ℕ) where
 
   -- a leaf of one record
   single : (number from p : ℕ) (l : Leaf) → leafNumbers l ≡ number ∷ [] → leafRecords l ≡ 1 → leafPool l ≡ [] → ProperLeaf l → number ≢ recordLimit → from + 1 ≤ p → p ≤ length s
-    → Holds (length s) (LeafRead s number from) (got l p)
+      → Holds (length s) (LeafRead s number from) (got l p)
   single number from p l a b c g w h k =
       got-holds (length s) (LeafRead s number from) l p
       (record { least = h; most = k; numbers = rw (a, b); room = λ m. rw b (omega arith); proper = g; pool = rw c (sub-none _) })
@@ -143,8 +141,8 @@ module _ (s : List ℕ) where
       let f = token-found s from h in
       cond-holds n (LeafRead s number low) (isBoolean t) _ _
       (λ e. let g = boolean-strict t from f e in
-        unless-holds n (LeafRead s number low) (eqb (booleanFlag t) flag) Overlap (t .start) _ (omega arith) (λ x.
-        single number low (t .end) (booleans number 3) refl refl refl (omega arith) w (omega arith) (f .inside)))
+      unless-holds n (LeafRead s number low) (eqb (booleanFlag t) flag) Overlap (t .start) _ (omega arith) (λ x.
+      single number low (t .end) (booleans number 3) refl refl refl (omega arith) w (omega arith) (f .inside)))
       (λ e. fault-holds s from t (LeafRead s number low) f)
 
   boolean-holds : (number from : ℕ) → number ≢ recordLimit → from ≤ length s → isBoolean (tokenAt s from) ≡ true → Holds (length s) (LeafRead s number from) (booleanList s number (tokenAt s from))
@@ -170,16 +168,28 @@ module _ (s : List ℕ) where
   range-leaf number from p l h = by-kind (eqb (l .kind) date) refl
     where
       by-kind : (b : Bool) → eqb (l .kind) date ≡ b → LeafRead s number from (cond b (dates (l .items)) (integers (l .items))) p
-      by-kind true e = record { least = h .least; most = h .most; numbers = h .numbers; room = h .room;
-        proper = (h .proper .0, dates-proper (l .kind) (eqb-true _ _ e) (l .items) (h .proper .1)); pool = sub-none _ }
-      by-kind false e = record { least = h .least; most = h .most; numbers = h .numbers; room = h .room;
-        proper = (h .proper .0, integers-proper (l .kind) (eqb-false _ _ e) (l .items) (h .proper .1)); pool = sub-none _ }
+      by-kind true e = record {
+        least = h .least;
+        most = h .most;
+        numbers = h .numbers;
+        room = h .room;
+        proper = (h .proper .0, dates-proper (l .kind) (eqb-true _ _ e) (l .items) (h .proper .1));
+        pool = sub-none _;
+      }
+      by-kind false e = record {
+        least = h .least;
+        most = h .most;
+        numbers = h .numbers;
+        room = h .room;
+        proper = (h .proper .0, integers-proper (l .kind) (eqb-false _ _ e) (l .items) (h .proper .1));
+        pool = sub-none _;
+      }
 
   -- a pattern's sort is from 31 or 41 on, and its flag is counted from there
   pattern-holds : (first most number from : ℕ) (make : ℕ → ℕ → Leaf) (t : Token) → 0 < first → Found s from t → within (first + 1) (first + most) (t .sort) ≡ true
-    → ((f : ℕ) → leafNumbers (make number f) ≡ number ∷ []) → ((f : ℕ) → leafRecords (make number f) ≡ 1) → ((f : ℕ) → leafPool (make number f) ≡ [])
-    → ((f : ℕ) → (1 ≤ f) × (f ≤ most) → ProperLeaf (make number f)) → number ≢ recordLimit
-    → Holds (length s) (LeafRead s number from) (got (make number (patternFlag first t)) (t .end))
+      → ((f : ℕ) → leafNumbers (make number f) ≡ number ∷ []) → ((f : ℕ) → leafRecords (make number f) ≡ 1) → ((f : ℕ) → leafPool (make number f) ≡ [])
+      → ((f : ℕ) → (1 ≤ f) × (f ≤ most) → ProperLeaf (make number f)) → number ≢ recordLimit
+      → Holds (length s) (LeafRead s number from) (got (make number (patternFlag first t)) (t .end))
   pattern-holds first most number from make t k f e a b c d w =
       let l = leb-true (first + 1) (t .sort) (and-left _ _ e) in
       let m = leb-true (t .sort) (first + most) (and-right (leb (first + 1) (t .sort)) _ e) in
@@ -194,14 +204,14 @@ module _ (s : List ℕ) where
       let t = tokenAt s from in
       let f = token-found s from h in
       let room : (more : Reading Leaf) → (number ≢ recordLimit → Holds n P more) → Holds n P (cond (eqb number recordLimit) _ more) =
-          λ more k. unless-holds n P (eqb number recordLimit) TooManyRecords (t .start) more (omega arith) (λ e. k (eqb-false number recordLimit e)) in
+      λ more k. unless-holds n P (eqb number recordLimit) TooManyRecords (t .start) more (omega arith) (λ e. k (eqb-false number recordLimit e)) in
       cond-holds n P (isBoolean t) _ _ (λ e. room _ (λ w. boolean-holds number from w h e)) (λ e.
       cond-holds n P (eqb (t .sort) integer || eqb (t .sort) bar) _ _
       (λ g. then-holds n P (Listed s undecided number from) (ranges s itemLimit undecided number [] from) _ (ranges-holds s itemLimit undecided number [] from (λ m. absurd (m refl)) h)
-        (λ l p q. got-holds n P (rangeLeaf l) p (range-leaf number from p l q)))
+      (λ l p q. got-holds n P (rangeLeaf l) p (range-leaf number from p l q)))
       (λ g. cond-holds n P (eqb (t .sort) string) _ _
       (λ x. then-holds n P (Texts s number from) (strings s itemLimit number pool [] from) _ (strings-holds itemLimit number pool [] from h)
-        (λ l p q. got-holds n P (Constraints.strings l) p (record { least = q .least; most = q .most; numbers = q .numbers; room = q .room; proper = q .proper; pool = q .pool })))
+      (λ l p q. got-holds n P (Constraints.strings l) p q))
       (λ x. cond-holds n P (within 31 35 (t .sort)) _ _
       (λ y. room _ (pattern-holds Spelling.datePattern 5 number from datePattern t (lit< tt) f y (λ g. refl) (λ g. refl) (λ g. refl) (λ g z. z)))
       (λ y. cond-holds n P (within 41 44 (t .sort)) _ _

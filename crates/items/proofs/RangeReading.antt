@@ -61,12 +61,12 @@ module _ (s : List ℕ) where
       let f = token-found s from h in
       cond-holds n P (eqb (t .sort) bar) _ _
       (λ e. let b = token-past s from bar h (lit< tt) e in
-        got-holds n P _ (t .end) (record { place = omega arith; value = λ z. absurd (false≢true z); least = b .least; most = b .most }))
+      got-holds n P _ (t .end) (record { place = omega arith; value = λ z. absurd (false≢true z); least = b .least; most = b .most }))
       (λ e. cond-holds n P (eqb (t .sort) integer && not (eqb asked date)) _ _
-        (λ g. let d : asked ≢ date = eqb-false asked date (not-true (eqb asked date) (and-right (eqb (t .sort) integer) _ g)) in
-          then-holds n P (Literal integer (from + 1) n) (literal s integer from) _ (literal-holds s integer from (lit< tt) h)
-          (λ v p q. got-holds n P _ p (record { place = omega arith; value = λ z. (q .value .number (eqb-false integer date refl), d); least = q .least; most = q .most })))
-        (λ g. fault-holds s from t P f))
+      (λ g. let d : asked ≢ date = eqb-false asked date (not-true (eqb asked date) (and-right (eqb (t .sort) integer) _ g)) in
+      then-holds n P (Literal integer (from + 1) n) (literal s integer from) _ (literal-holds s integer from (lit< tt) h)
+      (λ v p q. got-holds n P _ p (record { place = omega arith; value = λ z. (q .value .number (eqb-false integer date refl), d); least = q .least; most = q .most })))
+      (λ g. fault-holds s from t P f))
 
   -- a value is a pair of itself
   single-proper : (v : ℕ) → v ≤ greatest → ProperPair integer (pair v v)
@@ -80,31 +80,31 @@ module _ (s : List ℕ) where
       let P = Shut asked (from + 1) n in
       cond-holds n P (x .single) _ _
       (λ e. let v = h .value e in
-        got-holds n P _ p (record { least = h .least; most = h .most; kind = λ d. refl; same = λ m. sym (ok m (v .1)); proper = single-proper (x .value) (v .0) }))
+      got-holds n P _ p (record { least = h .least; most = h .most; kind = λ d. refl; same = λ m. sym (ok m (v .1)); proper = single-proper (x .value) (v .0) }))
       (λ e. holds-map n (Shut asked (p + 1) n) P (interval s asked p)
-        (λ i q k. record { least = omega arith; most = k .most; kind = k .kind; same = k .same; proper = k .proper }) (interval-holds s asked ok p (h .most)))
+      (λ i q k. record { least = omega arith; most = k .most; kind = k .kind; same = k .same; proper = k .proper }) (interval-holds s asked ok p (h .most)))
 
   -- behind an item: what holds of the items that follow holds with it
   more-holds : (asked number from p : ℕ) (i : Interval) (more : ℕ → Reading Ranges) → number ≢ recordLimit → Shut asked (from + 1) (length s) i p
-    → ((q : ℕ) → from + 1 ≤ q → q ≤ length s → Holds (length s) (Listed s (i .kind) (number + 1) q) (more q))
-    → Holds (length s) (Listed s asked number from) (goOn s number i more p)
+      → ((q : ℕ) → from + 1 ≤ q → q ≤ length s → Holds (length s) (Listed s (i .kind) (number + 1) q) (more q))
+      → Holds (length s) (Listed s asked number from) (goOn s number i more p)
   more-holds asked number from p i more w h k =
       let n = length s in
       let P = Listed s asked number from in
       cond-holds n P (eqb (tokenAt s p .sort) comma) _ _
       (λ e. let b = token-past s p comma (h .most) (lit< tt) e in
-        then-holds n P (Listed s (i .kind) (number + 1) (tokenAt s p .end)) (more (tokenAt s p .end)) _ (k (tokenAt s p .end) (omega arith) (b .most))
-        (λ l q x.
-          let c : l .kind ≡ i .kind = x .same (λ z. absurd (undecided-not (i .kind) (h .kind) z)) in
-          got-holds n P _ q (record {
-            least = omega arith;
-            most = x .most;
-            numbers = ap (λ (xs : List ℕ). number ∷ xs) (x .numbers);
-            room = λ m. let y = x .room (omega arith) in omega arith;
-            kind = x .kind;
-            same = λ m. c ∙ h .same m;
-            proper = (omega arith, (rw c (h .proper), x .proper .1));
-          })))
+      then-holds n P (Listed s (i .kind) (number + 1) (tokenAt s p .end)) (more (tokenAt s p .end)) _ (k (tokenAt s p .end) (omega arith) (b .most))
+      (λ l q x.
+      let c : l .kind ≡ i .kind = x .same (λ z. absurd (undecided-not (i .kind) (h .kind) z)) in
+      got-holds n P _ q (record {
+        least = omega arith;
+        most = x .most;
+        numbers = ap (λ (xs : List ℕ). number ∷ xs) (x .numbers);
+        room = λ m. let y = x .room (omega arith) in omega arith;
+        kind = x .kind;
+        same = λ m. c ∙ h .same m;
+        proper = (omega arith, (rw c (h .proper), x .proper .1));
+      })))
       (λ e. got-holds n P _ p (record { least = h .least; most = h .most; numbers = refl; room = λ m. omega arith; kind = h .kind; same = h .same; proper = (omega arith, (h .proper, tt)) }))
 
   pub ranges-holds : (left asked number : ℕ) (seen : List Pair) (from : ℕ) → Asked asked → from ≤ length s → Holds (length s) (Listed s asked number from) (ranges s left asked number seen from)

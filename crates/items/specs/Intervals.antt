@@ -9,7 +9,7 @@ use lib.Dec.{eqb, leb, ltb}
 use Rattle.lexis.specs.Spelling.{bar, dots, less, greater, atMost, atLeast, plusMinus}
 use Rattle.lexis.specs.Tokens.{tokenAt, integer, date, spelling}
 use Rattle.lexis.specs.declared.Token.{Token}
-use Rattle.values.specs.Integers.{integerOf, Pair, pair, inside, around} 
+use Rattle.values.specs.Integers.{integerOf, Pair, pair, inside, around}
 use Rattle.values.specs.Integers
 use Rattle.values.specs.Calendar.{dayAfter, dayBefore, firstDay, lastDay}
 use Rattle.values.specs.Dates.{Date, dateOf}

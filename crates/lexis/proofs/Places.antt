@@ -100,7 +100,7 @@ module _ (s : List ℕ) (at : ℕ) where
   spelled-spans (l ∷ ls) t h ne p =
       spans-cond (startsWith (l .spelling) (drop at s)) _ _
       (λ e. let g = starts-long (l .spelling) (drop at s) e in let d = length-drop at s in
-        to-spans (l .sort) (at + length (l .spelling)) (omega (arith, ne .0)) (omega arith))
+      to-spans (l .sort) (at + length (l .spelling)) (omega (arith, ne .0)) (omega arith))
       (λ e. spelled-spans ls t h (ne .1) p)
 
 -- a byte other than 0 stands in the text
@@ -132,7 +132,7 @@ small-word b e = rw e
 pub code-between : (bs : List ℕ) (some : Bool) (at : ℕ) → codeEnd some at bs ≢ 0 → (at < codeEnd some at bs) × (codeEnd some at bs ≤ at + length bs)
 unfolding codeEnd
 code-between [] some at = λ n. absurd (n refl)
-code-between (b ∷ bs) some at = 
+code-between (b ∷ bs) some at =
     by-cond (λ x. x ≢ 0 → (at < x) × (x ≤ at + suc (length bs))) (is digit b || eqb b (byte ".") && some)
     (λ e n. let g = code-between bs (is digit b) (at + 1) n in omega arith)
     (λ e. by-cond (λ x. x ≢ 0 → (at < x) × (x ≤ at + suc (length bs))) (eqb b (byte "]") && some) (λ f n. omega arith) (λ f n. absurd (n refl)))
@@ -162,21 +162,21 @@ module _ (s : List ℕ) (at : ℕ) (h : at < length s) where
       let b = run-between s (at + 1) (omega arith) stringByte in
       spans-cond s at (eqb (byteAt s (past stringByte (at + 1) (drop (at + 1) s))) (byte "\"")) _ _
       (λ f. let g = byte-inside s (past stringByte (at + 1) (drop (at + 1) s)) (byte "\"") (eqb-true _ _ f) (λ z. eqb-false (byte "\"") 0 refl z) in
-        to-spans s at string _ (omega arith) (omega arith))
+      to-spans s at string _ (omega arith) (omega arith))
       (λ f. none-spans s at (omega arith))
 
   bracket-spans : Spans s at (bracket s at)
   bracket-spans =
       spans-cond s at (startsWith codeStart (drop at s)) _ _
       (λ e.
-        spans-cond s at (eqb (codeEnd false (at + 3) (drop (at + 3) s)) 0) _ _
-        (λ f. none-spans s at (omega arith))
-        (λ f.
-          let g = starts-long codeStart (drop at s) e in
-          let d = length-drop at s in
-          let c = length-drop (at + 3) s in
-          let k = code-between (drop (at + 3) s) false (at + 3) (eqb-false _ 0 f) in
-          to-spans s at code _ (omega arith) (omega arith)))
+      spans-cond s at (eqb (codeEnd false (at + 3) (drop (at + 3) s)) 0) _ _
+      (λ f. none-spans s at (omega arith))
+      (λ f.
+      let g = starts-long codeStart (drop at s) e in
+      let d = length-drop at s in
+      let c = length-drop (at + 3) s in
+      let k = code-between (drop (at + 3) s) false (at + 3) (eqb-false _ 0 f) in
+      to-spans s at code _ (omega arith) (omega arith)))
       (λ e. none-spans s at (omega arith))
 
   special-spans : Spans s at (special s at)

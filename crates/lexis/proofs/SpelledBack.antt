@@ -91,12 +91,12 @@ reads-back s at (b ∷ w) rest h sort k =
     let t = spelled-leads (b ∷ w) rest sort in
     on-sort s at b (w ++ rest) h (sortOf b) refl
     ∙ rw (h, first-read s at b (w ++ rest) h)
-      (by-same (is capital b) k (t timePatterns at _)
-      (λ k. by-same (is small b) k (t datePatterns at _)
-      (λ k. by-same (is digit b) k never
-      (λ k. by-same (is mark b) k
-        (λ k. by-same (eqb b (byte "-") && is digit (byteAt s (at + 1))) (narrow (eqb b (byte "-")) (is digit (byteAt s (at + 1))) _ k) never (t marks at _))
-        (λ k. by-same (eqb b (byte "\"")) k never (λ k. by-same (eqb b (byte "[")) k never (t elementSign at _)))))))
+    (by-same (is capital b) k (t timePatterns at _)
+    (λ k. by-same (is small b) k (t datePatterns at _)
+    (λ k. by-same (is digit b) k never
+    (λ k. by-same (is mark b) k
+    (λ k. by-same (eqb b (byte "-") && is digit (byteAt s (at + 1))) (narrow (eqb b (byte "-")) (is digit (byteAt s (at + 1))) _ k) never (t marks at _))
+    (λ k. by-same (eqb b (byte "\"")) k never (λ k. by-same (eqb b (byte "[")) k never (t elementSign at _)))))))
 
 -- all that is spelled in one way and does not read as a word
 abbrev pub literals : List Literal

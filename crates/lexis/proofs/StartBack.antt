@@ -97,7 +97,7 @@ token-clear s at (b ∷ bs) h n =
     not-or (is blank b) (opensComment b bs)
     (λ e. false≢true (sym n ∙ rw (blank-none s at b bs h (eqb-true _ _ e))))
     (λ e. let x = eqb b (byte "-") in let y = eqb (byteAt bs 0) (byte "-") in
-      false≢true (sym n ∙ rw (comment-none s at b bs h (eqb-true _ _ (and-left x y e)) (eqb-true _ _ (and-right x y e)))))
+    false≢true (sym n ∙ rw (comment-none s at b bs h (eqb-true _ _ (and-left x y e)) (eqb-true _ _ (and-right x y e)))))
 
 -- behind blanks, a token that can be read is the next token
 pub token-read : (s : List ℕ) (from : ℕ) (ws bs : List ℕ) → drop from s ≡ ws ++ bs → all (is blank) ws ≡ true

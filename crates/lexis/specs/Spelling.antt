@@ -92,7 +92,7 @@ keywords =
 
 -- the sign ∈, another spelling of matches
 abbrev pub elementSign : List Literal
-elementSign = literal matches (bytes "\u{e2}\u{88}\u{88}") ∷ []
+elementSign = literal matches (bytes "â\u{88}\u{88}") ∷ []
 
 -- True, False
 abbrev pub booleans : List Literal

@@ -78,7 +78,7 @@ leaf-moved s l h (word p w) = rw (number-moved s l h, word-moved s l w) (sym (mo
 leaf-moved s l h (block (datum p t ms)) = rw (number-moved s l h)
 
 member-moved : (s n e place : ℕ) (o : Option Content) (f g : Content → Verdict) → ((c : Content) → f c ≡ movedVerdict s (g c))
-  → judgeMember (s + n) e place o f ≡ movedVerdict s (judgeMember n e place o g)
+    → judgeMember (s + n) e place o f ≡ movedVerdict s (judgeMember n e place o g)
 member-moved s n e place none f g h = sym (move-cond s (eqb e required) (fails 22 n place) valid)
 member-moved s n e place (some c) f g h = ap (cond (eqb e prohibited) (fails 23 (s + n) (placeOf c))) (h c) ∙ sym (move-cond s (eqb e prohibited) (fails 23 n (placeOf c)) (g c))
 

@@ -47,7 +47,7 @@ module _ (P : ℕ → Shifts → List ℕ → Type 0) where
       rw (← a, ← b) p
 
 pub merge-gives : (first second : List ℕ) (little : Bool) (out : List ℕ) (size : ℕ) (shifts : Shifts)
-  → mergeAnswer first second little out .answer ≡ done size shifts → Joined first second little size shifts (mergeAnswer first second little out .out)
+    → mergeAnswer first second little out .answer ≡ done size shifts → Joined first second little size shifts (mergeAnswer first second little out .out)
 unfolding mergeAnswer
 merge-gives first second little out =
     let P = Joined first second little in

@@ -52,12 +52,12 @@ unfolding treeAt
 link-there m k x ks next h = by-link m (suc k) ks x next h
     (λ z. let e : 0 - suc k ≡ 0 = omega arith in rw (z, e))
     (λ l.
-      let above : suc k < x = l .above in
-      let j = x - suc (suc k) in
-      let e : x - suc k ≡ suc j = omega arith in
-      let f : suc k + j ≡ x - 1 = omega arith in
-      let g : x ≡ suc (x - 1) = omega arith in
-      rw (e, getD-drop, f) (sym (ap (λ y. getD (nothing ∷ treesOf m) y nothing) g)))
+    let above : suc k < x = l .above in
+    let j = x - suc (suc k) in
+    let e : x - suc k ≡ suc j = omega arith in
+    let f : suc k + j ≡ x - 1 = omega arith in
+    let g : x ≡ suc (x - 1) = omega arith in
+    rw (e, getD-drop, f) (sym (ap (λ y. getD (nothing ∷ treesOf m) y nothing) g)))
 
 -- what a record stands for, its links followed by number
 abbrev pub nodeOf : Image → ℕ → Record → Tree
