@@ -1,3 +1,6 @@
 -- The laws and examples of the definitions.
+pub mod TapeLaws
+pub mod GoodTapes
 pub mod TreeReading
+pub mod TextTape
 pub mod Computes

@@ -1,3 +1,4 @@
 pub mod Placed
 pub mod Data
 pub mod Tape
+pub mod Contracts
