@@ -3,3 +3,7 @@ pub mod Placed
 pub mod FlattenLaws
 pub mod CheckedCompiled
 pub mod Computes
+pub mod RefusalTable
+pub mod CompileTable
+pub mod Examples
+pub mod MadeTable

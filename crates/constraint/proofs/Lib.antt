@@ -3,3 +3,7 @@ pub mod TreeReading
 pub mod Computes
 pub mod Examples
 pub mod TextTable
+pub mod LeafTable
+pub mod FaultTable
+pub mod CountTable
+pub mod MadeTable

@@ -4,3 +4,6 @@ pub mod GoodTapes
 pub mod TreeReading
 pub mod TextTape
 pub mod Computes
+pub mod Examples
+pub mod DataTable
+pub mod MadeTable

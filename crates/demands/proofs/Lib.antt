@@ -2,3 +2,5 @@
 pub mod Buffers
 pub mod Merges
 pub mod Marked
+pub mod Examples
+pub mod ListTable

@@ -4,3 +4,5 @@ pub mod IntervalReading
 pub mod RangeReading
 pub mod LeafReading
 pub mod Computes
+pub mod Examples
+pub mod LeafTable

@@ -9,3 +9,9 @@ pub mod RunLaws
 pub mod ReadBack
 pub mod SpelledBack
 pub mod StartBack
+pub mod Examples
+pub mod ByteTable
+pub mod BlankTable
+pub mod RunTable
+pub mod TokenTable
+pub mod DataTokenTable

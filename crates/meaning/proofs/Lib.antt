@@ -3,3 +3,9 @@ pub mod Numbers
 pub mod NumberedLaws
 pub mod Moved
 pub mod Computes
+pub mod Trees
+pub mod CountTable
+pub mod Examples
+pub mod LeafTable
+pub mod MadeTable
+pub mod JudgeTable

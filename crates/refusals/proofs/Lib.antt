@@ -1,3 +1,5 @@
 -- The laws and examples of the definitions.
 pub mod Readings
 pub mod Tokens
+pub mod Examples
+pub mod RefusalTable

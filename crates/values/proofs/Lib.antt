@@ -5,3 +5,7 @@ pub mod IntegerLaws
 pub mod CalendarLaws
 pub mod DateLaws
 pub mod PatternLaws
+pub mod Examples
+pub mod WordTable
+pub mod NumberTable
+pub mod PatternTable

@@ -1,0 +1,300 @@
+//! Words with all that they read as, the calendar, values with a distance on either side, and patterns.
+
+use super::table::{groups, inputs, made_inputs, Group, Inputs, Table};
+use super::term;
+use crate::calendar::{days_in_month, is_leap, Date};
+use crate::numbers;
+use crate::patterns::{admits_date, admits_time};
+use crate::words::{self, PartialDate, PartialTime};
+
+const PATH: &str = "mathlib.Core.Path.{_≡_, refl}";
+const BOOL: &str = "mathlib.Core.Bool.{true, false}";
+const OPTION: &str = "mathlib.Core.Option.{none, some}";
+const LIST: &str = "mathlib.Core.List.{List, [], _∷_}";
+const TEXT: &str = "Rattle.lexis.specs.Text.{bytes}";
+const PAIR: &str = "Rattle.values.specs.Integers.{pair}";
+const WRONG: &str = "Rattle.lexis.proofs.Tables.{wrong}";
+const COMPUTE: &str = "Rattle.values.proofs.Computes.{valuesCompute}";
+
+pub fn tables() -> Vec<Table> {
+    vec![
+        Table {
+            holder: "values",
+            module: "WordTable",
+            about: "Words, what each reads as, a Boolean, an integer, a date, a time, and whether it is good.",
+            uses: &[PATH, BOOL, OPTION, LIST, TEXT, WRONG, COMPUTE, "Rattle.values.proofs.Examples.{WordCase, reads, date, wordRight}"],
+            case: "WordCase",
+            right: "wordRight",
+            unfolding: "valuesCompute",
+            groups: groups(&word_texts(), word_case),
+        },
+        Table {
+            holder: "values",
+            module: "NumberTable",
+            about: "Leap years, month lengths, real dates, the days around a day, and values with a distance on either side.",
+            uses: &[
+                PATH,
+                BOOL,
+                OPTION,
+                LIST,
+                PAIR,
+                WRONG,
+                COMPUTE,
+                "Rattle.values.proofs.Examples.{NumberCase, leapIs, daysAre, realIs, follows, precedes, spreads, bitsAre, numberRight}",
+            ],
+            case: "NumberCase",
+            right: "numberRight",
+            unfolding: "valuesCompute",
+            groups: number_groups(),
+        },
+        Table {
+            holder: "values",
+            module: "PatternTable",
+            about: "Each pattern against words.",
+            uses: &[PATH, BOOL, LIST, TEXT, WRONG, COMPUTE, "Rattle.values.proofs.Examples.{PatternCase, dateFits, timeFits, patternRight}"],
+            case: "PatternCase",
+            right: "patternRight",
+            unfolding: "valuesCompute",
+            groups: pattern_groups(),
+        },
+    ]
+}
+
+/// A date with how many of its parts are there; a part that isn't there is 1.
+fn date_term(word: &[u8], date: PartialDate) -> Option<String> {
+    let (parts, filled) = match date {
+        PartialDate::Year => (1, [word, b"-01-01"].concat()),
+        PartialDate::Month => (2, [word, b"-01"].concat()),
+        PartialDate::Full(_) => (3, word.to_vec()),
+    };
+    Date::read(&filled).map(|day| format!("(date {parts} {})", term::number(u64::from(day.packed()))))
+}
+
+fn time_parts(time: PartialTime) -> u32 {
+    match time {
+        PartialTime::Hour => 1,
+        PartialTime::Minute => 2,
+        PartialTime::Second => 3,
+    }
+}
+
+fn word_case(word: &[u8]) -> String {
+    let boolean = term::option(words::boolean(word).map(|value| String::from(if value { "1" } else { "2" })));
+    let integer = term::option(numbers::integer(word).map(term::distance));
+    let date = term::option(words::date(word).and_then(|date| date_term(word, date)));
+    let time = term::option(words::time(word).map(|time| time_parts(time).to_string()));
+    format!("reads {} {boolean} {integer} {date} {time} {}", term::bytes(word), term::truth(words::is_good(word)))
+}
+
+fn word_texts() -> Vec<Inputs> {
+    vec![
+        inputs(
+            "Booleans",
+            &[b"True", b"False", b"true", b"TRUE", b"False1", b"Tru", b"True.", b"Fals", b"T", b"", b"FalseTrue"],
+        ),
+        inputs(
+            "integers: the range's ends, needless zeros, -0, signs, long runs of digits",
+            &[
+                b"0", b"1", b"5", b"9", b"10", b"24", b"99", b"100", b"-1", b"-5", b"-10", b"2147483646",
+                b"2147483647", b"2147483648", b"2147483649", b"-2147483647", b"-2147483648", b"-2147483649",
+                b"4294967295", b"4294967296", b"-4294967296", b"9999999999", b"99999999999999999999",
+                b"-99999999999999999999", b"00000000005", b"007", b"01", b"000", b"-0", b"-00", b"-01", b"-05", b"+5",
+                b"+0", b"--5", b"-", b"+", b"5-", b"5.", b"5.0", b".5", b"1e5", b"5a", b"a5", b"_5", b"5_", b" 5",
+                b"5 ", b"1:0", b"12/", b"1:", b"-:", b"5-3",
+            ],
+        ),
+        inputs(
+            "dates: years, months and days, real and others",
+            &[
+                b"2004", b"0000", b"9999", b"0004", b"1900", b"200", b"20040", b"02004", b"2004-01", b"2004-05",
+                b"2004-12", b"2004-13", b"2004-00", b"0000-12", b"2004-5", b"2004-", b"2004-005", b"2004-1a",
+                b"200a-10", b"2004-05-20", b"2004-05-01", b"2004-05-31", b"2004-05-32", b"2004-05-00", b"2004-04-30",
+                b"2004-04-31", b"2000-02-29", b"1900-02-29", b"1900-02-28", b"2004-02-29", b"2004-02-30",
+                b"2003-02-29", b"2003-02-28", b"2100-02-29", b"0000-02-29", b"0000-01-01", b"9999-12-31",
+                b"9999-12-32", b"2004-00-10", b"2004-13-10", b"2004-99-99", b"0000-00-00", b"2004-05-2",
+                b"2004-05-201", b"2004-05-", b"2004-05-20-", b"2004-5-20", b"2004-05-2a", b"2004:05:20", b"2004-05:20",
+                b"2004.05-20", b"2004/05/20", b"-2004", b"-2004-05-20", b"+2004", b"2004-05-20Z",
+                b"2004-05-20T10:00:00", b"20040520", b"12004-05-20", b"yyyy", b"dddd", b"dddd-dd-dd", b"2004-dd",
+            ],
+        ),
+        inputs(
+            "times: hours 00 to 23, minutes and seconds 00 to 59",
+            &[
+                b"00", b"08", b"09", b"12", b"23", b"24", b"25", b"8", b"1a", b"a1", b"00:00", b"08:30", b"23:59",
+                b"24:00", b"23:60", b"08:00", b"08:99", b"8:30", b"08:3", b"08:", b"08:3a", b"08:300", b"00:00:00",
+                b"08:30:15", b"23:59:59", b"24:00:00", b"24:00:01", b"23:60:00", b"23:59:60", b"08:30:99", b"08:30:5",
+                b"08:30:", b"08:30:5a", b"08:30:150", b"08:30:15:00", b"08:30:15.0", b"08:30:15,0", b"083015", b"0830",
+                b"T08:30", b"08-30", b"08.30", b"08:30.15", b":08:30", b"dd", b"dd:dd", b"08:dd",
+            ],
+        ),
+        made_inputs("zones behind hours, minutes and seconds", zoned()),
+        inputs(
+            "zones without a time, and with something behind them",
+            &[
+                b"Z", b"z", b"+05", b"-05:00", b"+05:30", b"08ZZ", b"08Z1", b"08+05Z", b"08Z+05", b"08+05+05",
+                b"08:30Z:15", b"08z", b"2004Z", b"5Z", b"24Z", b"24+05", b"True+05", b"08:60Z", b"08:30:60+05",
+            ],
+        ),
+    ]
+}
+
+/// Zones at both sides of each limit, behind each sort of time.
+fn zoned() -> Vec<Vec<u8>> {
+    let zones: [&[u8]; 40] = [
+        b"Z", b"+00", b"+01", b"+09", b"+12", b"+13", b"+14", b"+99", b"-00", b"-01", b"-11", b"-12", b"-13", b"-99",
+        b"+00:00", b"+00:30", b"+05:30", b"+12:59", b"+13:00", b"+13:59", b"+13:60", b"+14:00", b"+05:60", b"-00:00",
+        b"-00:01", b"-00:30", b"-00:59", b"-00:60", b"-01:00", b"-12:00", b"-12:59", b"-12:60", b"-13:00", b"+5",
+        b"+0530", b"+05:3", b"+05:", b"+05:300", b"-", b"+",
+    ];
+    let mut all: Vec<Vec<u8>> = zones.iter().map(|zone| [b"08", *zone].concat()).collect();
+    for front in [&b"08:30"[..], b"08:30:15", b"12", b"00:00"] {
+        all.extend(
+            [&b"Z"[..], b"+13:59", b"+14:00", b"-00:30", b"-00:00", b"-00", b"-12", b"-13", b"+0930"]
+                .iter()
+                .map(|zone| [front, zone].concat()),
+        );
+    }
+    all
+}
+
+fn number_groups() -> Vec<Group> {
+    let years = [
+        0, 1, 2, 3, 4, 96, 100, 200, 300, 400, 500, 800, 1600, 1700, 1899, 1900, 1904, 1996, 1999, 2000, 2001, 2002,
+        2003, 2004, 2100, 2200, 2300, 2400, 4000, 9996, 9999,
+    ];
+    let leaps = years.iter().map(|year| format!("leapIs {year} {}", term::truth(is_leap(*year)))).collect();
+    let months = [2003, 2004, 1900, 2000].iter().flat_map(|year| (0..=13).map(move |month| (*year, month)));
+    let lengths =
+        months.map(|(year, month)| format!("daysAre {year} {month} {}", days_in_month(year, month))).collect();
+    let numbers = [
+        0, 1, 31, 100, 101, 131, 132, 228, 229, 230, 1231, 1232, 1301, 9_999, 10_000, 10_101, 19_000_228, 19_000_229,
+        19_000_301, 20_000_229, 20_030_229, 20_040_100, 20_040_101, 20_040_131, 20_040_132, 20_040_229, 20_040_230,
+        20_040_430, 20_040_431, 20_041_200, 20_041_231, 20_041_232, 20_041_301, 20_040_001, 20_049_999, 21_000_229,
+        99_991_230, 99_991_231, 99_991_232, 99_991_301, 100_000_101, 100_000_000, 4_294_967_295,
+    ];
+    let reals = numbers
+        .iter()
+        .map(|packed| {
+            format!("realIs {} {}", term::number(u64::from(*packed)), term::truth(Date::from_packed(*packed).is_some()))
+        })
+        .collect();
+    vec![
+        Group { about: "leap years by 4, not 100, yet 400", cases: leaps },
+        Group { about: "month lengths of common and leap years", cases: lengths },
+        Group { about: "packed numbers that are days of the calendar, and others", cases: reals },
+        Group {
+            about: "the day after and the day before, at the ends of months, of years and of the range",
+            cases: day_cases(),
+        },
+        Group { about: "a - d and a + d, where both lie in the range", cases: spread_cases() },
+        Group {
+            about: "two's complement",
+            cases: [i32::MIN, i32::MIN + 1, -1000, -2, -1, 0, 1, 2, 1000, i32::MAX - 1, i32::MAX]
+                .iter()
+                .map(bits_case)
+                .collect(),
+        },
+    ]
+}
+
+fn day_cases() -> Vec<String> {
+    let days: [&[u8]; 38] = [
+        b"0000-01-01", b"0000-01-02", b"0000-01-31", b"0000-02-01", b"0000-02-28", b"0000-02-29", b"0000-03-01",
+        b"0000-12-31", b"0001-01-01", b"1899-12-31", b"1900-01-01", b"1900-02-28", b"1900-03-01", b"2000-02-28",
+        b"2000-02-29", b"2000-03-01", b"2003-02-28", b"2003-03-01", b"2003-12-30", b"2003-12-31", b"2004-01-01",
+        b"2004-01-31", b"2004-02-01", b"2004-02-28", b"2004-02-29", b"2004-03-01", b"2004-03-31", b"2004-04-30",
+        b"2004-05-01", b"2004-05-09", b"2004-05-10", b"2004-09-30", b"2004-10-01", b"2004-11-30", b"2004-12-01",
+        b"9999-12-30", b"9999-12-31", b"9998-12-31",
+    ];
+    let packed = |date: Date| term::number(u64::from(date.packed()));
+    let mut all = Vec::new();
+    for day in days.iter().filter_map(|spelling| Date::read(spelling)) {
+        all.extend(day.next_day().map(|next| format!("follows {} {}", packed(day), packed(next))));
+        all.extend(day.previous_day().map(|before| format!("precedes {} {}", packed(day), packed(before))));
+    }
+    all
+}
+
+fn spread_cases() -> Vec<String> {
+    let pairs = [
+        (100, 5),
+        (100, 0),
+        (100, -5),
+        (0, 0),
+        (0, 1),
+        (0, -1),
+        (-100, 5),
+        (5, 100),
+        (i32::MAX, 0),
+        (i32::MAX, 1),
+        (i32::MAX, -1),
+        (i32::MAX - 1, 1),
+        (i32::MAX - 5, 5),
+        (i32::MAX - 4, 5),
+        (i32::MIN, 0),
+        (i32::MIN, 1),
+        (i32::MIN, -1),
+        (i32::MIN + 1, 1),
+        (i32::MIN + 5, 5),
+        (i32::MIN + 4, 5),
+        (0, i32::MAX),
+        (-1, i32::MAX),
+        (1, i32::MAX),
+        (-2, i32::MAX),
+        (0, i32::MIN),
+        (-1, i32::MIN),
+        (1, i32::MIN),
+        (0, i32::MIN + 1),
+        (-1, i32::MIN + 1),
+        (1, i32::MIN + 1),
+        (i32::MAX, i32::MAX),
+        (i32::MIN, i32::MIN),
+    ];
+    pairs.iter().map(|(middle, distance)| spread_case(*middle, *distance)).collect()
+}
+
+fn spread_case(middle: i32, distance: i32) -> String {
+    let ends = middle.checked_sub(distance).zip(middle.checked_add(distance));
+    let pair = ends.map(|(low, high)| format!("(pair {} {})", term::distance(low), term::distance(high)));
+    format!("spreads {} {} {}", term::distance(middle), term::distance(distance), term::option(pair))
+}
+
+fn bits_case(value: &i32) -> String {
+    format!("bitsAre {} {}", term::distance(*value), term::number(u64::from(*value as u32)))
+}
+
+fn pattern_groups() -> Vec<Group> {
+    let dates: [&[u8]; 7] = [b"2004", b"2004-05", b"2004-05-20", b"0000", b"2004-13", b"2004-02-30", b"True"];
+    let times: [&[u8]; 12] = [
+        b"08", b"08:30", b"08:30:15", b"08Z", b"08:30+13:59", b"08:30:15-00:30", b"12-12", b"24", b"08:60",
+        b"24:00:00", b"08:30-00:00", b"2004-05",
+    ];
+    let date = |flag: u8| {
+        dates.map(|word| {
+            format!(
+                "dateFits {flag} {} {}",
+                term::bytes(word),
+                term::truth(words::date(word).is_some_and(|date| admits_date(flag, date)))
+            )
+        })
+    };
+    let time = |flag: u8| {
+        times.map(|word| {
+            format!(
+                "timeFits {flag} {} {}",
+                term::bytes(word),
+                term::truth(words::time(word).is_some_and(|time| admits_time(flag, time)))
+            )
+        })
+    };
+    vec![
+        Group {
+            about: "date patterns by flag, 1 to 5; no other flag admits anything",
+            cases: (0..=6).flat_map(date).collect(),
+        },
+        Group {
+            about: "time patterns by flag, 1 to 4; no other flag admits anything",
+            cases: (0..=5).flat_map(time).collect(),
+        },
+    ]
+}
