@@ -1,12 +1,15 @@
--- Examples of merging: two tables into an output, and lists of merges. The cases stand in MergeTable, RefusalTable, MadeTable and StepTable. Assumes nothing.
+-- Examples of merging: two tables into an output, and lists of merges. The cases stand in MergeTable, RefusalTable, MadeTable, LimitTable and StepTable. Assumes nothing.
 use mathlib.Core.Bool.{Bool, true, false, _&&_}
 use mathlib.Core.List.{List, [], _∷_}
 use Prim.Native.Nat.{ℕ}
 use lib.Dec.{eqb}
+use lib.ListN.{replicate}
 use Rattle.lexis.specs.Runs.{same}
 use Rattle.refusals.specs.Refusals.{numberOf}
+use Rattle.table.specs.Records.{Image}
+use Rattle.table.proofs.Hex.{filling}
 use Rattle.merge.specs.Merge.{Shifts}
-use Rattle.merge.specs.Answer.{MergeAnswer, refused, done, Merging, mergeAnswer}
+use Rattle.merge.specs.Answer.{MergeAnswer, refused, done, Merging, join, mergeAnswer}
 use Rattle.merge.specs.Lists.{Step, Carried, carried, afterSteps}
 
 -- two tables, the order asked, the output before; the answer, and the output behind it: a refusal leaves it as it was
@@ -27,6 +30,21 @@ right (merges first second little out length records pool after) =
     isDone (mergeAnswer first second little out .answer) length records pool && same (mergeAnswer first second little out .out) after
 right (refuses first second little out table number place) =
     isRefused (mergeAnswer first second little out .answer) table number place && same (mergeAnswer first second little out .out) out
+
+-- a table of so many objects without attributes, its header not counted, and so many bytes
+abbrev pub objects : ℕ → ℕ → Image
+objects n bytes = record { root = 1; pool = replicate bytes 65; records = replicate n (record { kind = 1; flag = 0; fields = 0 ∷ 1 ∷ 0 ∷ 0 ∷ 0 ∷ [] }) }
+
+-- two such tables, by their counts and bytes, and an output of so many bytes
+pub data JoinCase : Type 0 where
+  joinRefuses : (first bytes second more : ℕ) (little : Bool) (room : ℕ) → (number place : ℕ) → JoinCase
+
+abbrev pub refusedWith : Merging → List ℕ → ℕ → ℕ → Bool
+refusedWith m out number place = isRefused (m .answer) 0 number place && same (m .out) out
+
+unfoldable pub joinRight : JoinCase → Bool
+joinRight (joinRefuses first bytes second more little room number place) =
+    refusedWith (join (objects first bytes) (objects second more) little (filling 7 room)) (filling 7 room) number place
 
 -- a list of merges, the table and the sum behind it
 pub data StepCase : Type 0 where

@@ -8,3 +8,4 @@ pub mod MergeTable
 pub mod Examples
 pub mod StepTable
 pub mod MadeTable
+pub mod LimitTable

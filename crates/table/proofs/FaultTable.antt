@@ -2,7 +2,8 @@
 -- This file is written by `example_tables write` of second/. Assumes nothing.
 use mathlib.Core.Path.{_≡_, refl}
 use mathlib.Core.Bool.{true, false}
-use mathlib.Core.List.{List, [], _∷_}
+use mathlib.Core.List.{List, [], _∷_, _++_}
+use lib.ListN.{replicate}
 use Rattle.lexis.proofs.Tables.{wrong}
 use Rattle.table.proofs.Computes.{tableComputes}
 use Rattle.table.proofs.Hex.{hex}

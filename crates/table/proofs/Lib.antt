@@ -16,3 +16,4 @@ pub mod TreeTable
 pub mod Examples
 pub mod NameTable
 pub mod MadeTable
+pub mod Hex

@@ -1,7 +1,7 @@
 //! Tables: numbers and records as bytes, the check, names and trees.
 
 use super::handmade::{changed, compiled, every_kind, ordered, record, shared, table, unreached, BIG, LITTLE};
-use super::spelled::hex;
+use super::spelled::{hex, padded};
 use super::table::Group;
 use super::{table as layout, term};
 use crate::api::{CheckAnswer, NameAnswer};
@@ -17,8 +17,16 @@ const TEXT: &str = "Rattle.lexis.specs.Text.{bytes}";
 const WRONG: &str = "Rattle.lexis.proofs.Tables.{wrong}";
 const COMPUTE: &str = "Rattle.table.proofs.Computes.{tableComputes}";
 const HEX: &str = "Rattle.table.proofs.Hex.{hex}";
-const CHECKS: &[&str] =
-    &[PATH, BOOL, LIST, WRONG, COMPUTE, HEX, "Rattle.table.proofs.Examples.{CheckCase, passes, refuses, rewrites, checkRight}"];
+const CHECKS: &[&str] = &[
+    PATH,
+    BOOL,
+    "mathlib.Core.List.{List, [], _∷_, _++_}",
+    "lib.ListN.{replicate}",
+    WRONG,
+    COMPUTE,
+    HEX,
+    "Rattle.table.proofs.Examples.{CheckCase, passes, refuses, rewrites, checkRight}",
+];
 const NAMES: &[&str] = &[PATH, LIST, TEXT, WRONG, COMPUTE, HEX, "Rattle.table.proofs.Examples.{NameCase, names, noName, nameRight}"];
 const TREES: &[&str] = &[
     PATH,
@@ -54,7 +62,7 @@ pub fn tables() -> Vec<layout::Table> {
             "tableComputes",
             vec![records(), marks()],
         ),
-        checks("CheckTable", "Tables that pass the check, and bytes that are no table.", vec![passing(), rewritten(), lengths(), headers(), roots(), before()]),
+        checks("CheckTable", "Tables that pass the check, and bytes that are no table.", vec![passing(), rewritten(), lengths(), headers(), limit_headers(), roots(), before()]),
         checks("FaultTable", "Each rule of a record kept at its edge and broken.", rules_broken()),
         part("NameTable", "Names by record number.", NAMES, "NameCase", "nameRight", "tableComputes", name_groups()),
         part("TreeTable", "Tables with the trees of their objects.", TREES, "TreeCase", "treeRight", "objectList tableComputes", tree_groups()),
@@ -64,8 +72,8 @@ pub fn tables() -> Vec<layout::Table> {
 
 fn check_case(bytes: &[u8]) -> String {
     match check(bytes) {
-        CheckAnswer::Passed => format!("passes {}", hex(bytes)),
-        CheckAnswer::Refused { number, place } => format!("refuses {} {number} {place}", hex(bytes)),
+        CheckAnswer::Passed => format!("passes {}", padded(bytes)),
+        CheckAnswer::Refused { number, place } => format!("refuses {} {number} {place}", padded(bytes)),
     }
 }
 
@@ -212,6 +220,19 @@ fn headers() -> Group {
     all.push(ordered(&changed(&smallest(), 0, |header| header.flag = 1), "l"));
     all.push(ordered(&changed(&smallest(), 0, |header| header.numbers[4] = 1), "l"));
     expect(check_group("headers", all), "refuses")
+}
+
+/// Headers at the limits and above them, with the length that fits them. The records behind the first are of kind 0, so that a table
+/// whose header is good is refused at record 2.
+fn limit_headers() -> Group {
+    let none = record(0, 0, [0; 5]);
+    let of = |count: usize, pool: usize| {
+        let mut records = vec![record(1, 0, [0, 1, 0, 0, 0])];
+        records.resize(count - 1, Record { mark: [0, 0], ..none });
+        table(1, &records, &vec![0; pool])
+    };
+    let sizes = [(2, limits::POOL), (2, limits::POOL + 1), (3, limits::POOL), (3, limits::POOL + 1), (limits::RECORDS, 0), (limits::RECORDS + 1, 0), (limits::RECORDS, 1), (limits::RECORDS + 1, 1)];
+    check_group("counts and pools at their limits and above, with the length that fits", sizes.map(|(count, pool)| of(count, pool)).to_vec())
 }
 
 fn roots() -> Group {

@@ -16,6 +16,7 @@ const COMPUTE: &str = "Rattle.merge.proofs.Computes.{mergeComputes}";
 const HEX: &str = "Rattle.table.proofs.Hex.{hex, filling}";
 const MERGES: &[&str] = &[PATH, BOOL, LIST, WRONG, HEX, COMPUTE, "Rattle.merge.proofs.Examples.{Case, merges, refuses, right}"];
 const STEPS: &[&str] = &[PATH, BOOL, LIST, WRONG, HEX, COMPUTE, "Rattle.merge.proofs.Examples.{StepCase, carries, step, stepsRight}"];
+const LIMITS: &[&str] = &[PATH, BOOL, LIST, WRONG, COMPUTE, "Rattle.merge.proofs.Examples.{JoinCase, joinRefuses, joinRight}"];
 
 pub fn tables() -> Vec<layout::Table> {
     let part = |module, about, uses, case, right, groups| layout::Table { holder: "merge", module, about, uses, case, right, unfolding: "mergeComputes", groups };
@@ -23,6 +24,7 @@ pub fn tables() -> Vec<layout::Table> {
         part("MergeTable", "Two tables merged, byte for byte, and the output behind the table.", MERGES, "Case", "right", merge_groups()),
         part("RefusalTable", "Merges that are refused.", MERGES, "Case", "right", refusal_groups()),
         part("MadeTable", "Merges of short tables from a generator with a fixed seed.", MERGES, "Case", "right", vec![made()]),
+        part("LimitTable", "Tables joined up to the limits of a table and above them.", LIMITS, "JoinCase", "joinRight", vec![limits()]),
         part("StepTable", "Lists of merges, with the table carried and the sum of the shifts.", STEPS, "StepCase", "stepsRight", vec![steps()]),
     ]
 }
@@ -137,6 +139,47 @@ fn refusal_groups() -> Vec<Group> {
         Group { about: "an output too short, at the length needed; and long enough", cases: short },
         Group { about: "a table's fault before an output too short", cases: order },
     ]
+}
+
+/// A table of so many objects, its header not counted, and so many bytes.
+fn objects(count: usize, pool: usize) -> Table {
+    table(1, &vec![record(1, 0, [0, 1, 0, 0, 0]); count], &b"A".repeat(pool))
+}
+
+/// Two tables of so many objects and bytes each, an output of so many bytes.
+fn limit_case(sizes: [usize; 4], little: bool, room: usize) -> String {
+    let [records, pool, more_records, more_pool] = sizes;
+    let mut out = generator::filling(FILL, room);
+    match merge(&objects(records, pool).bytes(), &objects(more_records, more_pool).bytes(), little, &mut out) {
+        MergeAnswer::Refused { number, place, table: 0 } => {
+            let sizes = sizes.map(|size| term::number(size as u64)).join(" ");
+            format!("joinRefuses {sizes} {} {room} {number} {}", term::truth(little), term::number(place))
+        }
+        answer => panic!("{answer:?}"),
+    }
+}
+
+fn limits() -> Group {
+    let sizes = [
+        [1_024, 1, 1_024, 1],
+        [1_024, 1, 1_023, 1],
+        [1_023, 1, 1_024, 1],
+        [2_047, 1, 1, 1],
+        [2_046, 1, 1, 1],
+        [1, 1, 2_047, 1],
+        [1, 1, 2_046, 1],
+        [1, 16_384, 1, 1],
+        [1, 16_383, 1, 1],
+        [1, 1, 1, 16_384],
+        [1, 1, 1, 16_383],
+        [1, 8_193, 2, 8_192],
+        [2, 8_192, 1, 8_192],
+        [2_047, 16_384, 1, 1],
+        [2_046, 16_384, 1, 1],
+        [1, 1, 1, 1],
+    ];
+    let cases = sizes.iter().enumerate().map(|(turn, sizes)| limit_case(*sizes, turn % 2 == 1, 10)).collect();
+    Group { about: "8 before 10 before 11, each at its edge; an output of ten bytes is kept", cases }
 }
 
 fn check(table: &Table) -> Result<(), ()> {

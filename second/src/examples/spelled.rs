@@ -12,6 +12,21 @@ pub fn hex(bytes: &[u8]) -> String {
     format!("(hex \"{}\")", bytes.chunks(4).map(word).collect::<Vec<_>>().join(" "))
 }
 
+/// The shortest run of one byte at the end of a table that is told by its length.
+const LONG_RUN: usize = 1_000;
+
+/// Bytes in hex, a long run of one byte at their end told by its length, bracketed.
+pub fn padded(bytes: &[u8]) -> String {
+    let run = bytes.iter().rev().take_while(|byte| Some(*byte) == bytes.last()).count();
+    match bytes.last() {
+        Some(last) if run >= LONG_RUN => {
+            let front = hex(&bytes[..bytes.len() - run]);
+            format!("({front} ++ replicate {} {last})", term::number(run as u64))
+        }
+        _ => hex(bytes),
+    }
+}
+
 /// A verdict of judging without a refusal.
 pub fn verdict(answer: JudgeAnswer) -> String {
     match answer {
