@@ -1,8 +1,8 @@
 -- What reading a constraint text gives. A refusal's place lies in the text, so the end of the fuel, which would be told behind it, is never the answer. The
 -- records of a tree are numbered in pre-order, and there is room for them. Each byte of the pool comes from a byte of its own of the text. Every part is proper: its lengths,
 -- flags and pairs are as document 01 asks. Assumes nothing.
-use mathlib.Core.Path.{_≡_, refl, ap, _∙_}
-use mathlib.Core.Bool.{Bool, true, false, cond}
+use mathlib.Core.Path.{_≡_, refl, ap}
+use mathlib.Core.Bool.{false}
 use mathlib.Core.List.{List, [], _∷_, _++_, append-assoc}
 use Prim.Native.Nat.{ℕ, zero, suc, _+_, _-_, _≤_, _<_}
 use native.Mathlib.Omega.{arith}
@@ -15,19 +15,17 @@ use mathlib.Core.Logic.{_≢_}
 use Rattle.lexis.specs.Runs.{part, listed}
 use Rattle.lexis.specs.Order.{Sub}
 use Rattle.lexis.specs.Spelling.{matches, existence, openBrace, closeBrace, dots, star}
-use Rattle.lexis.specs.Tokens.{tokenAt, textEnd, integer, typeName, name, code, spelling, inner}
+use Rattle.lexis.specs.Tokens.{tokenAt, textEnd, typeName, name, code, spelling, inner}
 use Rattle.lexis.specs.declared.Token.{Token}
-use Rattle.lexis.proofs.Cases.{and-left}
-use Rattle.lexis.proofs.Places.{Found, token-found}
-use Rattle.lexis.proofs.Parts.{sub-none, sub-all, sub-join, sub-wider, sub-length, part-sub}
+use Rattle.lexis.proofs.Places.{token-found}
+use Rattle.lexis.proofs.Parts.{sub-none, sub-join, sub-wider, sub-length, part-sub}
 use Rattle.refusals.specs.Limits.{textLimit, levelLimit, recordLimit, nameLimit, codeLimit, poolLimit}
-use Rattle.refusals.specs.Reading.{Reading, refused, got, refuse, andThen}
-use Rattle.refusals.specs.Steps.{expect}
+use Rattle.refusals.specs.Reading.{Reading, refused, got, refuse}
 use Rattle.refusals.specs.declared.Cause.the-variants.{TextTooLong, TooDeep, TooLong, TooManyRecords, RepeatedName, PoolTooLarge}
 use Rattle.refusals.specs.declared.Refusal.{Refusal}
-use Rattle.refusals.proofs.Readings.{Holds, From, Reaches, refuse-holds, got-holds, cond-holds, unless-holds, then-holds, holds-map}
+use Rattle.refusals.proofs.Readings.{Holds, refuse-holds, got-holds, cond-holds, unless-holds, then-holds, holds-map}
 use Rattle.refusals.proofs.Tokens.{Taken, Passed, strict-of, fault-holds, expect-holds, expect-passes}
-use Rattle.meaning.specs.Constraints.{Object, object, Attributes, noMore, attribute, Value, any, nested, leaf}
+use Rattle.meaning.specs.Constraints.{Object, Attributes, noMore, attribute, Value, any, nested, leaf}
 use Rattle.meaning.specs.Proper.{ProperName, ProperObject, ProperAttributes, ProperValue}
 use Rattle.meaning.specs.Counting.{objectRecords, objectPool, objectNumbers, attributeRecords, attributePool, attributeNumbers, valueRecords, valuePool, valueNumbers, upFrom}
 use Rattle.meaning.proofs.Numbers.{up-append}
@@ -35,7 +33,7 @@ use Rattle.items.specs.Leaves
 use Rattle.items.proofs.IntervalReading.{token-past}
 use Rattle.items.proofs.LeafReading.{TreeRead, LeafRead, leaf-holds, inner-sub}
 use Rattle.constraint.specs.Existence.{opening, isNought, isOne, fromNought, fromOne, bounds, existenceFrom}
-use Rattle.constraint.specs.Objects.{Count, count, objectType, objectCode, attributeName, value, Attribute, attributeFrom, past, goOn, attributes, body, objectBy, objectFrom}
+use Rattle.constraint.specs.Objects.{Count, count, objectType, objectCode, attributeName, value, Attribute, attributeFrom, past, attributes, body, objectBy, objectFrom}
 use Rattle.constraint.specs.Texts.{constraintOf}
 
 -- an existence that was read, and the place behind it

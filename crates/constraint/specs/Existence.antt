@@ -1,7 +1,7 @@
 -- Existence. Document 01, 'Constraint text': "optional `existence matches {` `0`, `1`, `0..0`, `0..1` or `1..1` `}`"; "`0` is 0..0, `1` is 1..1; no existence
 -- means 1..1". Assumes nothing.
-use mathlib.Core.Bool.{Bool, true, false, cond, _&&_}
-use mathlib.Core.List.{List, [], _∷_}
+use mathlib.Core.Bool.{Bool, cond, _&&_}
+use mathlib.Core.List.{List}
 use Prim.Native.Nat.{ℕ}
 use lib.Dec.{eqb}
 use Rattle.lexis.specs.Text.{bytes}

@@ -1,20 +1,20 @@
 -- Objects and attributes. Document 01, 'Constraint text': "object: TYPE, optional [code], `matches {`, then `*` or one or more attributes, `}`"; "attribute:
 -- NAME, optional existence, `matches {`, then `*`, one object or one leaf, `}`"; 'Numbers of refusal', 2, 3, 4, 8 and 10 at the TYPE, 4 and 10 at the code,
 -- 2, 4, 8, 9 and 10 at the NAME. Assumes nothing.
-use mathlib.Core.Bool.{Bool, true, false, cond}
+use mathlib.Core.Bool.{cond}
 use mathlib.Core.List.{List, [], _∷_}
 use Prim.Native.Nat.{ℕ, zero, suc, _+_}
 use lib.Dec.{eqb, ltb}
 use lib.ListN.{length}
 use Rattle.lexis.specs.Runs.{listed}
-use Rattle.lexis.specs.Spelling.{openBrace, closeBrace, star}
+use Rattle.lexis.specs.Spelling.{closeBrace, star}
 use Rattle.lexis.specs.Tokens.{tokenAt, typeName, name, code, spelling, inner}
 use Rattle.lexis.specs.declared.Token.{Token}
 use Rattle.refusals.specs.Limits.{recordLimit, poolLimit, nameLimit, codeLimit}
 use Rattle.refusals.specs.declared.Cause.the-variants.{EndsEarly, TooDeep, TooLong, TooManyRecords, RepeatedName, PoolTooLarge}
 use Rattle.refusals.specs.Reading.{Reading, got, refuse, andThen, unless}
 use Rattle.meaning.specs.Constraints.{Object, object, Attributes, noMore, attribute, Value, any, nested, leaf}
-use Rattle.refusals.specs.Steps.{expect, syntaxFault}
+use Rattle.refusals.specs.Steps.{expect}
 use Rattle.items.specs.Leaves
 use Rattle.meaning.specs.Counting.{valueRecords, valuePool}
 use Rattle.constraint.specs.Existence.{opening, existenceFrom}

@@ -1,6 +1,5 @@
 -- The constraint text. Document 01, 'Constraint text': "ASCII, at most 16,384 bytes"; "The text is one object"; 'Numbers of refusal': "1 comes before all".
 -- Assumes nothing.
-use mathlib.Core.Bool.{Bool, cond}
 use mathlib.Core.List.{List}
 use Prim.Native.Nat.{ℕ}
 use lib.Dec.{ltb}

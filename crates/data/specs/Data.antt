@@ -1,7 +1,7 @@
 -- Data text to its tree or its refusal. Document 01, 'Data text': "Datum: optional `(`TYPE`)`, `<`, members, `>`. Member: NAME `=` then a datum, or `<` leaf `>`
 -- with no type. `<>` is a block without members"; "A `<` is a leaf's when it has no type, isn't the outermost, and a string or word follows; else a block's";
 -- 'Numbers of refusal', 1, 2, 3 at the `<`, 4 at the TYPE, NAME or string, 5 at the word, 9 at the later name. Assumes nothing.
-use mathlib.Core.Bool.{Bool, true, false, cond, not}
+use mathlib.Core.Bool.{cond, not}
 use mathlib.Core.Option.{Option, none, some}
 use mathlib.Core.List.{List, [], _∷_}
 use Prim.Native.Nat.{ℕ, zero, suc, _+_, _-_}
@@ -9,7 +9,7 @@ use lib.Dec.{eqb, ltb}
 use lib.ListN.{length}
 use Rattle.lexis.specs.Runs.{listed}
 use Rattle.lexis.specs.Spelling.{less, greater}
-use Rattle.lexis.specs.Tokens.{textEnd, unreadable, typeName, name, spelling, inner}
+use Rattle.lexis.specs.Tokens.{textEnd, typeName, name, spelling, inner}
 use Rattle.lexis.specs.Tokens
 use Rattle.lexis.specs.DataTokens.{dataTokenAt, typeTokenAt, equals, openRound, closeRound, wordRun}
 use Rattle.lexis.specs.declared.Token.{Token}
@@ -19,7 +19,6 @@ use Rattle.refusals.specs.declared.Cause.the-variants.{TextTooLong, EndsEarly, 
 use Rattle.refusals.specs.Reading.{Reading, got, refuse, andThen, unless}
 use Rattle.meaning.specs.Data.{Datum}
 use Rattle.data.specs.Placed.{Span, span, Block, block, Entries, noMore, entry, Content, string, word, inside, spelledBlock}
-use Rattle.data.specs.Placed
 use Rattle.refusals.specs.Steps.{syntaxFault}
 
 -- a token of the sort asked for

@@ -1,13 +1,13 @@
 -- The tape: a data text's members as rows of numbers, in text order, for a judge that never reads the text's structure again. Each member is a row; behind a row come the rows of
 -- what is inside it, and then the row of the next member of its block. Assumes nothing.
-use mathlib.Core.Bool.{Bool, true, false, cond}
+use mathlib.Core.Bool.{cond}
 use mathlib.Core.Option.{Option, none, some}
 use mathlib.Core.List.{List, [], _∷_, _++_}
 use Prim.Native.Nat.{ℕ, zero, suc, _+_, _-_}
 use lib.Dec.{eqb}
 use lib.ListN.{getD, take, drop}
 use Rattle.lexis.specs.Runs.{part}
-use Rattle.meaning.specs.Data.{Datum, datum, Members, member}
+use Rattle.meaning.specs.Data.{datum, Members, member}
 use Rattle.meaning.specs.Data
 use Rattle.data.specs.Placed.{Span, Block, block, Entries, noMore, entry, Content, string, word, inside}
 

@@ -1,11 +1,11 @@
 -- Demands 1 and 2, as far as the definitions go. Assumes nothing.
-use mathlib.Core.Path.{_≡_, refl, sym, _∙_}
+use mathlib.Core.Path.{_≡_, refl}
 use mathlib.Core.Bool.{Bool, true, false, cond}
 use mathlib.Core.Option.{Option, none, some}
-use mathlib.Core.List.{List, _++_}
-use Prim.Native.Nat.{ℕ, _+_, _≤_}
+use mathlib.Core.List.{List}
+use Prim.Native.Nat.{ℕ, _+_}
 use lib.Dec.{ltb}
-use lib.ListN.{length, take, drop}
+use lib.ListN.{length, drop}
 use lib.Seq.{take-append-seam, drop-append-seam}
 use native.Mathlib.Omega.{arith}
 use borrow.Author.Tests.{le-ltb}
@@ -15,13 +15,14 @@ use Rattle.refusals.specs.Limits.{recordLimit, poolLimit}
 use Rattle.refusals.specs.declared.Refusal.{Refusal}
 use Rattle.meaning.specs.Constraints.{Object}
 use Rattle.constraint.specs.Texts.{constraintOf}
-use Rattle.table.specs.Records.{Image, count, imageOf, bytesOf}
+use Rattle.table.specs.Records.{count, imageOf, bytesOf}
 use Rattle.table.specs.Check.{tableFault}
 use Rattle.merge.specs.Merge.{merged}
-use Rattle.merge.specs.Answer.{MergeAnswer, Merging, mergeAnswer, join, orFault}
+use Rattle.merge.specs.Answer.{MergeAnswer, Merging, mergeAnswer, orFault}
 use Rattle.merge.specs.Answer
-use Rattle.compile.specs.Answer.{CompileAnswer, Compiling, compileAnswer, tableOf, write}
+use Rattle.compile.specs.Answer.{compileAnswer, tableOf, write}
 use Rattle.compile.specs.Answer as Compile
+use Rattle.judge.specs.Answer.{judgeAnswer}
 use Rattle.demands.specs.Demands.{Demand1, Demand2}
 
 compile-kept : (text : List ℕ) (little : Bool) (out : List ℕ) (r : Refusal) → compileAnswer text little out .answer ≡ Compile.refused r → compileAnswer text little out .out ≡ out
@@ -74,10 +75,14 @@ unfolding Kept
 demand1 = record { compiling = compile-kept; merging = merge-kept }
 
 pub demand2 : Demand2
-unfolding compileAnswer
+unfolding compileAnswer judgeAnswer
 demand2 = record {
   accepted = λ text tree end little out e h.
       let b : ltb (length out) (length (tableOf little tree)) ≡ false = le-ltb (length out) (length (tableOf little tree)) h in
       rw (e, b) (refl, take-append-seam (tableOf little tree) (drop (length (tableOf little tree)) out), drop-append-seam (tableOf little tree) (drop (length (tableOf little tree)) out));
   refused = λ text r little out e. rw e;
+  verdict = λ table root form o d end a b c. rw (a, b, c);
+  no-table = λ table root form r a. rw a;
+  no-object = λ table root form a b. rw (a, b);
+  no-datum = λ table root form o r a b c. rw (a, b, c);
 }

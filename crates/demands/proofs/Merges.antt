@@ -1,46 +1,44 @@
 -- Demand 3: judging after a list of merges is what the two texts mean, the record moved by the sum. Assumes nothing.
-use mathlib.Core.Path.{_≡_, refl, sym, ap, _∙_}
+use mathlib.Core.Path.{_≡_, refl, ap, _∙_}
 use mathlib.Core.Bool.{Bool, true, false, cond}
-use mathlib.Core.Option.{Option, none, some}
+use mathlib.Core.Option.{none, some}
 use mathlib.Core.List.{List, [], _∷_, _++_}
-use Prim.Native.Nat.{ℕ, _+_, _≤_, _<_}
+use Prim.Native.Nat.{ℕ, _+_, _<_}
 use native.Mathlib.Omega.{arith}
 use lib.Dec.{ltb}
 use lib.ListN.{length, take, drop}
 use lib.Seq.{take-append-seam}
 use Rattle.refusals.specs.Reading
 use Rattle.refusals.specs.Reading.{Reading, got}
-use Rattle.refusals.specs.declared.Refusal.{Refusal}
 use Rattle.refusals.specs.declared.Cause.the-variants.{OutputTooShort}
-use Rattle.meaning.specs.Constraints.{Object, object, Attributes, noMore, attribute, Value, any, nested, leaf, Leaf, Range, Text}
+use Rattle.meaning.specs.Constraints.{Object}
 use Rattle.meaning.specs.Data.{Datum}
-use Rattle.meaning.specs.Moving.{movedObject, movedVerdict}
+use Rattle.meaning.specs.Moving.{movedObject}
 use Rattle.meaning.specs.Proper.{ProperObject}
-use Rattle.meaning.specs.Judging.{judge}
 use Rattle.meaning.proofs.Moved.{judge-moved, moved-none, moved-twice}
 use Rattle.meaning.proofs.NumberedLaws.{object-numbered}
 use Rattle.constraint.specs.Texts.{constraintOf}
 use Rattle.constraint.proofs.TreeReading.{pre-order, pool-fits, records-fit, tree-proper}
 use Rattle.data.specs.Data.{datumOf}
-use Rattle.table.specs.Records.{Image, count, imageOf, bytesOf}
+use Rattle.table.specs.Records.{count, imageOf}
 use Rattle.table.specs.Check.{tableFault}
-use Rattle.table.specs.Trees.{Tree, ofObject, treeAt, objectAt}
+use Rattle.table.specs.Trees.{ofObject, treeAt}
 use Rattle.table.proofs.Checked.{Checked}
 use Rattle.table.proofs.CheckLaws.{check-sound, check-complete, image-back}
 use Rattle.table.proofs.TreeLaws.{movedTree}
-use Rattle.merge.specs.Merge.{Shifts, shiftsBy, merged}
+use Rattle.merge.specs.Merge.{Shifts, merged}
 use Rattle.merge.specs.Answer.{MergeAnswer, Merging, mergeAnswer}
 use Rattle.merge.specs.Answer
-use Rattle.merge.specs.Lists.{Step, Carried, carried, mergeOf, behind, afterStep, afterSteps}
+use Rattle.merge.specs.Lists.{Step, Carried, carried, behind, afterStep, afterSteps}
 use Rattle.merge.proofs.MergeLaws.{count-merged, tree-kept, tree-moved}
 use Rattle.merge.proofs.CheckedMerge.{checked-merge}
 use Rattle.merge.proofs.Answers.{Joined, merge-gives}
 use Rattle.compile.specs.Flatten.{imageOfTree}
-use Rattle.compile.specs.Answer.{CompileAnswer, Compiling, compileAnswer, tableOf, write}
+use Rattle.compile.specs.Answer.{compileAnswer, tableOf, write}
 use Rattle.compile.specs.Answer as Compile
-use Rattle.compile.proofs.FlattenLaws.{tree-compiled, object-length}
+use Rattle.compile.proofs.FlattenLaws.{tree-compiled}
 use Rattle.compile.proofs.CheckedCompiled.{checked-compiled}
-use Rattle.judge.specs.Answer.{JudgeAnswer, judgeDatum, judgeText, judgeAnswer, underRoot, movedAnswer}
+use Rattle.judge.specs.Answer.{judgeDatum, judgeText, judgeAnswer, movedAnswer}
 use Rattle.judge.specs.Answer as Judge
 use Rattle.demands.specs.Demands.{meaningBy, meaningOf, Demand3}
 

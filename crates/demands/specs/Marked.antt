@@ -1,8 +1,8 @@
 -- M1 to M12: document 01, 'Both sides of the edge', the examples marked M, as one table. Each row is computed by the definitions themselves: a constraint text is compiled into a
 -- table, and a data text is judged by that table at record 1; or two tables are merged. Assumes nothing.
-use mathlib.Core.Bool.{Bool, true, false, cond}
-use mathlib.Core.List.{List, [], _∷_, _++_, map}
-use Prim.Native.Nat.{ℕ, _+_}
+use mathlib.Core.Bool.{Bool, false}
+use mathlib.Core.List.{List, [], _∷_, _++_}
+use Prim.Native.Nat.{ℕ}
 use Prim.Native.String.{String}
 use lib.Dec.{eqb}
 use lib.ListN.{take, replicate}
@@ -13,7 +13,7 @@ use Rattle.table.specs.Records.{imageOf, field}
 use Rattle.table.specs.Names.{recordAt}
 use Rattle.merge.specs.Answer.{MergeAnswer, mergeAnswer}
 use Rattle.merge.specs.Answer as Merge
-use Rattle.compile.specs.Answer.{CompileAnswer, Compiling, compileAnswer}
+use Rattle.compile.specs.Answer.{CompileAnswer, compileAnswer}
 use Rattle.compile.specs.Answer as Compile
 use Rattle.judge.specs.Answer.{JudgeAnswer, judgeAnswer}
 use Rattle.judge.specs.Answer as Judge

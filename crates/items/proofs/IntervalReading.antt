@@ -13,16 +13,15 @@ use Rattle.lexis.proofs.Cases.{by-cond}
 use Rattle.lexis.specs.Spelling.{bar, dots, less, greater, atMost, atLeast, plusMinus}
 use Rattle.lexis.specs.Tokens.{tokenAt, integer, date, spelling}
 use Rattle.lexis.specs.declared.Token.{Token}
-use Rattle.lexis.proofs.Places.{Found, token-found}
+use Rattle.lexis.proofs.Places.{token-found}
 use Rattle.values.specs.Integers.{inside, around, greatest}
 use Rattle.values.specs.Calendar.{real, lastDay}
 use Rattle.items.proofs.Pairs.{Kind, kind-strict, Value, EndsGood, ProperPair, value-read, least-good, most-good, after-good, spread-good, closed-proper}
 use Rattle.refusals.specs.Reading.{Reading, got, andThen}
-use Rattle.refusals.specs.Steps.{expect, syntaxFault}
 use Rattle.refusals.specs.declared.Cause.the-variants.{Impossible, OutOfRange, EmptyInterval}
-use Rattle.refusals.proofs.Readings.{Holds, From, Reaches, holds-map, refuse-holds, got-holds, cond-holds, unless-holds, then-holds}
+use Rattle.refusals.proofs.Readings.{Holds, From, holds-map, refuse-holds, got-holds, cond-holds, unless-holds, then-holds}
 use Rattle.refusals.proofs.Tokens.{Passed, strict-of, fault-holds, expect-passes}
-use Rattle.items.specs.Intervals.{Ends, ends, Interval, literal, possible, valueOf, upTo, above, spread, from, between, interval, withLiteral, kindBy, undecided, least, most, after, empty, closed}
+use Rattle.items.specs.Intervals.{Ends, ends, Interval, literal, possible, valueOf, upTo, above, spread, from, between, interval, withLiteral, kindBy, undecided, least, most, after, empty}
 
 -- behind a token of a sort from 2 on, where the next token is of that sort
 pub token-past : (s : List ℕ) (at sort : ℕ) → at ≤ length s → 1 < sort → eqb (tokenAt s at .sort) sort ≡ true → From (at + 1) (length s) (tokenAt s at .end)

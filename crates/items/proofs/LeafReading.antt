@@ -1,8 +1,8 @@
 -- Strings and leaves: places lie in the text, records are numbered one after the other and there is room for them, each pool byte comes from a byte of the text, and a leaf is
 -- proper. Assumes nothing.
 use mathlib.Core.Path.{_≡_, refl, ap}
-use mathlib.Core.Bool.{Bool, true, false, cond, not, _&&_, _||_}
-use mathlib.Core.List.{List, [], _∷_, _++_}
+use mathlib.Core.Bool.{Bool, true, false, cond, _||_}
+use mathlib.Core.List.{List, [], _∷_}
 use Prim.Native.Nat.{ℕ, zero, suc, _+_, _-_, _≤_, _<_}
 use native.Mathlib.Omega.{arith}
 use lib.Dec.{eqb, leb, ltb, lit<}
@@ -18,22 +18,21 @@ use Rattle.lexis.specs.Tokens.{tokenAt, integer, date, string, inner}
 use Rattle.lexis.specs.declared.Token.{Token}
 use Rattle.lexis.proofs.Cases.{and-left, and-right, by-cond}
 use Rattle.lexis.proofs.Places.{Found, token-found}
-use Rattle.lexis.proofs.Parts.{sub-none, sub-all, sub-join, sub-wider, part-sub}
+use Rattle.lexis.proofs.Parts.{sub-none, sub-join, sub-wider, part-sub}
 use Rattle.refusals.specs.Limits.{recordLimit, itemLimit, stringLimit, poolLimit}
-use Rattle.refusals.specs.Reading.{Reading, got, andThen}
+use Rattle.refusals.specs.Reading.{Reading, got}
 use Rattle.refusals.specs.declared.Cause.the-variants.{TooLong, TooManyItems, TooManyRecords, Overlap, PoolTooLarge}
 use Rattle.refusals.proofs.Readings.{Holds, refuse-holds, got-holds, cond-holds, unless-holds, then-holds}
 use Rattle.refusals.proofs.Tokens.{Passed, strict-of, fault-holds, expect-passes}
 use Rattle.meaning.specs.Constraints.{Range, Text, Leaf, booleans, integers, dates, datePattern, timePattern}
 use Rattle.meaning.specs.Constraints
 use Rattle.meaning.specs.Proper.{Some, Each, ProperIntegers, ProperDates, ProperString, ProperLeaf}
-use Rattle.meaning.specs.Counting.{textNumbers, textPool, leafNumbers, leafRecords, leafPool, upFrom, rangeNumbers}
+use Rattle.meaning.specs.Counting.{textNumbers, textPool, leafNumbers, leafRecords, leafPool, upFrom}
 use Rattle.items.specs.Intervals.{undecided}
 use Rattle.items.specs.Ranges.{Ranges, ranges}
-use Rattle.items.specs.Strings.{startString, withText, goOnStrings, strings}
+use Rattle.items.specs.Strings.{startString, goOnStrings, strings}
 use Rattle.items.specs.Leaves.{isBoolean, booleanFlag, secondBoolean, booleanList, rangeLeaf, patternFlag, leaf}
 use Rattle.items.proofs.IntervalReading.{token-past}
-use Rattle.items.proofs.Pairs.{Kind, ProperPair}
 use Rattle.items.proofs.RangeReading.{ProperRange, Listed, ranges-holds}
 
 -- a tree that was read from a place on up to p, the first record's number given: the numbers and the count of its records, what makes it proper, and its pool bytes

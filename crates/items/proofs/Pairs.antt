@@ -1,21 +1,21 @@
 -- Values, ends and closed pairs of a kind: integers as distances up to the greatest, days of the calendar. Assumes nothing.
-use mathlib.Core.Path.{_≡_, refl, sym, _∙_}
-use mathlib.Core.Bool.{Bool, true, false, cond, false≢true}
+use mathlib.Core.Path.{_≡_, refl}
+use mathlib.Core.Bool.{Bool, true, false, cond}
 use mathlib.Core.Option.{Option, none, some, Option·map, Option·some-injective, Option·none-ne-some}
 use mathlib.Core.Logic.{_≢_}
 use mathlib.Core.List.{List}
-use Prim.Native.Nat.{ℕ, _+_, _-_, _≤_, _<_}
+use Prim.Native.Nat.{ℕ, _-_, _≤_, _<_}
 use native.Mathlib.Omega.{arith}
 use lib.Dec.{eqb, leb, ltb}
 use native.Mathlib.Decide.{decLt}
 use borrow.Author.Tests.{eqb-true, eqb-false, ne-eqb, eq-eqb, leb-false, ltb-false}
 use Rattle.lexis.specs.Tokens.{integer, date}
 use Rattle.lexis.proofs.Cases.{by-cond}
-use Rattle.values.specs.Integers.{Pair, pair, integerOf, inside, around, greatest}
-use Rattle.values.specs.Calendar.{real, dayAfter, dayBefore, firstDay, lastDay, monthDays, leap}
+use Rattle.values.specs.Integers.{Pair, pair, inside, around, greatest}
+use Rattle.values.specs.Calendar.{real, dayAfter, dayBefore, lastDay, monthDays, leap}
 use Rattle.values.specs.Dates.{Date, dateOf}
 use Rattle.values.proofs.IntegerLaws.{integer-in-range, around-ends}
-use Rattle.values.proofs.CalendarLaws.{Follows, real-first, real-last, after-follows, before-follows, nearest-before, after-last}
+use Rattle.values.proofs.CalendarLaws.{real-first, real-last, after-follows, before-follows, nearest-before, after-last}
 use Rattle.values.proofs.DateLaws.{date-good}
 use Rattle.items.specs.Intervals.{Ends, ends, valueOf, least, most, after, before, empty, closed}
 

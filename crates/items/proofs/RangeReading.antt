@@ -1,10 +1,10 @@
 -- Lists of integer items and date intervals: places lie in the text, records are numbered one after the other and there is room for them, and each item is a closed pair of
 -- the list's kind. Assumes nothing.
 use mathlib.Core.Path.{_≡_, refl, sym, ap, _∙_}
-use mathlib.Core.Bool.{Bool, true, false, cond, not, _&&_, false≢true}
+use mathlib.Core.Bool.{true, not, _&&_, false≢true}
 use mathlib.Core.Logic.{_≢_}
-use mathlib.Core.List.{List, [], _∷_}
-use Prim.Native.Nat.{ℕ, zero, suc, _+_, _≤_, _<_}
+use mathlib.Core.List.{List, _∷_}
+use Prim.Native.Nat.{ℕ, zero, suc, _+_, _≤_}
 use native.Mathlib.Omega.{arith}
 use lib.Dec.{eqb, lit<}
 use lib.ListN.{length}
@@ -12,19 +12,19 @@ use borrow.Author.Tests.{eqb-false, not-true}
 use Rattle.lexis.proofs.Cases.{and-right}
 use Rattle.lexis.specs.Spelling.{bar, comma}
 use Rattle.lexis.specs.Tokens.{tokenAt, integer, date}
-use Rattle.lexis.proofs.Places.{Found, token-found}
+use Rattle.lexis.proofs.Places.{token-found}
 use Rattle.values.specs.Integers.{Pair, pair, greatest}
 use Rattle.refusals.specs.Limits.{recordLimit}
-use Rattle.refusals.specs.Reading.{Reading, got, andThen}
+use Rattle.refusals.specs.Reading.{Reading}
 use Rattle.refusals.specs.declared.Cause.the-variants.{TooManyItems, TooManyRecords, Overlap}
 use Rattle.refusals.proofs.Readings.{Holds, refuse-holds, got-holds, cond-holds, unless-holds, then-holds, holds-map}
 use Rattle.refusals.proofs.Tokens.{fault-holds}
 use Rattle.meaning.specs.Constraints.{Range}
-use Rattle.meaning.specs.Proper.{Some, Each}
+use Rattle.meaning.specs.Proper.{Some}
 use Rattle.meaning.specs.Counting.{rangeNumbers, upFrom}
 use Rattle.items.specs.Intervals.{undecided, Interval, interval, literal}
-use Rattle.items.specs.Ranges.{Start, start, item, overlaps, Ranges, range, withFirst, goOn, ranges}
-use Rattle.items.proofs.Pairs.{Kind, kind-strict, Value, ProperPair}
+use Rattle.items.specs.Ranges.{Start, start, item, overlaps, Ranges, goOn, ranges}
+use Rattle.items.proofs.Pairs.{Kind, kind-strict, ProperPair}
 use Rattle.items.proofs.IntervalReading.{Asked, Literal, Shut, token-past, literal-holds, interval-holds}
 
 -- an item's first token, from a place on; a value stands in no list of dates

@@ -1,9 +1,9 @@
 -- Leaves. Document 01, 'Constraint text': "leaf: Booleans by comma (one or two); or items by comma, all integer, all string or all date interval; or one
 -- pattern". Assumes nothing.
-use mathlib.Core.Bool.{Bool, true, false, cond, _&&_, _||_}
-use mathlib.Core.List.{List, [], _∷_}
+use mathlib.Core.Bool.{Bool, cond, _||_}
+use mathlib.Core.List.{List, []}
 use Prim.Native.Nat.{ℕ, _+_, _-_}
-use lib.Dec.{eqb, leb}
+use lib.Dec.{eqb}
 use Rattle.lexis.specs.Bytes.{within}
 use Rattle.lexis.specs.Spelling.{bar, comma, trueWord, falseWord}
 use Rattle.lexis.specs.Spelling
@@ -11,7 +11,7 @@ use Rattle.lexis.specs.Tokens.{tokenAt, integer, date, string}
 use Rattle.lexis.specs.declared.Token.{Token}
 use Rattle.refusals.specs.Limits.{recordLimit, itemLimit}
 use Rattle.refusals.specs.declared.Cause.the-variants.{TooManyRecords, Overlap}
-use Rattle.refusals.specs.Reading.{Reading, got, refuse, andThen, unless}
+use Rattle.refusals.specs.Reading.{Reading, got, andThen, unless}
 use Rattle.meaning.specs.Constraints.{Leaf, booleans, integers, dates, datePattern, timePattern}
 use Rattle.meaning.specs.Constraints
 use Rattle.refusals.specs.Steps.{syntaxFault}
@@ -54,8 +54,8 @@ leaf s number pool from =
     (andThen (ranges s itemLimit undecided number [] from) (λ l p. got (rangeLeaf l) p))
     (cond (eqb (t .sort) string)
     (andThen (strings s itemLimit number pool [] from) (λ l p. got (Constraints.strings l) p))
-    (cond (within 31 35 (t .sort))
+    (cond (within (Spelling.datePattern + 1) (Spelling.datePattern + 5) (t .sort))
     (unless (eqb number recordLimit) TooManyRecords (t .start) (got (datePattern number (patternFlag Spelling.datePattern t)) (t .end)))
-    (cond (within 41 44 (t .sort))
+    (cond (within (Spelling.timePattern + 1) (Spelling.timePattern + 4) (t .sort))
     (unless (eqb number recordLimit) TooManyRecords (t .start) (got (timePattern number (patternFlag Spelling.timePattern t)) (t .end)))
     (syntaxFault t)))))

@@ -1,8 +1,8 @@
 -- Lists of strings. Document 01, 'Constraint text': "string: `\"`, bytes 20 to 7E hex except `\"` and `\\`, `\"`"; "items by comma"; 'Numbers of refusal',
 -- 4, 7, 8, 9 and 10 at the string. Its bytes go to the pool without the quotes. Assumes nothing.
-use mathlib.Core.Bool.{Bool, true, false, cond}
+use mathlib.Core.Bool.{cond}
 use mathlib.Core.List.{List, [], _∷_}
-use Prim.Native.Nat.{ℕ, zero, suc, _+_, _-_}
+use Prim.Native.Nat.{ℕ, zero, suc, _+_}
 use lib.Dec.{eqb, ltb}
 use lib.ListN.{length}
 use Rattle.lexis.specs.Runs.{listed}
@@ -10,7 +10,7 @@ use Rattle.lexis.specs.Spelling.{comma}
 use Rattle.lexis.specs.Tokens.{tokenAt, string, inner}
 use Rattle.lexis.specs.declared.Token.{Token}
 use Rattle.refusals.specs.Limits.{recordLimit, poolLimit, stringLimit}
-use Rattle.refusals.specs.declared.Cause.the-variants.{TooLong, TooManyItems, TooManyRecords, RepeatedName, Overlap, PoolTooLarge}
+use Rattle.refusals.specs.declared.Cause.the-variants.{TooLong, TooManyItems, TooManyRecords, Overlap, PoolTooLarge}
 use Rattle.refusals.specs.Reading.{Reading, got, refuse, andThen, unless}
 use Rattle.meaning.specs.Constraints.{Text}
 use Rattle.refusals.specs.Steps.{expect}

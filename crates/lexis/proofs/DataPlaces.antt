@@ -1,20 +1,19 @@
 -- Places of data text's tokens. Assumes nothing.
-use mathlib.Core.Path.{_≡_, refl}
-use mathlib.Core.Bool.{Bool, true, false, cond}
-use mathlib.Core.List.{List, [], _∷_}
-use Prim.Native.Nat.{ℕ, _+_, _≤_, _<_}
+use mathlib.Core.Path.{_≡_}
+use mathlib.Core.Bool.{true}
+use mathlib.Core.List.{List}
+use Prim.Native.Nat.{ℕ, _≤_, _<_}
 use native.Mathlib.Omega.{arith}
 use lib.Dec.{eqb, leb}
 use lib.ListN.{length, drop}
 use borrow.Author.Tests.{leb-false}
 use Rattle.lexis.specs.Text.{byte}
 use Rattle.lexis.specs.Bytes.{runByte}
-use Rattle.lexis.specs.Runs.{past, byteAt, part}
+use Rattle.lexis.specs.Runs.{past, byteAt}
 use Rattle.lexis.specs.Blanks.{tokenStart}
 use Rattle.lexis.specs.Tokens.{noToken}
 use Rattle.lexis.specs.DataTokens.{dataMarks, run, runSort, typeSort, dataTokenOn, dataTokenAt, typeTokenAt}
-use Rattle.lexis.specs.declared.Token.{Token}
-use Rattle.lexis.proofs.Places.{Between, Spans, Found, spans-cond, none-spans, end-spans, to-spans, spelled-spans, quoted-spans, run-between, run-strict, start-between, found-by}
+use Rattle.lexis.proofs.Places.{Spans, Found, spans-cond, none-spans, end-spans, to-spans, spelled-spans, quoted-spans, run-between, run-strict, start-between, found-by}
 
 module _ (sorted : List ℕ → ℕ → ℕ) (s : List ℕ) where
   run-spans : (at : ℕ) → at < length s → runByte (byteAt s at) ≡ true → Spans s at (run sorted s at)

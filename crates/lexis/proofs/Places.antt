@@ -1,23 +1,23 @@
 -- Places: what is read from a place of a text lies in the text. Assumes nothing.
-use mathlib.Core.Path.{_≡_, refl, sym, ap, _∙_}
+use mathlib.Core.Path.{_≡_, refl, sym}
 use mathlib.Core.Bool.{Bool, true, false, cond, not, _&&_, _||_, false≢true, or-true}
 use mathlib.Core.Logic.{_≢_}
 use mathlib.Core.List.{List, [], _∷_}
 use Prim.Native.Nat.{ℕ, zero, suc, _+_, _-_, _≤_, _<_}
 use native.Mathlib.Omega.{arith}
 use lib.Dec.{eqb, leb}
-use lib.ListN.{length, drop, getD, length-drop}
+use lib.ListN.{length, drop, length-drop}
 use lib.Seq.{drop-cons}
 use native.Mathlib.Numerals.{add-one}
-use borrow.Author.Tests.{leb-true, leb-false, eqb-true, eqb-false}
-use Rattle.lexis.specs.Bytes.{is, blank, sortOf, lineEnd, digit, small, capital, mark, wordByte, stringByte}
+use borrow.Author.Tests.{leb-false, eqb-true, eqb-false}
+use Rattle.lexis.specs.Bytes.{is, blank, lineEnd, digit, small, capital, mark, wordByte, stringByte}
 use Rattle.lexis.specs.Runs.{past, byteAt, startsWith, shaped, allows}
 use Rattle.lexis.specs.Blanks.{skip, opensComment, tokenStart}
-use Rattle.lexis.specs.Spelling.{Literal, wordSort, marks, keywords, elementSign, booleans, datePatterns, timePatterns, codeStart, dateShape}
+use Rattle.lexis.specs.Spelling.{Literal, marks, keywords, elementSign, booleans, datePatterns, timePatterns, codeStart, dateShape}
 use Rattle.lexis.specs.Text.{byte}
-use Rattle.lexis.specs.Tokens.{token, noToken, spelled, word, number, sign, quoted, codeEnd, codeTo, bracket, special, tokenOn, tokenAt, textEnd, unreadable, typeName, name, integer, date, string, code}
+use Rattle.lexis.specs.Tokens.{token, noToken, spelled, word, number, sign, quoted, codeEnd, bracket, special, tokenOn, tokenAt, textEnd, unreadable, typeName, name, integer, date, string, code}
 use Rattle.lexis.specs.declared.Token.{Token}
-use Rattle.lexis.proofs.Cases.{by-cond, either, and-left, and-right}
+use Rattle.lexis.proofs.Cases.{by-cond, and-right}
 
 -- a place that a walk over bytes from a place on comes to
 pub record Between (low high x : ℕ) : Type 0 where

@@ -1,9 +1,9 @@
 -- The tokens of data text. Document 01, 'Data text': "A leaf is a string or a word, the longest run of letters, digits, `_ + - . :`. A run that
 -- opens with a small letter is a NAME or unreadable (2), never a word; after `(` a run is a TYPE or unreadable." Assumes nothing.
-use mathlib.Core.Bool.{Bool, true, false, cond, _&&_}
+use mathlib.Core.Bool.{cond}
 use mathlib.Core.List.{List, [], _∷_}
 use Rattle.lexis.specs.Text.{byte, bytes}
-use Prim.Native.Nat.{ℕ, _+_}
+use Prim.Native.Nat.{ℕ}
 use lib.Dec.{eqb, leb}
 use lib.ListN.{length, drop}
 use Rattle.lexis.specs.Bytes.{is, small, capital, wordByte, runByte}

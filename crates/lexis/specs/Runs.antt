@@ -4,7 +4,7 @@ use mathlib.Core.List.{List, [], _∷_}
 use Prim.Native.Nat.{ℕ, _+_, _-_}
 use lib.Dec.{eqb}
 use Rattle.lexis.specs.Text.{byte}
-use lib.ListN.{length, getD, take, drop}
+use lib.ListN.{getD, take, drop}
 use Rattle.lexis.specs.Bytes.{is, digit}
 
 -- the first place from `at` on, of the bytes from there, whose byte does not pass the test

@@ -1,10 +1,9 @@
 -- The tokens that document 01 spells out, as bytes: 'Constraint text', marks, keywords, Booleans, patterns. Assumes nothing.
-use mathlib.Core.Bool.{Bool, true, false, cond}
+use mathlib.Core.Bool.{cond}
 use mathlib.Core.List.{List, [], _∷_}
 use Rattle.lexis.specs.Text.{bytes}
 use Prim.Native.Nat.{ℕ, _+_}
-use lib.ListN.{length}
-use Rattle.lexis.specs.Runs.{same, startsWith}
+use Rattle.lexis.specs.Runs.{same}
 
 -- the sorts of tokens that are spelled in one way
 abbrev pub matches : ℕ

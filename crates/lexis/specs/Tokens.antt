@@ -1,13 +1,13 @@
 -- The tokens of constraint text. Document 01, 'Constraint text': "Tokens by longest match"; the text's end is a token (number 2).
 -- What begins as a pattern, a date or a longer mark is that, and not the shorter NAME, TYPE, integer or mark with which it begins.
 -- Assumes nothing.
-use mathlib.Core.Bool.{Bool, true, false, cond, _&&_, _||_}
+use mathlib.Core.Bool.{Bool, false, cond, _&&_, _||_}
 use mathlib.Core.List.{List, [], _∷_}
 use Prim.Native.Nat.{ℕ, _+_, _-_}
 use Rattle.lexis.specs.Text.{byte}
 use lib.Dec.{eqb, leb}
 use lib.ListN.{length, drop}
-use Rattle.lexis.specs.Bytes.{is, sortOf, digit, small, capital, mark, wordByte, stringByte}
+use Rattle.lexis.specs.Bytes.{is, digit, small, capital, mark, wordByte, stringByte}
 use Rattle.lexis.specs.Runs.{past, byteAt, part, startsWith, shaped}
 use Rattle.lexis.specs.Blanks.{tokenStart}
 use Rattle.lexis.specs.Spelling.{Literal, wordSort, marks, keywords, elementSign, booleans, datePatterns, timePatterns, codeStart, dateShape}

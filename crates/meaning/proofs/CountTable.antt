@@ -2,7 +2,7 @@
 -- This file is written by `example_tables write` of second/. Assumes nothing.
 use mathlib.Core.Path.{_≡_, refl}
 use mathlib.Core.List.{List, [], _∷_}
-use Rattle.meaning.specs.Constraints.{Object, object, noMore, attribute, any, nested, leaf, booleans, integers, strings, datePattern, dates, timePattern}
+use Rattle.meaning.specs.Constraints.{prohibited, optional, required, Object, object, noMore, attribute, any, nested, leaf, booleans, integers, strings, datePattern, dates, timePattern}
 use Rattle.meaning.specs.Counting.{objectRecords, objectPool, objectNumbers}
 use Rattle.meaning.proofs.Trees.{range, item, each}
 
@@ -30,3 +30,7 @@ pools-filled = refl
 pub numbers-in-order : each objectNumbers trees ≡ ((1 ∷ []) ∷ (1 ∷ 2 ∷ 3 ∷ []) ∷ (1 ∷ 2 ∷ 3 ∷ 4 ∷ 5 ∷ 6 ∷ 7 ∷ 8 ∷ 9 ∷ 10 ∷ 11 ∷ []) ∷ (1 ∷ 2 ∷ 3 ∷ 4 ∷ 5 ∷ 6 ∷ 7 ∷ 8 ∷ 9 ∷ 10 ∷ []) ∷ (1 ∷ 2 ∷ 3 ∷ 4 ∷ 5 ∷ 6 ∷ 7 ∷ 8 ∷ 9 ∷ 10 ∷ 11 ∷ []) ∷ (1 ∷ 2 ∷ 3 ∷ 4 ∷ 5 ∷ 6 ∷ 7 ∷ 8 ∷ 9 ∷ 10 ∷ 11 ∷ []) ∷ [])
 unfolding trees objectNumbers
 numbers-in-order = refl
+
+-- the flags of 0..0, 0..1 and 1..1
+pub existence-flags : (prohibited ∷ optional ∷ required ∷ []) ≡ (0 ∷ 1 ∷ 2 ∷ [])
+existence-flags = refl

@@ -3,11 +3,10 @@ use mathlib.Core.Path.{_≡_, refl, sym, ap, ap₂, _∙_}
 use mathlib.Core.Bool.{Bool, true, false, cond, _||_}
 use mathlib.Core.Option.{Option, none, some}
 use mathlib.Core.List.{List, [], _∷_, map}
-use Prim.Native.Nat.{ℕ, _+_, _≤_}
+use Prim.Native.Nat.{ℕ, _+_}
 use native.Mathlib.Nat.{zero-add, add-assoc}
 use native.Mathlib.Omega.{arith}
 use lib.Dec.{eqb}
-use lib.ListN.{length}
 use Rattle.lexis.specs.Runs.{same}
 use Rattle.meaning.specs.Constraints.{Range, Text, Leaf, booleans, integers, strings, datePattern, dates, timePattern, Object, object, Attributes, attribute, Value, any, nested, leaf, required, prohibited}
 use Rattle.meaning.specs.Constraints
@@ -16,7 +15,7 @@ use Rattle.meaning.specs.Verdicts.{Verdict, valid, fails}
 use Rattle.meaning.specs.Admission.{Finding, unsuited, refuted, admitted, inRange, inSome, isSome, wordUnder, stringUnder, leafNumber}
 use Rattle.meaning.specs.Judging.{andThen, placeOf, memberOf, typeSuits, verdictOf, judgeLeaf, judgeMember, judgeContent, objectNumber, judge, judgeAttributes, judgeValue}
 use Rattle.meaning.specs.Moving.{movedRange, movedText, movedLeaf, movedObject, movedAttributes, movedValue, movedVerdict}
-use Rattle.meaning.specs.Proper.{Some, ProperLeaf, ProperObject, ProperAttributes, ProperValue}
+use Rattle.meaning.specs.Proper.{ProperLeaf, ProperObject, ProperAttributes, ProperValue}
 
 -- the choices on the way
 move-cond : (s : ℕ) (b : Bool) (u v : Verdict) → movedVerdict s (cond b u v) ≡ cond b (movedVerdict s u) (movedVerdict s v)

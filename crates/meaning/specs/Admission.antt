@@ -1,13 +1,13 @@
 -- What a leaf admits. Document 01, 'Meaning': "Lists admit a value in some item; a date interval admits full dates only. Patterns: lettered parts must be there,
 -- `??` may, `XX` may not .. the zone is free"; 'Numbers of refusal', 20: "leaf unreadable as the kind asked", 24: "value not admitted". Assumes nothing.
-use mathlib.Core.Bool.{Bool, true, false, cond, _&&_, _||_}
+use mathlib.Core.Bool.{Bool, false, cond, _&&_, _||_}
 use mathlib.Core.Option.{Option, none, some}
 use mathlib.Core.List.{List, [], _∷_}
 use Prim.Native.Nat.{ℕ}
 use lib.Dec.{eqb, leb}
 use Rattle.lexis.specs.Runs.{same}
 use Rattle.values.specs.Integers.{integerOf}
-use Rattle.values.specs.Dates.{Date, dateOf}
+use Rattle.values.specs.Dates.{dateOf}
 use Rattle.values.specs.Times.{timeOf}
 use Rattle.values.specs.Patterns.{fitsDate, fitsTime}
 use Rattle.values.specs.Words.{booleanOf}

@@ -1,7 +1,7 @@
 -- The meaning: judging a datum by an object. Document 01, 'Meaning': "An object admits a block whose type, if written, is its own and whose members satisfy each
 -- attribute"; "Judging walks type first, then attributes in table order, each finished before the next; the first failure is told"; 'Numbers of refusal', 20 to
 -- 24. Assumes nothing.
-use mathlib.Core.Bool.{Bool, true, false, cond, not}
+use mathlib.Core.Bool.{Bool, true, cond}
 use mathlib.Core.Option.{Option, none, some}
 use mathlib.Core.List.{List}
 use Prim.Native.Nat.{ℕ}
@@ -51,10 +51,11 @@ abbrev pub judgeMember : (number existence place : ℕ) → Option Content → (
 judgeMember number existence place none value = cond (eqb existence required) (fails 22 number place) valid
 judgeMember number existence place (some c) value = cond (eqb existence prohibited) (fails 23 number (placeOf c)) (value c)
 
--- a block under an object, given how the object's attributes judge; a leaf there is 20
+-- a block under an object, given how the object's attributes judge
 abbrev pub judgeBlock : (number : ℕ) (type : List ℕ) → (ℕ → Members → Verdict) → Datum → Verdict
 judgeBlock number type attributes (datum p t ms) = cond (typeSuits type t) (attributes p ms) (fails 21 number p)
 
+-- a member's content under an object, given how the object judges a block; a leaf there is 20
 abbrev pub judgeContent : (number : ℕ) → (Datum → Verdict) → Content → Verdict
 judgeContent number inside (string p w) = fails 20 number p
 judgeContent number inside (word p w) = fails 20 number p

@@ -1,5 +1,5 @@
 -- A tree with the numbers of its records moved, nothing else changed. Assumes nothing.
-use mathlib.Core.List.{List, [], _∷_, map}
+use mathlib.Core.List.{map}
 use Prim.Native.Nat.{ℕ, _+_}
 use Rattle.meaning.specs.Verdicts.{Verdict, valid, fails}
 use Rattle.meaning.specs.Constraints.{Range, Text, Leaf, booleans, integers, strings, datePattern, dates, timePattern, Object, object, Attributes, noMore, attribute, Value, any, nested, leaf}

@@ -1,6 +1,6 @@
 -- What a merge that is not refused gives: both tables pass the check, the joined table has room, and the bytes written are the joined table's. Assumes nothing.
-use mathlib.Core.Path.{_≡_, refl, sym, ap, _∙_}
-use mathlib.Core.Bool.{Bool, true, false, cond}
+use mathlib.Core.Path.{_≡_, refl}
+use mathlib.Core.Bool.{Bool, true, false}
 use mathlib.Core.Option.{Option, none, some}
 use mathlib.Core.List.{List, _++_}
 use Prim.Native.Nat.{ℕ, _+_, _≤_}
@@ -11,10 +11,10 @@ use lib.Seq.{take-append-seam}
 use borrow.Author.Tests.{ltb-false}
 use Rattle.refusals.specs.Limits.{recordLimit, poolLimit}
 use Rattle.refusals.specs.declared.Refusal.{Refusal}
-use Rattle.table.specs.Records.{Image, count, imageOf, bytesOf}
+use Rattle.table.specs.Records.{count, imageOf, bytesOf}
 use Rattle.table.specs.Check.{tableFault}
 use Rattle.merge.specs.Merge.{Shifts, shiftsBy, merged}
-use Rattle.merge.specs.Answer.{MergeAnswer, refused, done, Merging, merging, orFault, unless, join, mergeAnswer}
+use Rattle.merge.specs.Answer.{refused, done, Merging, merging, orFault, unless, mergeAnswer}
 
 pub record Joined (first second : List ℕ) (little : Bool) (size : ℕ) (shifts : Shifts) (out : List ℕ) : Type 0 where
   pub first-passes : tableFault first ≡ none

@@ -1,9 +1,9 @@
 -- What merging answers, and the output buffer behind it. Document 01, 'Numbers of refusal': "Merge: first table, second, 8, 10, 11, naming the table for 12 and 13";
 -- 8 at 0: "merged count above 2,048", 10 at 0: "pool above 16,384", 11 at the needed length: "output too short"; "On refusal no byte of output changes; on success
 -- only bytes past the table's end stay". Assumes nothing.
-use mathlib.Core.Bool.{Bool, true, false, cond}
+use mathlib.Core.Bool.{Bool, cond}
 use mathlib.Core.Option.{Option, none, some}
-use mathlib.Core.List.{List, [], _∷_, _++_}
+use mathlib.Core.List.{List, _++_}
 use Prim.Native.Nat.{ℕ, _+_}
 use lib.Dec.{ltb}
 use lib.ListN.{length, drop}

@@ -1,7 +1,7 @@
 -- A list of merges: document 01, 'The merges of demand 3'. "Each merge is lent the carried table alone, without the bytes behind its end, as first or second; the other table
 -- is any bytes .. all other arguments are free. It is refused exactly when the rules of merging say so, and then table and sum stay. Otherwise the table written .. is the
 -- carried one from there on; where the carried table was second, the sum grows by the record shift reported". Assumes nothing.
-use mathlib.Core.Bool.{Bool, true, false, cond}
+use mathlib.Core.Bool.{Bool, cond}
 use mathlib.Core.List.{List, [], _∷_}
 use Prim.Native.Nat.{ℕ, _+_}
 use lib.ListN.{take}

@@ -1,6 +1,6 @@
 -- Two tables joined. Document 01, 'Table': "first table's records keep their numbers, the second's gain first count − 1; links other than 0 move so, pool places of
 -- length above 0 gain the first pool's bytes. Header: counts summed less one, pools summed, first root". Assumes nothing.
-use mathlib.Core.Bool.{Bool, cond}
+use mathlib.Core.Bool.{cond}
 use mathlib.Core.List.{List, [], _∷_, _++_, map}
 use Prim.Native.Nat.{ℕ, _+_}
 use lib.Dec.{eqb}

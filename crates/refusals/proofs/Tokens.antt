@@ -1,17 +1,14 @@
 -- A token taken from a place of a text on lies in the text, and so does the place of a syntax fault. Assumes nothing.
-use mathlib.Core.Path.{_≡_, refl, sym, _∙_}
-use mathlib.Core.Bool.{Bool, true, false, cond}
-use mathlib.Core.Logic.{_≢_}
+use mathlib.Core.Path.{_≡_, refl}
 use mathlib.Core.List.{List}
-use Prim.Native.Nat.{ℕ, _+_, _≤_, _<_}
+use Prim.Native.Nat.{ℕ, _≤_, _<_}
 use native.Mathlib.Omega.{arith}
-use lib.Dec.{eqb, ltb}
+use lib.Dec.{eqb}
 use lib.ListN.{length}
-use borrow.Author.Tests.{eqb-true, ltb-true}
-use Rattle.lexis.specs.Tokens.{tokenAt, textEnd, unreadable}
+use borrow.Author.Tests.{eqb-true}
+use Rattle.lexis.specs.Tokens.{tokenAt}
 use Rattle.lexis.specs.declared.Token.{Token}
 use Rattle.lexis.proofs.Places.{Found, token-found}
-use Rattle.refusals.specs.Reading.{Reading, got}
 use Rattle.refusals.specs.Steps.{syntaxFault, syntaxCause, expect}
 use Rattle.refusals.proofs.Readings.{Holds, refuse-holds, got-holds, cond-holds}
 

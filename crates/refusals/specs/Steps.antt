@@ -1,6 +1,6 @@
 -- One token after another. Document 01, 'Numbers of refusal', 2: "first token that can't follow, or unreadable", at the token; "text end is a token".
 -- Assumes nothing.
-use mathlib.Core.Bool.{Bool, cond}
+use mathlib.Core.Bool.{cond}
 use mathlib.Core.List.{List}
 use Prim.Native.Nat.{ℕ}
 use lib.Dec.{eqb}

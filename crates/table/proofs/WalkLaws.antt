@@ -14,12 +14,12 @@ use Rattle.values.specs.Integers.{twosComplement}
 use Rattle.meaning.specs.Constraints.{Range, booleans, strings, datePattern, timePattern, object, attribute}
 use Rattle.meaning.specs.Constraints
 use Rattle.table.specs.Records.{Record, Image, fieldCount, field, count}
-use Rattle.table.specs.Rows.{Use, unnamed, place, length, link, integers, dates, high, rowOf}
-use Rattle.table.specs.Check.{kindAt, fieldRight, fieldsRight}
+use Rattle.table.specs.Rows.{Use, unnamed, length, link, integers, dates, high, rowOf}
+use Rattle.table.specs.Check.{fieldRight}
 use Rattle.table.specs.Names.{recordAt}
-use Rattle.table.specs.Trees.{Part, number, name, step, partOf, partsOf, Cell, cell, cells, cellsOf, partAt, stepIn, Tree, nothing, ofObject, ofAttributes, ofLeaf, attributesIn, valueIn, integersOf, datesOf, stringsOf, itemsIn, reach, treeOf, trees, treesOf, treeAt}
+use Rattle.table.specs.Trees.{number, partOf, partsOf, Cell, cell, cells, cellsOf, partAt, stepIn, Tree, nothing, ofObject, ofAttributes, ofLeaf, attributesIn, valueIn, integersOf, datesOf, stringsOf, itemsIn, reach, treeOf, trees, treesOf, treeAt}
 use Rattle.table.proofs.Checked.{Checked, RecordGood}
-use Rattle.table.proofs.UseLaws.{uses-five, LinkRight, by-link}
+use Rattle.table.proofs.UseLaws.{uses-five, by-link}
 use Rattle.table.proofs.CheckLaws.{record-good, field-at}
 use Rattle.table.proofs.TreeLaws.{length-cells}
 

@@ -1,10 +1,10 @@
 -- The check of a table. Document 01, 'Table': "Count 2..2,048, pool to 16,384; the root's kind byte is 1. Kind 0 stands at number 0 only. Every link is 0 or above its own
 -- record's number and below the count, and of the kind it needs .. Pool pairs lie in the pool; length 0 has place 0 .. Low ≤ high; dates real, none after 9999-12-31";
 -- 'Numbers of refusal', 12: "not a table: length, header, root", 13: "record breaks a rule", at the lowest such record; "12 comes before 13". Assumes nothing.
-use mathlib.Core.Bool.{Bool, true, false, cond, not, _&&_, _||_}
+use mathlib.Core.Bool.{Bool, true, cond, _&&_, _||_}
 use mathlib.Core.Option.{Option, none, some}
 use mathlib.Core.List.{List, [], _∷_}
-use Prim.Native.Nat.{ℕ, zero, suc, _+_, _*_, _^_}
+use Prim.Native.Nat.{ℕ, suc, _+_, _*_, _^_}
 use lib.Dec.{eqb, leb, ltb}
 use lib.ListN.{getD, take, drop}
 use lib.ListN
@@ -18,11 +18,12 @@ use Rattle.refusals.specs.declared.Cause.the-variants.{NotATable, BrokenRecord}
 use Rattle.table.specs.Records.{Record, Image, recordSize, isMarked, field, count, header, imageOf}
 use Rattle.table.specs.Rows.{Use, unnamed, place, length, link, integers, dates, high, rowOf}
 
--- the kind of the record with a number; 0 of the header, and of a number that no record has
+-- the kinds of records
 abbrev pub kinds : List Record → List ℕ
 kinds [] = []
 kinds (r ∷ rs) = r .kind ∷ kinds rs
 
+-- the kind of the record with a number; 0 of the header, and of a number that no record has
 abbrev pub kindAt : Image → ℕ → ℕ
 kindAt m n = getD (0 ∷ kinds (m .records)) n 0
 

@@ -1,6 +1,6 @@
 -- Names. Document 01, 'Table': "Asked for a name (an object's type, an attribute's name, a string item) by record number, the build hands out the part of the pool
 -- itself; with a refusal, an empty part"; 'Numbers of refusal', 14: "record asked holds no name", at that number; "Name: table, 14". Assumes nothing.
-use mathlib.Core.Bool.{Bool, true, false, cond, _||_}
+use mathlib.Core.Bool.{Bool, cond}
 use mathlib.Core.Option.{Option, none, some}
 use mathlib.Core.List.{List, [], _∷_}
 use Prim.Native.Nat.{ℕ, _+_, _*_}
@@ -20,7 +20,7 @@ recordAt m n = getD (headerOf m ∷ m .records) n (headerOf m)
 abbrev pub holdsName : Image → ℕ → Bool
 holdsName m n = among (kindAt m n) (1 ∷ 2 ∷ 5 ∷ [])
 
--- the part of a table's bytes that is a record's name, and the bytes themselves
+-- the part of a table's bytes that is a record's name
 pub record Part : Type 0 where
   pub start : ℕ
   pub length : ℕ
@@ -42,6 +42,7 @@ orRefused (some r) a = refused r
 unfoldable pub nameAnswer : List ℕ → ℕ → NameAnswer
 nameAnswer bs n = orRefused (tableFault bs) (nameIn (imageOf bs) n)
 
+-- the bytes of that part; none with a refusal
 abbrev pub partOf : List ℕ → NameAnswer → List ℕ
 partOf bs (refused r) = []
 partOf bs (named p) = take (p .length) (drop (p .start) bs)

@@ -1,11 +1,10 @@
 -- Records and the bytes of a table. Document 01, 'Table': "Records of 24 bytes, number 0 first, then the name pool; length exactly 24 × count + pool. Each record: a
 -- two-byte mark .., kind, flag, five 32-bit numbers a b c d e"; header: "a count, b pool bytes, c root". Assumes nothing.
-use mathlib.Core.Bool.{Bool, true, false, cond, _&&_, _||_}
+use mathlib.Core.Bool.{Bool, true, false, _||_}
 use mathlib.Core.List.{List, [], _∷_, _++_}
-use Prim.Native.Nat.{ℕ, zero, suc, _+_, _*_, _-_}
+use Prim.Native.Nat.{ℕ, zero, suc, _*_, _-_}
 use lib.Dec.{eqb}
 use lib.ListN.{length, getD, take, drop}
-use Rattle.lexis.specs.Runs.{same}
 use Rattle.table.specs.Order.{put, get}
 
 -- bytes of a record, bytes of a number, numbers of a record

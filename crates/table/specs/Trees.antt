@@ -1,9 +1,9 @@
 -- The tree that a table says from a record on. Document 01, 'Table': the table of kinds. A record's tree is made of the trees of the records above it, to which its links
 -- lead: so the trees are made from the last record down. Assumes nothing.
-use mathlib.Core.Bool.{Bool, true, false, cond}
+use mathlib.Core.Bool.{cond}
 use mathlib.Core.Option.{Option, none, some}
 use mathlib.Core.List.{List, [], _∷_}
-use Prim.Native.Nat.{ℕ, zero, suc, _+_, _-_}
+use Prim.Native.Nat.{ℕ, suc, _-_}
 use lib.Dec.{eqb}
 use lib.ListN.{getD, take, drop}
 use Rattle.values.specs.Integers.{twosComplement}

@@ -35,7 +35,7 @@ wordRight (reads w b i d t answer) =
     && same (orNothing (timeOf w)) (orNothing t)
     && agree (good w) answer
 
--- numbers of the calendar, and values with a distance on either side
+-- numbers of the calendar, values with a distance on either side, and the ends of the ranges
 pub data NumberCase : Type 0 where
   leapIs : (year : ℕ) (answer : Bool) → NumberCase
   daysAre : (year month days : ℕ) → NumberCase
@@ -43,6 +43,7 @@ pub data NumberCase : Type 0 where
   follows precedes : (day other : ℕ) → NumberCase
   spreads : (value distance : ℕ) (ends : Option Pair) → NumberCase
   bitsAre : (value bits : ℕ) → NumberCase
+  endIs : (end value : ℕ) → NumberCase
 
 abbrev pub spreadRight : ℕ → ℕ → Option Pair → Bool
 spreadRight a d none = not (inside a d)
@@ -56,6 +57,7 @@ numberRight (follows p q) = eqb (dayAfter p) q
 numberRight (precedes p q) = eqb (dayBefore p) q
 numberRight (spreads a d ends) = spreadRight a d ends
 numberRight (bitsAre x bits) = eqb (twosComplement x) bits
+numberRight (endIs end value) = eqb end value
 
 -- a pattern's flag, a word, and whether the word is a date or a time that the pattern admits
 pub data PatternCase : Type 0 where

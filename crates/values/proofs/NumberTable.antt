@@ -4,10 +4,11 @@ use mathlib.Core.Path.{_≡_, refl}
 use mathlib.Core.Bool.{true, false}
 use mathlib.Core.Option.{none, some}
 use mathlib.Core.List.{List, [], _∷_}
-use Rattle.values.specs.Integers.{pair}
+use Rattle.values.specs.Integers.{pair, nought, greatest}
+use Rattle.values.specs.Calendar.{firstDay, lastDay}
 use Rattle.lexis.proofs.Tables.{wrong}
 use Rattle.values.proofs.Computes.{valuesCompute}
-use Rattle.values.proofs.Examples.{NumberCase, leapIs, daysAre, realIs, follows, precedes, spreads, bitsAre, numberRight}
+use Rattle.values.proofs.Examples.{NumberCase, leapIs, daysAre, realIs, follows, precedes, spreads, bitsAre, endIs, numberRight}
 
 pub cases : List NumberCase
 cases =
@@ -252,6 +253,11 @@ cases =
     ∷ spreads 2_147_483_649 1 none
     ∷ spreads 4_294_967_295 4_294_967_295 none
     ∷ spreads 0 0 none
+    -- the ends of the ranges, and 0
+    ∷ endIs firstDay 101
+    ∷ endIs lastDay 99_991_231
+    ∷ endIs nought 2_147_483_648
+    ∷ endIs greatest 4_294_967_295
     -- two's complement
     ∷ bitsAre 0 2_147_483_648
     ∷ bitsAre 1 2_147_483_649

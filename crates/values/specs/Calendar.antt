@@ -1,6 +1,6 @@
 -- The calendar. Document 01, 'Constraint text': "Gregorian months; leap years by 4, not 100, yet 400"; a missing end is "0000-01-01 and 9999-12-31
 -- for dates"; 'Table', kind 7: "year×10,000+month×100+day". The order of dates is the order of the numbers so packed. Assumes nothing.
-use mathlib.Core.Bool.{Bool, true, false, cond, not, _&&_, _||_}
+use mathlib.Core.Bool.{Bool, cond, not, _&&_, _||_}
 use mathlib.Core.List.{List, [], _∷_}
 use Prim.Native.Nat.{ℕ, _+_, _*_, _-_, _/_, _%_}
 use lib.Dec.{eqb, leb, ltb}

@@ -1,9 +1,9 @@
 -- Dates as they are spelled. Document 01, 'Constraint text': "date: four digits, `-`, two, `-`, two"; 'Data text': "a date `yyyy`, `yyyy-mm` or
 -- `yyyy-mm-dd`". Assumes nothing.
-use mathlib.Core.Bool.{Bool, true, false, cond, _&&_}
+use mathlib.Core.Bool.{Bool, cond, _&&_}
 use mathlib.Core.Option.{Option, none, some}
-use mathlib.Core.List.{List, [], _∷_}
-use Prim.Native.Nat.{ℕ, _+_, _*_, _-_}
+use mathlib.Core.List.{List}
+use Prim.Native.Nat.{ℕ}
 use lib.Dec.{eqb}
 use lib.ListN.{length, take, drop}
 use Rattle.lexis.specs.Text.{bytes}

@@ -1,7 +1,7 @@
 -- Integers. Document 01, 'Constraint text': "integer: optional `-` and digits"; "An integer is spelled without needless zeros, isn't `-0`, and
 -- lies in -2,147,483,648..2,147,483,647". An integer of that range is kept as its distance from -2,147,483,648, so that the order of the integers
 -- is the order of their distances. Assumes nothing.
-use mathlib.Core.Bool.{Bool, true, false, cond, not, _&&_}
+use mathlib.Core.Bool.{Bool, true, cond, _&&_}
 use mathlib.Core.Option.{Option, none, some}
 use mathlib.Core.List.{List, [], _∷_}
 use Prim.Native.Nat.{ℕ, _+_, _*_, _-_, _%_, _^_}
@@ -42,7 +42,7 @@ integerOf w = cond (eqb (getD w 0 0) (byte "-")) (negative (drop 1 w)) (notNegat
 abbrev pub twosComplement : ℕ → ℕ
 twosComplement x = (x + nought) % 2 ^ 32
 
--- `+/-`: a value a with d on either side, where d is at most the distance to either end of the range
+-- a low and a high end
 pub record Pair : Type 0 where
   pub low : ℕ
   pub high : ℕ

@@ -44,7 +44,16 @@ const DEMANDS: &[&str] = &[
 ];
 
 pub fn tables() -> Vec<layout::Table> {
-    let part = |module, about, groups| layout::Table { holder: "judge", module, about, uses: JUDGES, case: "Case", right: "right", unfolding: "judgeComputes", groups };
+    let part = |module, about, groups| layout::Table {
+        holder: "judge",
+        module,
+        about,
+        uses: JUDGES,
+        case: "Case",
+        right: "right",
+        unfolding: "judgeComputes",
+        groups,
+    };
     vec![
         part("JudgeTable", "Data by tables: compiled, in mixed orders, with shared records, and merged.", judge_groups()),
         part("RefusalTable", "Tables, roots and data texts that are refused.", refusal_groups()),
@@ -89,13 +98,62 @@ fn judge_groups() -> Vec<Group> {
     let nested = compiled("A matches {a matches {B matches {b matches {5, |7..9|}}} c existence matches {0} matches {*} d existence matches {0..1} matches {\"x\", \"\"}}");
     let dates = compiled("A matches {a matches {|2003-12-31..2004-02-29|, |2005-01-01|} b existence matches {0..1} matches {yyyy-??-XX} c existence matches {0..1} matches {Thh:mm:ss} d existence matches {0..1} matches {False}}");
     let nested_data = [
-        "<a=<b=<5>>>", "<a=<b=<8>>d=<\"x\">>", "<a=<b=<6>>>", "<a=<b=<08>>>", "<a=<b=<\"5\">>>", "<a=<b=<>>>", "<a=<5>>", "<a=(C)<b=<5>>>", "<a=(B)<>>", "<>", "(B)<>", "(A)<a=<b=<5>>c=<>>", "<c=<5>>", "<a=<b=<5>>d=<\"y\">>", "<a=<b=<5>>d=<>>", "<d=<\"\">a=<b=<9>>>", "<d=<x=<5>>c=<1>a=<b=<9>>>",
+        "<a=<b=<5>>>",
+        "<a=<b=<8>>d=<\"x\">>",
+        "<a=<b=<6>>>",
+        "<a=<b=<08>>>",
+        "<a=<b=<\"5\">>>",
+        "<a=<b=<>>>",
+        "<a=<5>>",
+        "<a=(C)<b=<5>>>",
+        "<a=(B)<>>",
+        "<>",
+        "(B)<>",
+        "(A)<a=<b=<5>>c=<>>",
+        "<c=<5>>",
+        "<a=<b=<5>>d=<\"y\">>",
+        "<a=<b=<5>>d=<>>",
+        "<d=<\"\">a=<b=<9>>>",
+        "<d=<x=<5>>c=<1>a=<b=<9>>>",
     ];
-    let date_data = ["<a=<2004-02-29>>", "<a=<2004-03-01>>", "<a=<2004>>", "<a=<20040229>>", "<a=<2005-01-01>b=<2004>c=<10:30:00+05>d=<False>>", "<a=<2005-01-01>b=<2004-05-20>>", "<a=<2005-01-01>c=<10:30>>", "<a=<2005-01-01>d=<True>>", "<a=<2005-01-01>b=<5>>"];
+    let date_data = [
+        "<a=<2004-02-29>>",
+        "<a=<2004-03-01>>",
+        "<a=<2004>>",
+        "<a=<20040229>>",
+        "<a=<2005-01-01>b=<2004>c=<10:30:00+05>d=<False>>",
+        "<a=<2005-01-01>b=<2004-05-20>>",
+        "<a=<2005-01-01>c=<10:30>>",
+        "<a=<2005-01-01>d=<True>>",
+        "<a=<2005-01-01>b=<5>>",
+    ];
     let every = ordered(&every_kind(), "blb");
-    let every_data = ["<d=<5>e=<\"\">f=<2004>g=<2004-12-31>h=<10:30>i=<>>", "<d=<-1>e=<\"yz\">f=<2004-05>g=<9999-12-31>h=<10:30Z>i=<5>bc=<True>>", "<a=<>>", "<bc=<False>>", "<d=<0>>", "<d=<9>e=<\"xy\">>", "<d=<9>e=<\"x\">f=<2004-05-20>>", "<d=<9>e=<\"x\">f=<2004>g=<2005-01-02>>", "<d=<9>e=<\"x\">f=<2004>g=<2005-01-01>h=<08>>", "(Ab)<d=<9>e=<\"x\">f=<2004>g=<2005-01-01>h=<08:00>>", "(A)<>"];
+    let every_data = [
+        "<d=<5>e=<\"\">f=<2004>g=<2004-12-31>h=<10:30>i=<>>",
+        "<d=<-1>e=<\"yz\">f=<2004-05>g=<9999-12-31>h=<10:30Z>i=<5>bc=<True>>",
+        "<a=<>>",
+        "<bc=<False>>",
+        "<d=<0>>",
+        "<d=<9>e=<\"xy\">>",
+        "<d=<9>e=<\"x\">f=<2004-05-20>>",
+        "<d=<9>e=<\"x\">f=<2004>g=<2005-01-02>>",
+        "<d=<9>e=<\"x\">f=<2004>g=<2005-01-01>h=<08>>",
+        "(Ab)<d=<9>e=<\"x\">f=<2004>g=<2005-01-01>h=<08:00>>",
+        "(A)<>",
+    ];
     let shared_data = [
-        "<b=<b=<5>>>", "<b=<b=<1>>>", "<b=<b=<9>>c=<b=<9>>d=<1>e=<3>f=<5>>", "<b=<b=<9>>c=<b=<4>>>", "<b=<b=<9>>c=<>>", "<b=<b=<9>>d=<4>>", "<b=<b=<9>>d=<3>e=<True>>", "<b=<b=<9>>f=<3>>", "<b=<b=<9>>f=<9>>", "<b=(A)<b=<9>>>", "<b=(B)<b=<9>>c=(B)<b=<5>>>", "<b=<b=<9>>f=<\"x\">>",
+        "<b=<b=<5>>>",
+        "<b=<b=<1>>>",
+        "<b=<b=<9>>c=<b=<9>>d=<1>e=<3>f=<5>>",
+        "<b=<b=<9>>c=<b=<4>>>",
+        "<b=<b=<9>>c=<>>",
+        "<b=<b=<9>>d=<4>>",
+        "<b=<b=<9>>d=<3>e=<True>>",
+        "<b=<b=<9>>f=<3>>",
+        "<b=<b=<9>>f=<9>>",
+        "<b=(A)<b=<9>>>",
+        "<b=(B)<b=<9>>c=(B)<b=<5>>>",
+        "<b=<b=<9>>f=<\"x\">>",
     ];
     // attributes of one name, each judged in turn: at most 9, at least 5, none
     let repeated = table(
@@ -116,16 +174,47 @@ fn judge_groups() -> Vec<Group> {
     let twice = merged(&small, &merged(&dates, &small));
     let group = |about, cases: Vec<Vec<String>>| Group { about, cases: cases.concat() };
     vec![
-        group("the smallest table", vec![at(&small, 1, &["<>", "(A)<>", "(B)<>", "<a=<5>>", " (AB) <>"]), at(&ordered(&small, "l"), 1, &["(A)<a=<>>", "(B)<>"])]),
-        group("tables of texts, at the root and at an object inside", vec![at(&nested, 1, &nested_data), at(&ordered(&nested, "lbb"), 1, &nested_data), at(&nested, 3, &["<b=<5>>", "<b=<6>>", "(A)<>", "<>"])]),
+        group(
+            "the smallest table",
+            vec![
+                at(&small, 1, &["<>", "(A)<>", "(B)<>", "<a=<5>>", " (AB) <>"]),
+                at(&ordered(&small, "l"), 1, &["(A)<a=<>>", "(B)<>"]),
+            ],
+        ),
+        group(
+            "tables of texts, at the root and at an object inside",
+            vec![
+                at(&nested, 1, &nested_data),
+                at(&ordered(&nested, "lbb"), 1, &nested_data),
+                at(&nested, 3, &["<b=<5>>", "<b=<6>>", "(A)<>", "<>"]),
+            ],
+        ),
         group("dates and times", vec![at(&dates, 1, &date_data), at(&ordered(&dates, "bl"), 1, &date_data)]),
         group("every kind of record", vec![at(&every, 1, &every_data), at(&every, 3, &["<>", "(C)<>", "(Ab)<x=<5>>"])]),
-        group("shared records, and a link into the middle of a list", vec![at(&shared(), 1, &shared_data), at(&ordered(&shared(), "bl"), 8, &["<b=<5>>", "<b=<1>>", "<>", "(A)<>"])]),
+        group(
+            "shared records, and a link into the middle of a list",
+            vec![
+                at(&shared(), 1, &shared_data),
+                at(&ordered(&shared(), "bl"), 8, &["<b=<5>>", "<b=<1>>", "<>", "(A)<>"]),
+            ],
+        ),
         group("attributes of one name, each judged in link order", vec![at(&repeated, 1, &one_name)]),
-        group("a root that isn't the first record, and objects that no link leads to", vec![at(&unreached(), 3, &["<a=<08:30>>", "<a=<08:30:00>>", "<a=<5>>", "(A)<a=<08>>", "(Aa)<>"]), at(&unreached(), 6, &["<>", "(Aa)<a=<5>>", "(A)<>"])]),
+        group(
+            "a root that isn't the first record, and objects that no link leads to",
+            vec![
+                at(&unreached(), 3, &["<a=<08:30>>", "<a=<08:30:00>>", "<a=<5>>", "(A)<a=<08>>", "(Aa)<>"]),
+                at(&unreached(), 6, &["<>", "(Aa)<a=<5>>", "(A)<>"]),
+            ],
+        ),
         group(
             "merged tables, at the first's root and at the second's moved",
-            vec![at(&image, 1, &nested_data[..8]), at(&image, 1 + shift, &shared_data), at(&twice, 1, &["(A)<>", "(B)<>"]), at(&twice, 2, &date_data), at(&twice, 11, &["(A)<a=<2004>>", "(B)<>"])],
+            vec![
+                at(&image, 1, &nested_data[..8]),
+                at(&image, 1 + shift, &shared_data),
+                at(&twice, 1, &["(A)<>", "(B)<>"]),
+                at(&twice, 2, &date_data),
+                at(&twice, 1 + dates.records.len() as u32, &["(A)<a=<2004>>", "(B)<>"]),
+            ],
         ),
     ]
 }
@@ -148,10 +237,38 @@ fn refusal_groups() -> Vec<Group> {
         tables.push(case(&broken.bytes(), root, data.as_bytes()));
         tables.push(case(&no_table.bytes(), root, data.as_bytes()));
     }
-    tables.extend([&b""[..], &small.bytes()[..48], &[&small.bytes()[..], b"A"].concat()].map(|bytes| case(bytes, 1, b"<>")));
+    tables.extend(
+        [&b""[..], &small.bytes()[..48], &[&small.bytes()[..], b"A"].concat()].map(|bytes| case(bytes, 1, b"<>")),
+    );
     let faults = [
-        "", " ", "<", "<>>", "<a", "<a=<5>", "<a=<5>>x", "()<>", "(t)<>", "(True)<>", "<a=5>", "<a=<5 6>>", "<5>", "<a=(T)<5>>", "<matches=<5>>", "<a-b=<5>>", "<a=<\"x>>", "<\x00>", "<a=<5x>>", "<a=<24:00:00>>", "<a=<1900-02-29>>", "<a=<007>>", "<a=<12+14:00>>", "<a=<5>a=<6>>", "<a=<b=<>c=<>b=<>>>",
-        "<a=<5x>a=<6>>", "<a=<5>a=<6x>>", "(B)<a=<5x>>",
+        "",
+        " ",
+        "<",
+        "<>>",
+        "<a",
+        "<a=<5>",
+        "<a=<5>>x",
+        "()<>",
+        "(t)<>",
+        "(True)<>",
+        "<a=5>",
+        "<a=<5 6>>",
+        "<5>",
+        "<a=(T)<5>>",
+        "<matches=<5>>",
+        "<a-b=<5>>",
+        "<a=<\"x>>",
+        "<\x00>",
+        "<a=<5x>>",
+        "<a=<24:00:00>>",
+        "<a=<1900-02-29>>",
+        "<a=<007>>",
+        "<a=<12+14:00>>",
+        "<a=<5>a=<6>>",
+        "<a=<b=<>c=<>b=<>>>",
+        "<a=<5x>a=<6>>",
+        "<a=<5>a=<6x>>",
+        "(B)<a=<5x>>",
     ];
     let deep = format!("{}{}", "<a=".repeat(16) + "<", ">".repeat(17));
     let long = format!("<{}=<5>>", "a".repeat(64));
@@ -162,8 +279,17 @@ fn refusal_groups() -> Vec<Group> {
         Group { about: "a root that isn't an object of the table", cases: roots },
         Group { about: "14 before the data text's faults", cases: before },
         Group { about: "the table's faults before all", cases: tables },
-        Group { about: "the data text's faults before the verdict", cases: faults.iter().map(|data| case(&small.bytes(), 1, data.as_bytes())).collect() },
-        Group { about: "levels and lengths", cases: [deep, long, long_type, long_string, edge].iter().map(|data| case(&small.bytes(), 1, data.as_bytes())).collect() },
+        Group {
+            about: "the data text's faults before the verdict",
+            cases: faults.iter().map(|data| case(&small.bytes(), 1, data.as_bytes())).collect(),
+        },
+        Group {
+            about: "levels and lengths",
+            cases: [deep, long, long_type, long_string, edge]
+                .iter()
+                .map(|data| case(&small.bytes(), 1, data.as_bytes()))
+                .collect(),
+        },
     ]
 }
 
@@ -225,10 +351,19 @@ fn list_group() -> Group {
         };
         for list in lists() {
             let (end, steps) = run(&out[..length as usize], &list);
-            let inputs = format!("{} {} {} {} {}", term::bytes(text.as_bytes()), term::truth(little), filling(FILL, ROOM), term::list(&steps), end.sum);
+            let inputs = format!(
+                "{} {} {} {} {}",
+                term::bytes(text.as_bytes()),
+                term::truth(little),
+                filling(FILL, ROOM),
+                term::list(&steps),
+                end.sum
+            );
             for form in *data {
                 let answer = judge(&end.table, 1 + end.sum, form.as_bytes());
-                assert!(MeaningAnswer::Answer(moved_back(answer, end.sum)) == meaning(text.as_bytes(), form.as_bytes()));
+                assert!(
+                    MeaningAnswer::Answer(moved_back(answer, end.sum)) == meaning(text.as_bytes(), form.as_bytes())
+                );
                 let inputs = format!("{inputs} {}", term::bytes(form.as_bytes()));
                 cases.push(match answer {
                     JudgeAnswer::Refused { number, place } => format!("refuses {inputs} {number} {place}"),

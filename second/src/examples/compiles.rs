@@ -19,9 +19,22 @@ const USES: &[&str] = &[
 ];
 
 pub fn tables() -> Vec<Table> {
-    let part = |module, about, groups| Table { holder: "compile", module, about, uses: USES, case: "Case", right: "right", unfolding: "compileComputes", groups };
+    let part = |module, about, groups| Table {
+        holder: "compile",
+        module,
+        about,
+        uses: USES,
+        case: "Case",
+        right: "right",
+        unfolding: "compileComputes",
+        groups,
+    };
     vec![
-        part("CompileTable", "Texts with their tables, byte for byte, and the output behind the table.", compile_groups()),
+        part(
+            "CompileTable",
+            "Texts with their tables, byte for byte, and the output behind the table.",
+            compile_groups(),
+        ),
         part("RefusalTable", "Texts that are refused, and outputs too short.", refusal_groups()),
         part("MadeTable", "Short texts from a generator with a fixed seed.", vec![made()]),
     ]
@@ -64,7 +77,8 @@ fn holding(leaf: &str) -> String {
 
 /// Leaves in the smallest text.
 fn leaves(about: &'static str, all: &[&str]) -> Group {
-    let of = |(index, leaf): (usize, &&str)| case(holding(leaf).as_bytes(), index % 2 == 1, FILL, needed(&holding(leaf)));
+    let of =
+        |(index, leaf): (usize, &&str)| case(holding(leaf).as_bytes(), index % 2 == 1, FILL, needed(&holding(leaf)));
     Group { about, cases: all.iter().enumerate().map(of).collect() }
 }
 

@@ -3,7 +3,7 @@
 use super::handmade::{changed, compiled, every_kind, ordered, record, shared, table, unreached, BIG, LITTLE};
 use super::spelled::{hex, padded};
 use super::table::Group;
-use super::{table as layout, term};
+use super::{broken, table as layout, term};
 use crate::api::{CheckAnswer, NameAnswer};
 use crate::generator::{Maker, Record, Table};
 use crate::table as rules;
@@ -27,7 +27,15 @@ const CHECKS: &[&str] = &[
     HEX,
     "Rattle.table.proofs.Examples.{CheckCase, passes, refuses, rewrites, checkRight}",
 ];
-const NAMES: &[&str] = &[PATH, LIST, TEXT, WRONG, COMPUTE, HEX, "Rattle.table.proofs.Examples.{NameCase, names, noName, nameRight}"];
+const NAMES: &[&str] = &[
+    PATH,
+    LIST,
+    TEXT,
+    WRONG,
+    COMPUTE,
+    HEX,
+    "Rattle.table.proofs.Examples.{NameCase, names, noName, nameRight}",
+];
 const TREES: &[&str] = &[
     PATH,
     LIST,
@@ -41,13 +49,31 @@ const TREES: &[&str] = &[
 ];
 
 pub fn tables() -> Vec<layout::Table> {
-    let part = |module, about, uses, case, right, unfolding, groups| layout::Table { holder: "table", module, about, uses, case, right, unfolding, groups };
-    let checks = |module, about, groups| part(module, about, CHECKS, "CheckCase", "checkRight", "tableComputes", groups);
+    let part = |module, about, uses, case, right, unfolding, groups| layout::Table {
+        holder: "table",
+        module,
+        about,
+        uses,
+        case,
+        right,
+        unfolding,
+        groups,
+    };
+    let checks =
+        |module, about, groups| part(module, about, CHECKS, "CheckCase", "checkRight", "tableComputes", groups);
     vec![
         part(
             "OrderTable",
             "Numbers of four bytes in both orders.",
-            &[PATH, BOOL, LIST, WRONG, COMPUTE, HEX, "Rattle.table.proofs.Examples.{NumberCase, spelled, numberRight}"],
+            &[
+                PATH,
+                BOOL,
+                LIST,
+                WRONG,
+                COMPUTE,
+                HEX,
+                "Rattle.table.proofs.Examples.{NumberCase, spelled, numberRight}",
+            ],
             "NumberCase",
             "numberRight",
             "tableComputes",
@@ -56,16 +82,36 @@ pub fn tables() -> Vec<layout::Table> {
         part(
             "RecordTable",
             "Records of every kind in both orders, and marks.",
-            &[PATH, BOOL, LIST, WRONG, COMPUTE, HEX, "Rattle.table.proofs.Examples.{RecordCase, holds, marked, recordRight}"],
+            &[
+                PATH,
+                BOOL,
+                LIST,
+                WRONG,
+                COMPUTE,
+                HEX,
+                "Rattle.table.proofs.Examples.{RecordCase, holds, marked, recordRight}",
+            ],
             "RecordCase",
             "recordRight",
             "tableComputes",
             vec![records(), marks()],
         ),
-        checks("CheckTable", "Tables that pass the check, and bytes that are no table.", vec![passing(), rewritten(), lengths(), headers(), limit_headers(), roots(), before()]),
-        checks("FaultTable", "Each rule of a record kept at its edge and broken.", rules_broken()),
+        checks(
+            "CheckTable",
+            "Tables that pass the check, and bytes that are no table.",
+            vec![passing(), rewritten(), lengths(), headers(), limit_headers(), roots(), before()],
+        ),
+        checks("FaultTable", "Each rule of a record kept at its edge and broken.", broken::groups()),
         part("NameTable", "Names by record number.", NAMES, "NameCase", "nameRight", "tableComputes", name_groups()),
-        part("TreeTable", "Tables with the trees of their objects.", TREES, "TreeCase", "treeRight", "objectList tableComputes", tree_groups()),
+        part(
+            "TreeTable",
+            "Tables with the trees of their objects.",
+            TREES,
+            "TreeCase",
+            "treeRight",
+            "objectList tableComputes",
+            tree_groups(),
+        ),
         checks("MadeTable", "Short tables from a generator with a fixed seed, sound and broken.", vec![made()]),
     ]
 }
@@ -77,18 +123,34 @@ fn check_case(bytes: &[u8]) -> String {
     }
 }
 
-fn check_group(about: &'static str, all: Vec<Table>) -> Group {
+pub fn check_group(about: &'static str, all: Vec<Table>) -> Group {
     Group { about, cases: all.iter().map(|each| check_case(&each.bytes())).collect() }
 }
 
 /// Checks that must come out as the group says.
-fn expect(group: Group, word: &str) -> Group {
+pub fn expect(group: Group, word: &str) -> Group {
     assert!(group.cases.iter().all(|case| case.starts_with(word)), "{}", group.about);
     group
 }
 
 fn numbers() -> Group {
-    let all = [0, 1, 24, 255, 256, 257, 65_535, 65_536, 16_777_216, 0x0102_0304, 0x8000_0000, 0x7FFF_FFFF, 20_040_229, 0xC0AD_0000, u32::MAX];
+    let all = [
+        0,
+        1,
+        24,
+        255,
+        256,
+        257,
+        65_535,
+        65_536,
+        16_777_216,
+        0x0102_0304,
+        0x8000_0000,
+        0x7FFF_FFFF,
+        20_040_229,
+        0xC0AD_0000,
+        u32::MAX,
+    ];
     let case = |number: u32| {
         [
             format!("spelled false {} {}", term::number(u64::from(number)), hex(&number.to_be_bytes())),
@@ -125,7 +187,18 @@ fn records() -> Group {
 }
 
 fn marks() -> Group {
-    let all = [BIG, LITTLE, [0xC0, 0xC0], [0xAD, 0xAD], [0, 0], [0xC0, 0xAE], [0xC1, 0xAD], [0xAD, 0xC1], [0xAC, 0xC0], [0xFF, 0xFF]];
+    let all = [
+        BIG,
+        LITTLE,
+        [0xC0, 0xC0],
+        [0xAD, 0xAD],
+        [0, 0],
+        [0xC0, 0xAE],
+        [0xC1, 0xAD],
+        [0xAD, 0xC1],
+        [0xAC, 0xC0],
+        [0xFF, 0xFF],
+    ];
     let case = |mark: [u8; 2]| {
         let mut each = record(1, 0, [0, 1, 0, 0, 0]);
         each.mark = mark;
@@ -137,7 +210,7 @@ fn marks() -> Group {
 }
 
 /// The smallest table: `A matches {*}`.
-fn smallest() -> Table {
+pub fn smallest() -> Table {
     compiled("A matches {*}")
 }
 
@@ -149,8 +222,26 @@ fn sound() -> Vec<Table> {
     }
     all.push(compiled("A matches {a matches {B[at1.2.3] matches {b matches {C matches {c matches {\"\", \"x\"}}}}} d matches {1, 2, 3}}"));
     // repeated names, and attributes that share their next
-    all.push(table(1, &[record(1, 0, [0, 1, 0, 0, 2]), record(2, 0, [1, 1, 0, 3, 0]), record(2, 2, [1, 1, 0, 4, 0]), record(2, 1, [1, 1, 0, 0, 0])], b"Aa"));
-    all.push(table(1, &[record(1, 0, [0, 1, 0, 0, 4]), record(1, 0, [0, 1, 0, 0, 4]), record(1, 0, [0, 2, 0, 1, 4]), record(2, 2, [1, 1, 0, 0, 0])], b"Aa"));
+    all.push(table(
+        1,
+        &[
+            record(1, 0, [0, 1, 0, 0, 2]),
+            record(2, 0, [1, 1, 0, 3, 0]),
+            record(2, 2, [1, 1, 0, 4, 0]),
+            record(2, 1, [1, 1, 0, 0, 0]),
+        ],
+        b"Aa",
+    ));
+    all.push(table(
+        1,
+        &[
+            record(1, 0, [0, 1, 0, 0, 4]),
+            record(1, 0, [0, 1, 0, 0, 4]),
+            record(1, 0, [0, 2, 0, 1, 4]),
+            record(2, 2, [1, 1, 0, 0, 0]),
+        ],
+        b"Aa",
+    ));
     // a root that isn't the first record, and parts that overlap
     all.push(table(2, &[record(3, 1, [0; 5]), record(1, 0, [0, 3, 1, 2, 0])], b"ABC"));
     all.push(table(2, &[record(1, 0, [0, 1, 0, 0, 0]), record(1, 0, [2, 1, 0, 0, 0])], b"A\xFF\x00"));
@@ -231,8 +322,20 @@ fn limit_headers() -> Group {
         records.resize(count - 1, Record { mark: [0, 0], ..none });
         table(1, &records, &vec![0; pool])
     };
-    let sizes = [(2, limits::POOL), (2, limits::POOL + 1), (3, limits::POOL), (3, limits::POOL + 1), (limits::RECORDS, 0), (limits::RECORDS + 1, 0), (limits::RECORDS, 1), (limits::RECORDS + 1, 1)];
-    check_group("counts and pools at their limits and above, with the length that fits", sizes.map(|(count, pool)| of(count, pool)).to_vec())
+    let sizes = [
+        (2, limits::POOL),
+        (2, limits::POOL + 1),
+        (3, limits::POOL),
+        (3, limits::POOL + 1),
+        (limits::RECORDS, 0),
+        (limits::RECORDS + 1, 0),
+        (limits::RECORDS, 1),
+        (limits::RECORDS + 1, 1),
+    ];
+    check_group(
+        "counts and pools at their limits and above, with the length that fits",
+        sizes.map(|(count, pool)| of(count, pool)).to_vec(),
+    )
 }
 
 fn roots() -> Group {
@@ -282,169 +385,6 @@ fn before() -> Group {
     expect(check_group("the lowest broken record is told, and 12 before 13", all), "refuses")
 }
 
-/// A table whose record 2 is the one at hand: an object before it, a record of each kind of `others` behind it.
-fn at_hand(record: Record, others: &[u8], pool: &[u8]) -> Table {
-    let mut records = vec![self::record(1, 0, [0, 1, 0, 0, 0]), record];
-    records.extend(others.iter().map(|kind| sample(*kind)));
-    table(1, &records, pool)
-}
-
-/// A sound record of the kind, without links.
-fn sample(kind: u8) -> Record {
-    match kind {
-        1 | 2 => record(kind, 0, [0, 1, 0, 0, 0]),
-        3 | 6 | 8 => record(kind, 1, [0; 5]),
-        7 => record(7, 0, [101, 101, 0, 0, 0]),
-        _ => record(kind, 0, [0; 5]),
-    }
-}
-
-const POOL: &[u8] = b"Aa";
-
-/// The rules of a flag: every flag from 0 on and two far ones.
-fn flags(about: &'static str, kind: u8, most: u8) -> Group {
-    let of = |flag| at_hand(Record { flag, ..sample(kind) }, &[], POOL);
-    check_group(about, (0..=most + 1).chain([128, 255]).map(of).collect())
-}
-
-/// Fields that are not named, each in turn.
-fn unnamed(about: &'static str, kind: u8, fields: &[usize]) -> Group {
-    let of = |field: &usize, number: u32| {
-        let mut each = sample(kind);
-        each.numbers[*field] = number;
-        at_hand(each, &[kind], POOL)
-    };
-    let numbers = [1, 3, 0x0100_0000];
-    expect(check_group(about, fields.iter().flat_map(|field| numbers.map(|number| of(field, number))).collect()), "refuses")
-}
-
-/// A link in the field, to each kind and to numbers where there is none.
-fn links(about: &'static str, kind: u8, field: usize) -> Group {
-    let of = |number: u32, others: &[u8]| {
-        let mut each = sample(kind);
-        each.numbers[field] = number;
-        at_hand(each, others, POOL)
-    };
-    let kinds = [1, 2, 3, 4, 5, 6, 7, 8];
-    let mut all: Vec<Table> = (3..11).map(|number| of(number, &kinds)).collect();
-    all.extend([0, 1, 2].map(|number| of(number, &[kind])));
-    all.extend([4, 5, 65_539, u32::MAX].map(|number| of(number, &[kind])));
-    // the kind that it needs stands before it
-    let mut low = of(1, &[]);
-    low.records[1] = sample(if field == 2 { 3 } else if kind == 1 || kind == 2 { 2 } else { kind });
-    low.records.push(sample(1));
-    low.set_header(3);
-    all.push(low);
-    check_group(about, all)
-}
-
-/// A place and a length in two fields, over a pool of so many bytes.
-fn parts(about: &'static str, kind: u8, field: usize, pairs: &[(u32, u32, usize)]) -> Group {
-    let of = |(place, length, pool): &(u32, u32, usize)| {
-        let mut each = sample(kind);
-        each.numbers[field] = *place;
-        each.numbers[field + 1] = *length;
-        at_hand(each, &[], &b"Ab".repeat(*pool)[..*pool])
-    };
-    check_group(about, pairs.iter().map(of).collect())
-}
-
-/// Pairs of numbers in the first two fields.
-fn pairs(about: &'static str, kind: u8, all: &[(u32, u32)]) -> Group {
-    let of = |(low, high): &(u32, u32)| {
-        let mut each = sample(kind);
-        (each.numbers[0], each.numbers[1]) = (*low, *high);
-        at_hand(each, &[], POOL)
-    };
-    check_group(about, all.iter().map(of).collect())
-}
-
-fn rules_broken() -> Vec<Group> {
-    let name = [(0, 1, 2), (1, 1, 2), (0, 2, 2), (2, 1, 2), (1, 2, 2), (0, 3, 2), (3, 1, 2), (0, 0, 2), (1, 0, 2), (2, 0, 2), (u32::MAX, 1, 2), (u32::MAX, 2, 2), (1, u32::MAX, 2), (2, u32::MAX - 1, 2), (0, 63, 63), (0, 64, 64), (1, 63, 64), (1, 64, 70), (16_777_216, 1, 2)];
-    let code = [(0, 0, 2), (1, 0, 2), (2, 0, 2), (3, 0, 2), (u32::MAX, 0, 2), (0, 1, 2), (1, 1, 2), (2, 1, 2), (1, 2, 2), (u32::MAX, 1, 2), (u32::MAX, 2, 2), (0, 31, 32), (0, 32, 32), (1, 31, 32), (2, 31, 32)];
-    let string = [(0, 0, 2), (1, 0, 2), (u32::MAX, 0, 2), (0, 2, 2), (1, 1, 2), (2, 1, 2), (1, 2, 2), (0, 3, 2), (u32::MAX, 1, 2), (u32::MAX, 2, 2), (2, u32::MAX, 2), (0, 255, 256), (0, 256, 256), (1, 255, 256), (2, 255, 256)];
-    let integers = [(0, 0), (1, 0), (0, 1), (5, 5), (u32::MAX, 0), (0, u32::MAX), (u32::MAX, u32::MAX - 1), (u32::MAX - 1, u32::MAX), (0x8000_0000, 0x7FFF_FFFF), (0x7FFF_FFFF, 0x8000_0000), (0x8000_0000, 0x8000_0000), (0x7FFF_FFFF, 0x7FFF_FFFF), (0x7FFF_FFFF, 0x7FFF_FFFE), (0x8000_0001, 0x8000_0000)];
-    let first = 101;
-    let last = 99_991_231;
-    let dates = [
-        (first, first), (first, last), (last, last), (last, first), (20_040_229, 20_040_229), (20_040_229, 20_040_301), (20_040_301, 20_040_229), (20_031_231, 20_040_101), (20_040_101, 20_031_231),
-        (0, first), (first, 0), (100, last), (1, last), (first, 131), (first, 132), (first, 1_231), (first, 1_301), (first, 99_991_232), (first, 99_991_301), (first, 100_000_101), (first, 100_000_000), (100_000_101, 100_000_101), (100_000_101, 100_000_102), (first, u32::MAX), (u32::MAX, u32::MAX),
-        (first, 20_040_230), (first, 20_030_229), (first, 20_030_228), (first, 19_000_229), (first, 20_000_229), (first, 229), (first, 20_040_431), (first, 20_040_430), (first, 20_040_400), (first, 20_040_031), (20_040_230, last), (20_041_301, last), (20_040_132, last), (19_000_229, last),
-    ];
-    let mut all = vec![
-        check_group("kinds", [0, 1, 2, 3, 4, 5, 6, 7, 8, 9, 10, 128, 255].into_iter().map(|kind| at_hand(record(kind, 0, [0; 5]), &[], POOL)).collect()),
-        check_group("kinds with the fields that one of them needs", [0, 1, 2, 3, 6, 8, 9, 16].into_iter().map(|kind| at_hand(record(kind, 1, [0; 5]), &[], POOL)).collect()),
-        check_group("an object's type in another kind", [0, 1, 2, 4, 5, 7, 9].into_iter().map(|kind| at_hand(record(kind, 0, [0, 1, 0, 0, 0]), &[], POOL)).collect()),
-        expect(
-            check_group(
-                "marks",
-                (1..3).flat_map(|number| [[0, 0], [0xC0, 0xC0], [0xAD, 0xAD], [0xC0, 0xAC], [0xC2, 0xAD], [0xAD, 0xC1], [0xAF, 0xC0], [0xFF, 0xFF]].map(|mark| changed(&at_hand(sample(3), &[], POOL), number, |each| each.mark = mark))).collect(),
-            ),
-            "refuses",
-        ),
-        expect(
-            check_group(
-                "the other order's mark before the same bytes",
-                vec![
-                    Table::read(&swapped(&smallest().bytes(), 1)),
-                    Table::read(&swapped(&at_hand(record(4, 0, [1, 2, 0, 0, 3]), &[4], POOL).bytes(), 2)),
-                    Table::read(&swapped(&at_hand(record(2, 0, [1, 1, 3, 0, 0]), &[3], POOL).bytes(), 2)),
-                ],
-            ),
-            "refuses",
-        ),
-        flags("flags of an object", 1, 0),
-        flags("flags of an attribute", 2, 2),
-        flags("flags of Booleans", 3, 3),
-        flags("flags of an integer", 4, 0),
-        flags("flags of a string", 5, 0),
-        flags("flags of a date pattern", 6, 5),
-        flags("flags of a date interval", 7, 0),
-        flags("flags of a time pattern", 8, 4),
-        unnamed("fields that an attribute doesn't name", 2, &[4]),
-        unnamed("fields that Booleans don't name", 3, &[0, 1, 2, 3, 4]),
-        unnamed("fields that an integer doesn't name", 4, &[2, 3]),
-        unnamed("fields that a string doesn't name", 5, &[2, 3]),
-        unnamed("fields that a date pattern doesn't name", 6, &[0, 1, 2, 3, 4]),
-        unnamed("fields that a date interval doesn't name", 7, &[2, 3]),
-        unnamed("fields that a time pattern doesn't name", 8, &[0, 1, 2, 3, 4]),
-        parts("an object's type in the pool", 1, 0, &name),
-        parts("an object's code in the pool", 1, 2, &code),
-        parts("an attribute's name in the pool", 2, 0, &name),
-        parts("a string in the pool", 5, 0, &string),
-        pairs("integers: the low end at most the high one, with signs", 4, &integers),
-        pairs("dates: real, none after 9999-12-31, the low end at most the high one", 7, &dates),
-        links("an object's first attribute", 1, 4),
-        links("an attribute's value", 2, 2),
-        links("an attribute's next", 2, 3),
-        links("an integer's next", 4, 4),
-        links("a string's next", 5, 4),
-        links("a date interval's next", 7, 4),
-    ];
-    all.push(check_group(
-        "the same rules in little-endian records",
-        vec![
-            ordered(&at_hand(record(4, 0, [u32::MAX, 0, 0, 0, 3]), &[4], POOL), "l"),
-            ordered(&at_hand(record(4, 0, [0, u32::MAX, 0, 0, 3]), &[4], POOL), "bl"),
-            ordered(&at_hand(record(4, 0, [0, 0, 0, 0, 2]), &[4], POOL), "bbl"),
-            ordered(&at_hand(record(7, 0, [101, 99_991_231, 0, 0, 0]), &[], POOL), "bbl"),
-            ordered(&at_hand(record(7, 0, [99_991_231, 101, 0, 0, 0]), &[], POOL), "bbl"),
-            ordered(&at_hand(record(5, 0, [1, 1, 0, 0, 0]), &[], POOL), "lbl"),
-            ordered(&at_hand(record(5, 0, [1, 2, 0, 0, 0]), &[], POOL), "lbl"),
-            ordered(&at_hand(record(3, 4, [0; 5]), &[], POOL), "lbl"),
-            ordered(&at_hand(record(3, 3, [0, 0, 0, 0, 1]), &[], POOL), "lbl"),
-        ],
-    ));
-    all
-}
-
-/// The bytes with the two bytes of one record's mark turned round.
-fn swapped(bytes: &[u8], number: usize) -> Vec<u8> {
-    let mut bytes = bytes.to_vec();
-    bytes.swap(limits::RECORD * number, limits::RECORD * number + 1);
-    bytes
-}
-
 fn name_case(bytes: &[u8], number: u32) -> String {
     match name(bytes, number) {
         NameAnswer::Name { start, length } => {
@@ -466,7 +406,16 @@ fn all_names(about: &'static str, table: &Table) -> Group {
 }
 
 fn name_groups() -> Vec<Group> {
-    let small = table(2, &[record(5, 0, [0, 0, 0, 0, 0]), record(1, 0, [2, 2, 0, 1, 4]), record(5, 0, [1, 3, 0, 0, 0]), record(2, 0, [1, 1, 0, 0, 0])], b"xaBc");
+    let small = table(
+        2,
+        &[
+            record(5, 0, [0, 0, 0, 0, 0]),
+            record(1, 0, [2, 2, 0, 1, 4]),
+            record(5, 0, [1, 3, 0, 0, 0]),
+            record(2, 0, [1, 1, 0, 0, 0]),
+        ],
+        b"xaBc",
+    );
     let broken = changed(&small, 4, |record| record.flag = 3);
     let faults = [
         (changed(&small, 0, |header| header.flag = 1), 2),
@@ -478,10 +427,16 @@ fn name_groups() -> Vec<Group> {
         (changed(&small, 0, |header| header.numbers[1] = 5), 99),
     ];
     vec![
-        all_names("a table with every kind of record: objects, attributes and strings have a name", &ordered(&every_kind(), "blbbl")),
+        all_names(
+            "a table with every kind of record: objects, attributes and strings have a name",
+            &ordered(&every_kind(), "blbbl"),
+        ),
         all_names("an empty string, and parts that overlap", &ordered(&small, "lb")),
         all_names("shared records", &shared()),
-        Group { about: "a table that is refused, before 14", cases: faults.iter().map(|(each, number)| name_case(&each.bytes(), *number)).collect() },
+        Group {
+            about: "a table that is refused, before 14",
+            cases: faults.iter().map(|(each, number)| name_case(&each.bytes(), *number)).collect(),
+        },
         Group { about: "no bytes at all", cases: [0, 1].map(|number| name_case(b"", number)).to_vec() },
     ]
 }
@@ -511,7 +466,9 @@ impl Trees<'_> {
     fn value(&self, number: RecordNumber) -> String {
         let n = number.0;
         let leaf = match self.0.record(number) {
-            Some(rules::Record::Object { .. }) => return format!("(nested {})", self.object(number).unwrap_or_default()),
+            Some(rules::Record::Object { .. }) => {
+                return format!("(nested {})", self.object(number).unwrap_or_default())
+            }
             Some(rules::Record::Boolean { flag }) => format!("(booleans {n} {flag})"),
             Some(rules::Record::DatePattern { flag }) => format!("(datePattern {n} {flag})"),
             Some(rules::Record::TimePattern { flag }) => format!("(timePattern {n} {flag})"),
@@ -529,8 +486,12 @@ impl Trees<'_> {
         while number.0 != 0 {
             let n = number.0;
             let (item, next) = match self.0.record(number) {
-                Some(rules::Record::Integer { low, high, next }) => (format!("range {n} {} {}", term::distance(low), term::distance(high)), next),
-                Some(rules::Record::Text { part, next }) => (format!("item {n} {}", term::bytes(self.0.part(part))), next),
+                Some(rules::Record::Integer { low, high, next }) => {
+                    (format!("range {n} {} {}", term::distance(low), term::distance(high)), next)
+                }
+                Some(rules::Record::Text { part, next }) => {
+                    (format!("item {n} {}", term::bytes(self.0.part(part))), next)
+                }
                 Some(rules::Record::DateInterval { low, high, next }) => {
                     let day = |date: crate::calendar::Date| term::number(u64::from(date.packed()));
                     (format!("range {n} {} {}", day(low), day(high)), next)

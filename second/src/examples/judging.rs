@@ -25,13 +25,26 @@ const USES: &[&str] = &[
 ];
 
 fn table(module: &'static str, about: &'static str, groups: Vec<Group>) -> Table {
-    Table { holder: "meaning", module, about, uses: USES, case: "Case", right: "right", unfolding: "meaningComputes", groups }
+    Table {
+        holder: "meaning",
+        module,
+        about,
+        uses: USES,
+        case: "Case",
+        right: "right",
+        unfolding: "meaningComputes",
+        groups,
+    }
 }
 
 pub fn tables() -> Vec<Table> {
     vec![
         table("LeafTable", "Words and strings by leaves of every kind.", leaf_groups()),
-        table("JudgeTable", "Data by objects: types, existence, members, levels, and the first failure in the walk.", object_groups()),
+        table(
+            "JudgeTable",
+            "Data by objects: types, existence, members, levels, and the first failure in the walk.",
+            object_groups(),
+        ),
         table("MadeTable", "Short texts from a generator with a fixed seed, and data for each.", vec![made()]),
     ]
 }
@@ -64,7 +77,9 @@ fn under(leaf: &str, value: &str) -> String {
     let (Ok(tree), Ok(data)) = (constraint::read(text.as_bytes()), data::read(given.as_bytes())) else {
         panic!("refused");
     };
-    let (Value::Leaf(leaf), Datum::Leaf(datum)) = (&tree.objects[0].attributes[0].value, &data.blocks[0].members[0].value) else {
+    let (Value::Leaf(leaf), Datum::Leaf(datum)) =
+        (&tree.objects[0].attributes[0].value, &data.blocks[0].members[0].value)
+    else {
         panic!("no leaf");
     };
     let content = match datum.value {
@@ -97,14 +112,42 @@ fn leaf_groups() -> Vec<Group> {
             &["True", "5", "\"a\"", "yyyy-??-??", "|2004-05-20|", "Thh:??:??"],
             SORTS,
         ),
-        crossed("Booleans", &["True", "False", "True, False", "False, True"], &["True", "False", "1", "\"True\"", "\"False\""]),
-        crossed("an integer at the edges of an interval", &["|-5..9|", "|>-6..<10|", "|2+/-7|"], &["-6", "-5", "0", "9", "10", "2147483647", "-2147483648"]),
-        crossed("an open interval", &["|>=0|", "|>-1|", "|<=-1|", "|<0|"], &["-2147483648", "-1", "0", "1", "2147483647"]),
+        crossed(
+            "Booleans",
+            &["True", "False", "True, False", "False, True"],
+            &["True", "False", "1", "\"True\"", "\"False\""],
+        ),
+        crossed(
+            "an integer at the edges of an interval",
+            &["|-5..9|", "|>-6..<10|", "|2+/-7|"],
+            &["-6", "-5", "0", "9", "10", "2147483647", "-2147483648"],
+        ),
+        crossed(
+            "an open interval",
+            &["|>=0|", "|>-1|", "|<=-1|", "|<0|"],
+            &["-2147483648", "-1", "0", "1", "2147483647"],
+        ),
         crossed("one value", &["5", "|5|", "-5", "0"], &["-5", "0", "4", "5", "6", "\"5\"", "05", "05:00"]),
-        crossed("a list of integers: a value in some item", &["1, |5..9|, 20", "20, |5..9|, 1"], &["0", "1", "2", "4", "5", "9", "10", "19", "20", "21", "True"]),
-        crossed("a list of integers whose items touch", &["|1..4|, |5..9|", "|-2147483648..-1|, 0, |1..2147483647|"], &["0", "1", "4", "5", "9", "10", "-2147483648", "2147483647"]),
-        crossed("strings: all of its bytes", &["\"a\"", "\"ab\"", "\"\"", "\"A\"", "\" a\""], &["\"a\"", "\"ab\"", "\"b\"", "\"\"", "\"A\"", "\" a\"", "\"a \"", "5"]),
-        crossed("a list of strings", &["\"a\", \"\", \"bc\"", "\"bc\", \"b\""], &["\"a\"", "\"\"", "\"b\"", "\"bc\"", "\"bcd\"", "\"c\"", "True"]),
+        crossed(
+            "a list of integers: a value in some item",
+            &["1, |5..9|, 20", "20, |5..9|, 1"],
+            &["0", "1", "2", "4", "5", "9", "10", "19", "20", "21", "True"],
+        ),
+        crossed(
+            "a list of integers whose items touch",
+            &["|1..4|, |5..9|", "|-2147483648..-1|, 0, |1..2147483647|"],
+            &["0", "1", "4", "5", "9", "10", "-2147483648", "2147483647"],
+        ),
+        crossed(
+            "strings: all of its bytes",
+            &["\"a\"", "\"ab\"", "\"\"", "\"A\"", "\" a\""],
+            &["\"a\"", "\"ab\"", "\"b\"", "\"\"", "\"A\"", "\" a\"", "\"a \"", "5"],
+        ),
+        crossed(
+            "a list of strings",
+            &["\"a\", \"\", \"bc\"", "\"bc\", \"b\""],
+            &["\"a\"", "\"\"", "\"b\"", "\"bc\"", "\"bcd\"", "\"c\"", "True"],
+        ),
         crossed(
             "date patterns: lettered parts must be there, `??` may, `XX` may not",
             &["yyyy-mm-dd", "yyyy-mm-??", "yyyy-??-??", "yyyy-mm-XX", "yyyy-??-XX"],
@@ -118,9 +161,24 @@ fn leaf_groups() -> Vec<Group> {
         crossed(
             "a date at the edges of an interval; a part of a date isn't in any",
             &["|2003-12-31..2004-02-29|", "|>2003-12-30..<2004-03-01|", "|2004-01-01|"],
-            &["2003-12-30", "2003-12-31", "2004-01-01", "2004-02-29", "2004-03-01", "2004", "2004-01", "2004-02", "20040101", "5"],
+            &[
+                "2003-12-30",
+                "2003-12-31",
+                "2004-01-01",
+                "2004-02-29",
+                "2004-03-01",
+                "2004",
+                "2004-01",
+                "2004-02",
+                "20040101",
+                "5",
+            ],
         ),
-        crossed("an open interval of dates, and the ends of the calendar", &["|>=2004-12-31|", "|>2004-12-31|", "|<=2004-12-31|", "|<2005-01-01|"], &["0000-01-01", "2004-12-31", "2005-01-01", "9999-12-31", "9999"]),
+        crossed(
+            "an open interval of dates, and the ends of the calendar",
+            &["|>=2004-12-31|", "|>2004-12-31|", "|<=2004-12-31|", "|<2005-01-01|"],
+            &["0000-01-01", "2004-12-31", "2005-01-01", "9999-12-31", "9999"],
+        ),
         crossed(
             "a list of intervals of dates",
             &["|2004-01-01..2004-01-31|, |2005-01-01|, |>=2006-01-01|"],

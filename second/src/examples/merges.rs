@@ -14,18 +14,65 @@ const LIST: &str = "mathlib.Core.List.{List, [], _∷_}";
 const WRONG: &str = "Rattle.lexis.proofs.Tables.{wrong}";
 const COMPUTE: &str = "Rattle.merge.proofs.Computes.{mergeComputes}";
 const HEX: &str = "Rattle.table.proofs.Hex.{hex, filling}";
-const MERGES: &[&str] = &[PATH, BOOL, LIST, WRONG, HEX, COMPUTE, "Rattle.merge.proofs.Examples.{Case, merges, refuses, right}"];
-const STEPS: &[&str] = &[PATH, BOOL, LIST, WRONG, HEX, COMPUTE, "Rattle.merge.proofs.Examples.{StepCase, carries, step, stepsRight}"];
-const LIMITS: &[&str] = &[PATH, BOOL, LIST, WRONG, COMPUTE, "Rattle.merge.proofs.Examples.{JoinCase, joinRefuses, joinRight}"];
+const MERGES: &[&str] =
+    &[PATH, BOOL, LIST, WRONG, HEX, COMPUTE, "Rattle.merge.proofs.Examples.{Case, merges, refuses, right}"];
+const STEPS: &[&str] = &[
+    PATH,
+    BOOL,
+    LIST,
+    WRONG,
+    HEX,
+    COMPUTE,
+    "Rattle.merge.proofs.Examples.{StepCase, carries, step, stepsRight}",
+];
+const LIMITS: &[&str] =
+    &[PATH, BOOL, LIST, WRONG, COMPUTE, "Rattle.merge.proofs.Examples.{JoinCase, joinRefuses, joinRight}"];
 
 pub fn tables() -> Vec<layout::Table> {
-    let part = |module, about, uses, case, right, groups| layout::Table { holder: "merge", module, about, uses, case, right, unfolding: "mergeComputes", groups };
+    let part = |module, about, uses, case, right, groups| layout::Table {
+        holder: "merge",
+        module,
+        about,
+        uses,
+        case,
+        right,
+        unfolding: "mergeComputes",
+        groups,
+    };
     vec![
-        part("MergeTable", "Two tables merged, byte for byte, and the output behind the table.", MERGES, "Case", "right", merge_groups()),
+        part(
+            "MergeTable",
+            "Two tables merged, byte for byte, and the output behind the table.",
+            MERGES,
+            "Case",
+            "right",
+            merge_groups(),
+        ),
         part("RefusalTable", "Merges that are refused.", MERGES, "Case", "right", refusal_groups()),
-        part("MadeTable", "Merges of short tables from a generator with a fixed seed.", MERGES, "Case", "right", vec![made()]),
-        part("LimitTable", "Tables joined up to the limits of a table and above them.", LIMITS, "JoinCase", "joinRight", vec![limits()]),
-        part("StepTable", "Lists of merges, with the table carried and the sum of the shifts.", STEPS, "StepCase", "stepsRight", vec![steps()]),
+        part(
+            "MadeTable",
+            "Merges of short tables from a generator with a fixed seed.",
+            MERGES,
+            "Case",
+            "right",
+            vec![made()],
+        ),
+        part(
+            "LimitTable",
+            "Tables joined up to the limits of a table and above them.",
+            LIMITS,
+            "JoinCase",
+            "joinRight",
+            vec![limits()],
+        ),
+        part(
+            "StepTable",
+            "Lists of merges, with the table carried and the sum of the shifts.",
+            STEPS,
+            "StepCase",
+            "stepsRight",
+            vec![steps()],
+        ),
     ]
 }
 
@@ -37,7 +84,9 @@ fn case(first: &[u8], second: &[u8], little: bool, fill: u8, room: usize) -> Str
     let mut out = before.clone();
     let inputs = format!("{} {} {} {}", hex(first), hex(second), term::truth(little), filling(fill, room));
     match merge(first, second, little, &mut out) {
-        MergeAnswer::Done { length, record_shift, pool_shift } => format!("merges {inputs} {length} {record_shift} {pool_shift} {}", hex(&out)),
+        MergeAnswer::Done { length, record_shift, pool_shift } => {
+            format!("merges {inputs} {length} {record_shift} {pool_shift} {}", hex(&out))
+        }
         MergeAnswer::Refused { number, place, table } => {
             assert!(out == before);
             format!("refuses {inputs} {table} {number} {place}")
@@ -73,9 +122,24 @@ fn merge_groups() -> Vec<Group> {
     let small = smallest();
     let every = every_kind();
     // a root that isn't the first record, an empty pool but for one byte, and records without names
-    let bare = table(3, &[record(3, 2, [0; 5]), record(4, 0, [u32::MAX, 5, 0, 0, 0]), record(1, 0, [0, 1, 0, 0, 0]), record(6, 2, [0; 5])], b"Z");
-    let empty = table(2, &[record(5, 0, [0; 5]), record(1, 0, [0, 1, 0, 0, 0]), record(5, 0, [0, 0, 0, 0, 4]), record(5, 0, [0; 5])], b"Y");
-    let pairs = |all: &[(&Table, &Table, usize)]| all.iter().flat_map(|(first, second, more)| both(first, second, *more)).collect();
+    let bare = table(
+        3,
+        &[
+            record(3, 2, [0; 5]),
+            record(4, 0, [u32::MAX, 5, 0, 0, 0]),
+            record(1, 0, [0, 1, 0, 0, 0]),
+            record(6, 2, [0; 5]),
+        ],
+        b"Z",
+    );
+    let empty = table(
+        2,
+        &[record(5, 0, [0; 5]), record(1, 0, [0, 1, 0, 0, 0]), record(5, 0, [0, 0, 0, 0, 4]), record(5, 0, [0; 5])],
+        b"Y",
+    );
+    let pairs = |all: &[(&Table, &Table, usize)]| {
+        all.iter().flat_map(|(first, second, more)| both(first, second, *more)).collect()
+    };
     vec![
         Group { about: "the smallest table with itself: 74 bytes", cases: pairs(&[(&small, &small, 0), (&small, &small, 3)]) },
         Group {
@@ -201,7 +265,10 @@ const MOST_CLAIMED: u32 = 64;
 
 fn made() -> Group {
     let maker = Maker::new(SEED);
-    let small = |bytes: &[u8]| (crate::limits::RECORD..=LONGEST).contains(&bytes.len()) && generator::Record::read(bytes).numbers[0] <= MOST_CLAIMED;
+    let small = |bytes: &[u8]| {
+        (crate::limits::RECORD..=LONGEST).contains(&bytes.len())
+            && generator::Record::read(bytes).numbers[0] <= MOST_CLAIMED
+    };
     let mut cases: Vec<String> = Vec::new();
     let mut refused = 0;
     for number in 0.. {
@@ -279,10 +346,26 @@ pub fn lists() -> Vec<Vec<Step>> {
         vec![step(&small, true, false, 300)],
         vec![step(&small, false, true, 300)],
         vec![step(&mixed, false, false, 400), step(&small, true, true, 400), step(&inside(), false, true, 700)],
-        vec![step(&broken, false, false, 500), step(&small, false, false, 10), step(&no_root, true, true, 500), nothing],
-        vec![step(&small, false, true, 20), step(&small, false, true, 500), step(&broken, true, false, 500), step(&mixed, false, false, 500), step(&no_root, false, true, 500), step(&small, true, false, 600)],
+        vec![
+            step(&broken, false, false, 500),
+            step(&small, false, false, 10),
+            step(&no_root, true, true, 500),
+            nothing,
+        ],
+        vec![
+            step(&small, false, true, 20),
+            step(&small, false, true, 500),
+            step(&broken, true, false, 500),
+            step(&mixed, false, false, 500),
+            step(&no_root, false, true, 500),
+            step(&small, true, false, 600),
+        ],
         vec![with_itself(false, true, 700), with_itself(true, false, 900)],
-        vec![step(&ordered(&shared(), "bl"), false, false, 600), with_itself(false, false, 100), step(&unreached(), false, true, 900)],
+        vec![
+            step(&ordered(&shared(), "bl"), false, false, 600),
+            with_itself(false, false, 100),
+            step(&unreached(), false, true, 900),
+        ],
     ]
 }
 
@@ -296,5 +379,9 @@ fn steps() -> Group {
             cases.push(format!("carries {} {} {} {}", hex(&start), term::list(&terms), hex(&end.table), end.sum));
         }
     }
-    Group { about: "the carried table as first and as second, with itself, and refused merges in between, which change nothing", cases }
+    Group {
+        about:
+            "the carried table as first and as second, with itself, and refused merges in between, which change nothing",
+        cases,
+    }
 }

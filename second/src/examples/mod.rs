@@ -6,6 +6,7 @@
 //! one crate each.
 
 mod answers;
+mod broken;
 mod compiles;
 mod constraint;
 mod data;

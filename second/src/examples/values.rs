@@ -12,7 +12,8 @@ const BOOL: &str = "mathlib.Core.Bool.{true, false}";
 const OPTION: &str = "mathlib.Core.Option.{none, some}";
 const LIST: &str = "mathlib.Core.List.{List, [], _∷_}";
 const TEXT: &str = "Rattle.lexis.specs.Text.{bytes}";
-const PAIR: &str = "Rattle.values.specs.Integers.{pair}";
+const PAIR: &str = "Rattle.values.specs.Integers.{pair, nought, greatest}";
+const DAYS: &str = "Rattle.values.specs.Calendar.{firstDay, lastDay}";
 const WRONG: &str = "Rattle.lexis.proofs.Tables.{wrong}";
 const COMPUTE: &str = "Rattle.values.proofs.Computes.{valuesCompute}";
 
@@ -38,9 +39,10 @@ pub fn tables() -> Vec<Table> {
                 OPTION,
                 LIST,
                 PAIR,
+                DAYS,
                 WRONG,
                 COMPUTE,
-                "Rattle.values.proofs.Examples.{NumberCase, leapIs, daysAre, realIs, follows, precedes, spreads, bitsAre, numberRight}",
+                "Rattle.values.proofs.Examples.{NumberCase, leapIs, daysAre, realIs, follows, precedes, spreads, bitsAre, endIs, numberRight}",
             ],
             case: "NumberCase",
             right: "numberRight",
@@ -187,6 +189,7 @@ fn number_groups() -> Vec<Group> {
             cases: day_cases(),
         },
         Group { about: "a - d and a + d, where both lie in the range", cases: spread_cases() },
+        Group { about: "the ends of the ranges, and 0", cases: end_cases() },
         Group {
             about: "two's complement",
             cases: [i32::MIN, i32::MIN + 1, -1000, -2, -1, 0, 1, 2, 1000, i32::MAX - 1, i32::MAX]
@@ -195,6 +198,16 @@ fn number_groups() -> Vec<Group> {
                 .collect(),
         },
     ]
+}
+
+fn end_cases() -> Vec<String> {
+    let ends = [
+        ("firstDay", term::number(u64::from(Date::FIRST.packed()))),
+        ("lastDay", term::number(u64::from(Date::LAST.packed()))),
+        ("nought", term::distance(0)),
+        ("greatest", term::distance(i32::MAX)),
+    ];
+    ends.iter().map(|(name, value)| format!("endIs {name} {value}")).collect()
 }
 
 fn day_cases() -> Vec<String> {
