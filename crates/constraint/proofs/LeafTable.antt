@@ -269,7 +269,7 @@ cases =
     ∷ refuses (bytes "A matches {a matches {\"a\\\"b\"}}") 2 22
     ∷ refuses (bytes "A matches {a matches {\"\t\"}}") 2 22
     ∷ refuses (bytes "A matches {a matches {\"\u{7f}\"}}") 2 22
-    ∷ refuses (bytes "A matches {a matches {\"\u{e2}\u{88}\u{88}\"}}") 2 22
+    ∷ refuses (bytes "A matches {a matches {\"â\u{88}\u{88}\"}}") 2 22
     ∷ refuses (bytes "A matches {a matches {\"a\", \"a}}") 2 27
     -- 16 items and the 17th
     ∷ accepts (bytes "A matches {a matches {1,2,3,4,5,6,7,8,9,10,11,12,13,14,15,16}}") (object 1 (bytes "A") [] (attribute 2 2 (bytes "a") (leaf (integers (range 3 2_147_483_649 2_147_483_649 ∷ range 4 2_147_483_650 2_147_483_650 ∷ range 5 2_147_483_651 2_147_483_651 ∷ range 6 2_147_483_652 2_147_483_652 ∷ range 7 2_147_483_653 2_147_483_653 ∷ range 8 2_147_483_654 2_147_483_654 ∷ range 9 2_147_483_655 2_147_483_655 ∷ range 10 2_147_483_656 2_147_483_656 ∷ range 11 2_147_483_657 2_147_483_657 ∷ range 12 2_147_483_658 2_147_483_658 ∷ range 13 2_147_483_659 2_147_483_659 ∷ range 14 2_147_483_660 2_147_483_660 ∷ range 15 2_147_483_661 2_147_483_661 ∷ range 16 2_147_483_662 2_147_483_662 ∷ range 17 2_147_483_663 2_147_483_663 ∷ range 18 2_147_483_664 2_147_483_664 ∷ []))) noMore))

@@ -34,11 +34,11 @@ cases =
     -- no separator is needed, any may stand, and a comment may end at the text's end
     ∷ accepts (bytes "A[at1]matches{*}") (object 1 (bytes "A") (bytes "at1") noMore)
     ∷ accepts (bytes "A[at1]matches{a matches{5}b matches{True}}") (object 1 (bytes "A") (bytes "at1") (attribute 2 2 (bytes "a") (leaf (integers (range 3 2_147_483_653 2_147_483_653 ∷ []))) (attribute 4 2 (bytes "b") (leaf (booleans 5 1)) noMore)))
-    ∷ accepts (bytes "A\u{e2}\u{88}\u{88}{a\u{e2}\u{88}\u{88}{5}}") (object 1 (bytes "A") [] (attribute 2 2 (bytes "a") (leaf (integers (range 3 2_147_483_653 2_147_483_653 ∷ []))) noMore))
+    ∷ accepts (bytes "Aâ\u{88}\u{88}{aâ\u{88}\u{88}{5}}") (object 1 (bytes "A") [] (attribute 2 2 (bytes "a") (leaf (integers (range 3 2_147_483_653 2_147_483_653 ∷ []))) noMore))
     ∷ accepts (bytes "\r\nA\tmatches\n{ * }\r") (object 1 (bytes "A") [] noMore)
     ∷ accepts (bytes "A matches {*}  ") (object 1 (bytes "A") [] noMore)
     ∷ refuses (bytes "A matches {*  ") 2 14
-    ∷ accepts (bytes "--\0\u{ff}\nA--{\rmatches--\n{--*\n*--\n}--") (object 1 (bytes "A") [] noMore)
+    ∷ accepts (bytes "--\0ÿ\nA--{\rmatches--\n{--*\n*--\n}--") (object 1 (bytes "A") [] noMore)
     ∷ refuses (bytes "A matches {* -- }") 2 17
     ∷ accepts (bytes "A matches {* -- }\r}") (object 1 (bytes "A") [] noMore)
     ∷ accepts (bytes "A matches {a existence matches { 0 .. 1 } matches { | > 5 .. < 9 | } }") (object 1 (bytes "A") [] (attribute 2 1 (bytes "a") (leaf (integers (range 3 2_147_483_654 2_147_483_656 ∷ []))) noMore))
@@ -47,9 +47,9 @@ cases =
     -- other spellings of the keywords are none
     ∷ refuses (bytes "A Matches {*}") 2 2
     ∷ refuses (bytes "A is_in {*}") 2 2
-    ∷ refuses (bytes "A \u{e2}\u{88}{*}") 2 2
-    ∷ refuses (bytes "A \u{e2}\u{88}\u{87}{*}") 2 2
-    ∷ refuses (bytes "A matches\u{e2}\u{88}\u{88}{*}") 2 9
+    ∷ refuses (bytes "A â\u{88}{*}") 2 2
+    ∷ refuses (bytes "A â\u{88}\u{87}{*}") 2 2
+    ∷ refuses (bytes "A matchesâ\u{88}\u{88}{*}") 2 9
     ∷ refuses (bytes "A : {*}") 2 2
     -- TYPEs: True and False are none
     ∷ refuses (bytes "True matches {*}") 2 0
@@ -200,14 +200,14 @@ cases =
     ∷ refuses (bytes "A matches {a matches {\"xxxxxxxxxxxxxxxxxxxxxxxxxxxxxxxxxxxxxxxxxxxxxxxxxxxxxxxxxxxxxxxxxxxxxxxxxxxxxxxxxxxxxxxxxxxxxxxxxxxxxxxxxxxxxxxxxxxxxxxxxxxxxxxxxxxxxxxxxxxxxxxxxxxxxxxxxxxxxxxxxxxxxxxxxxxxxxxxxxxxxxxxxxxxxxxxxxxxxxxxxxxxxxxxxxxxxxxxxxxxxxxxxxxxxxxxxxxxxxxxxxxxxxxxxxxxxxxx\"}}") 4 22
     ∷ refuses (bytes "A matches {a matches {\"a\", \"xxxxxxxxxxxxxxxxxxxxxxxxxxxxxxxxxxxxxxxxxxxxxxxxxxxxxxxxxxxxxxxxxxxxxxxxxxxxxxxxxxxxxxxxxxxxxxxxxxxxxxxxxxxxxxxxxxxxxxxxxxxxxxxxxxxxxxxxxxxxxxxxxxxxxxxxxxxxxxxxxxxxxxxxxxxxxxxxxxxxxxxxxxxxxxxxxxxxxxxxxxxxxxxxxxxxxxxxxxxxxxxxxxxxxxxxxxxxxxxxxxxxxxxxxxxxxxxx\", \"a\"}}") 4 27
     -- 16 levels and the 17th, told at its TYPE
-    ∷ accepts (bytes "A\u{e2}\u{88}\u{88}{a\u{e2}\u{88}\u{88}{A\u{e2}\u{88}\u{88}{a\u{e2}\u{88}\u{88}{A\u{e2}\u{88}\u{88}{a\u{e2}\u{88}\u{88}{A\u{e2}\u{88}\u{88}{a\u{e2}\u{88}\u{88}{A\u{e2}\u{88}\u{88}{a\u{e2}\u{88}\u{88}{A\u{e2}\u{88}\u{88}{a\u{e2}\u{88}\u{88}{A\u{e2}\u{88}\u{88}{a\u{e2}\u{88}\u{88}{A\u{e2}\u{88}\u{88}{a\u{e2}\u{88}\u{88}{A\u{e2}\u{88}\u{88}{a\u{e2}\u{88}\u{88}{A\u{e2}\u{88}\u{88}{a\u{e2}\u{88}\u{88}{A\u{e2}\u{88}\u{88}{a\u{e2}\u{88}\u{88}{A\u{e2}\u{88}\u{88}{a\u{e2}\u{88}\u{88}{A\u{e2}\u{88}\u{88}{a\u{e2}\u{88}\u{88}{A\u{e2}\u{88}\u{88}{a\u{e2}\u{88}\u{88}{A\u{e2}\u{88}\u{88}{a\u{e2}\u{88}\u{88}{A matches{*}}}}}}}}}}}}}}}}}}}}}}}}}}}}}}}") (object 1 (bytes "A") [] (attribute 2 2 (bytes "a") (nested (object 3 (bytes "A") [] (attribute 4 2 (bytes "a") (nested (object 5 (bytes "A") [] (attribute 6 2 (bytes "a") (nested (object 7 (bytes "A") [] (attribute 8 2 (bytes "a") (nested (object 9 (bytes "A") [] (attribute 10 2 (bytes "a") (nested (object 11 (bytes "A") [] (attribute 12 2 (bytes "a") (nested (object 13 (bytes "A") [] (attribute 14 2 (bytes "a") (nested (object 15 (bytes "A") [] (attribute 16 2 (bytes "a") (nested (object 17 (bytes "A") [] (attribute 18 2 (bytes "a") (nested (object 19 (bytes "A") [] (attribute 20 2 (bytes "a") (nested (object 21 (bytes "A") [] (attribute 22 2 (bytes "a") (nested (object 23 (bytes "A") [] (attribute 24 2 (bytes "a") (nested (object 25 (bytes "A") [] (attribute 26 2 (bytes "a") (nested (object 27 (bytes "A") [] (attribute 28 2 (bytes "a") (nested (object 29 (bytes "A") [] (attribute 30 2 (bytes "a") (nested (object 31 (bytes "A") [] noMore)) noMore))) noMore))) noMore))) noMore))) noMore))) noMore))) noMore))) noMore))) noMore))) noMore))) noMore))) noMore))) noMore))) noMore))) noMore))
-    ∷ accepts (bytes "A\u{e2}\u{88}\u{88}{a\u{e2}\u{88}\u{88}{A\u{e2}\u{88}\u{88}{a\u{e2}\u{88}\u{88}{A\u{e2}\u{88}\u{88}{a\u{e2}\u{88}\u{88}{A\u{e2}\u{88}\u{88}{a\u{e2}\u{88}\u{88}{A\u{e2}\u{88}\u{88}{a\u{e2}\u{88}\u{88}{A\u{e2}\u{88}\u{88}{a\u{e2}\u{88}\u{88}{A\u{e2}\u{88}\u{88}{a\u{e2}\u{88}\u{88}{A\u{e2}\u{88}\u{88}{a\u{e2}\u{88}\u{88}{A\u{e2}\u{88}\u{88}{a\u{e2}\u{88}\u{88}{A\u{e2}\u{88}\u{88}{a\u{e2}\u{88}\u{88}{A\u{e2}\u{88}\u{88}{a\u{e2}\u{88}\u{88}{A\u{e2}\u{88}\u{88}{a\u{e2}\u{88}\u{88}{A\u{e2}\u{88}\u{88}{a\u{e2}\u{88}\u{88}{A\u{e2}\u{88}\u{88}{a\u{e2}\u{88}\u{88}{A\u{e2}\u{88}\u{88}{a\u{e2}\u{88}\u{88}{A matches{a matches{5}}}}}}}}}}}}}}}}}}}}}}}}}}}}}}}}") (object 1 (bytes "A") [] (attribute 2 2 (bytes "a") (nested (object 3 (bytes "A") [] (attribute 4 2 (bytes "a") (nested (object 5 (bytes "A") [] (attribute 6 2 (bytes "a") (nested (object 7 (bytes "A") [] (attribute 8 2 (bytes "a") (nested (object 9 (bytes "A") [] (attribute 10 2 (bytes "a") (nested (object 11 (bytes "A") [] (attribute 12 2 (bytes "a") (nested (object 13 (bytes "A") [] (attribute 14 2 (bytes "a") (nested (object 15 (bytes "A") [] (attribute 16 2 (bytes "a") (nested (object 17 (bytes "A") [] (attribute 18 2 (bytes "a") (nested (object 19 (bytes "A") [] (attribute 20 2 (bytes "a") (nested (object 21 (bytes "A") [] (attribute 22 2 (bytes "a") (nested (object 23 (bytes "A") [] (attribute 24 2 (bytes "a") (nested (object 25 (bytes "A") [] (attribute 26 2 (bytes "a") (nested (object 27 (bytes "A") [] (attribute 28 2 (bytes "a") (nested (object 29 (bytes "A") [] (attribute 30 2 (bytes "a") (nested (object 31 (bytes "A") [] (attribute 32 2 (bytes "a") (leaf (integers (range 33 2_147_483_653 2_147_483_653 ∷ []))) noMore))) noMore))) noMore))) noMore))) noMore))) noMore))) noMore))) noMore))) noMore))) noMore))) noMore))) noMore))) noMore))) noMore))) noMore))) noMore))
-    ∷ refuses (bytes "A\u{e2}\u{88}\u{88}{a\u{e2}\u{88}\u{88}{A\u{e2}\u{88}\u{88}{a\u{e2}\u{88}\u{88}{A\u{e2}\u{88}\u{88}{a\u{e2}\u{88}\u{88}{A\u{e2}\u{88}\u{88}{a\u{e2}\u{88}\u{88}{A\u{e2}\u{88}\u{88}{a\u{e2}\u{88}\u{88}{A\u{e2}\u{88}\u{88}{a\u{e2}\u{88}\u{88}{A\u{e2}\u{88}\u{88}{a\u{e2}\u{88}\u{88}{A\u{e2}\u{88}\u{88}{a\u{e2}\u{88}\u{88}{A\u{e2}\u{88}\u{88}{a\u{e2}\u{88}\u{88}{A\u{e2}\u{88}\u{88}{a\u{e2}\u{88}\u{88}{A\u{e2}\u{88}\u{88}{a\u{e2}\u{88}\u{88}{A\u{e2}\u{88}\u{88}{a\u{e2}\u{88}\u{88}{A\u{e2}\u{88}\u{88}{a\u{e2}\u{88}\u{88}{A\u{e2}\u{88}\u{88}{a\u{e2}\u{88}\u{88}{A\u{e2}\u{88}\u{88}{a\u{e2}\u{88}\u{88}{A\u{e2}\u{88}\u{88}{a\u{e2}\u{88}\u{88}{A matches{*}}}}}}}}}}}}}}}}}}}}}}}}}}}}}}}}}") 3 160
-    ∷ accepts (bytes "A\u{e2}\u{88}\u{88}{a\u{e2}\u{88}\u{88}{A\u{e2}\u{88}\u{88}{a\u{e2}\u{88}\u{88}{A\u{e2}\u{88}\u{88}{a\u{e2}\u{88}\u{88}{A\u{e2}\u{88}\u{88}{a\u{e2}\u{88}\u{88}{A\u{e2}\u{88}\u{88}{a\u{e2}\u{88}\u{88}{A\u{e2}\u{88}\u{88}{a\u{e2}\u{88}\u{88}{A\u{e2}\u{88}\u{88}{a\u{e2}\u{88}\u{88}{A\u{e2}\u{88}\u{88}{a\u{e2}\u{88}\u{88}{A\u{e2}\u{88}\u{88}{a\u{e2}\u{88}\u{88}{A\u{e2}\u{88}\u{88}{a\u{e2}\u{88}\u{88}{A\u{e2}\u{88}\u{88}{a\u{e2}\u{88}\u{88}{A\u{e2}\u{88}\u{88}{a\u{e2}\u{88}\u{88}{A\u{e2}\u{88}\u{88}{a\u{e2}\u{88}\u{88}{A\u{e2}\u{88}\u{88}{a\u{e2}\u{88}\u{88}{A\u{e2}\u{88}\u{88}{a\u{e2}\u{88}\u{88}{A\u{e2}\u{88}\u{88}{a\u{e2}\u{88}\u{88}{5}}}}}}}}}}}}}}}}}}}}}}}}}}}}}}}}") (object 1 (bytes "A") [] (attribute 2 2 (bytes "a") (nested (object 3 (bytes "A") [] (attribute 4 2 (bytes "a") (nested (object 5 (bytes "A") [] (attribute 6 2 (bytes "a") (nested (object 7 (bytes "A") [] (attribute 8 2 (bytes "a") (nested (object 9 (bytes "A") [] (attribute 10 2 (bytes "a") (nested (object 11 (bytes "A") [] (attribute 12 2 (bytes "a") (nested (object 13 (bytes "A") [] (attribute 14 2 (bytes "a") (nested (object 15 (bytes "A") [] (attribute 16 2 (bytes "a") (nested (object 17 (bytes "A") [] (attribute 18 2 (bytes "a") (nested (object 19 (bytes "A") [] (attribute 20 2 (bytes "a") (nested (object 21 (bytes "A") [] (attribute 22 2 (bytes "a") (nested (object 23 (bytes "A") [] (attribute 24 2 (bytes "a") (nested (object 25 (bytes "A") [] (attribute 26 2 (bytes "a") (nested (object 27 (bytes "A") [] (attribute 28 2 (bytes "a") (nested (object 29 (bytes "A") [] (attribute 30 2 (bytes "a") (nested (object 31 (bytes "A") [] (attribute 32 2 (bytes "a") (leaf (integers (range 33 2_147_483_653 2_147_483_653 ∷ []))) noMore))) noMore))) noMore))) noMore))) noMore))) noMore))) noMore))) noMore))) noMore))) noMore))) noMore))) noMore))) noMore))) noMore))) noMore))) noMore))
-    ∷ accepts (bytes "A\u{e2}\u{88}\u{88}{a\u{e2}\u{88}\u{88}{A\u{e2}\u{88}\u{88}{a\u{e2}\u{88}\u{88}{A\u{e2}\u{88}\u{88}{a\u{e2}\u{88}\u{88}{A\u{e2}\u{88}\u{88}{a\u{e2}\u{88}\u{88}{A\u{e2}\u{88}\u{88}{a\u{e2}\u{88}\u{88}{A\u{e2}\u{88}\u{88}{a\u{e2}\u{88}\u{88}{A\u{e2}\u{88}\u{88}{a\u{e2}\u{88}\u{88}{A\u{e2}\u{88}\u{88}{a\u{e2}\u{88}\u{88}{A\u{e2}\u{88}\u{88}{a\u{e2}\u{88}\u{88}{A\u{e2}\u{88}\u{88}{a\u{e2}\u{88}\u{88}{A\u{e2}\u{88}\u{88}{a\u{e2}\u{88}\u{88}{A\u{e2}\u{88}\u{88}{a\u{e2}\u{88}\u{88}{A\u{e2}\u{88}\u{88}{a\u{e2}\u{88}\u{88}{A\u{e2}\u{88}\u{88}{a\u{e2}\u{88}\u{88}{A\u{e2}\u{88}\u{88}{a\u{e2}\u{88}\u{88}{A\u{e2}\u{88}\u{88}{a\u{e2}\u{88}\u{88}{True}}}}}}}}}}}}}}}}}}}}}}}}}}}}}}}}") (object 1 (bytes "A") [] (attribute 2 2 (bytes "a") (nested (object 3 (bytes "A") [] (attribute 4 2 (bytes "a") (nested (object 5 (bytes "A") [] (attribute 6 2 (bytes "a") (nested (object 7 (bytes "A") [] (attribute 8 2 (bytes "a") (nested (object 9 (bytes "A") [] (attribute 10 2 (bytes "a") (nested (object 11 (bytes "A") [] (attribute 12 2 (bytes "a") (nested (object 13 (bytes "A") [] (attribute 14 2 (bytes "a") (nested (object 15 (bytes "A") [] (attribute 16 2 (bytes "a") (nested (object 17 (bytes "A") [] (attribute 18 2 (bytes "a") (nested (object 19 (bytes "A") [] (attribute 20 2 (bytes "a") (nested (object 21 (bytes "A") [] (attribute 22 2 (bytes "a") (nested (object 23 (bytes "A") [] (attribute 24 2 (bytes "a") (nested (object 25 (bytes "A") [] (attribute 26 2 (bytes "a") (nested (object 27 (bytes "A") [] (attribute 28 2 (bytes "a") (nested (object 29 (bytes "A") [] (attribute 30 2 (bytes "a") (nested (object 31 (bytes "A") [] (attribute 32 2 (bytes "a") (leaf (booleans 33 1)) noMore))) noMore))) noMore))) noMore))) noMore))) noMore))) noMore))) noMore))) noMore))) noMore))) noMore))) noMore))) noMore))) noMore))) noMore))) noMore))
-    ∷ refuses (bytes "A\u{e2}\u{88}\u{88}{a\u{e2}\u{88}\u{88}{A\u{e2}\u{88}\u{88}{a\u{e2}\u{88}\u{88}{A\u{e2}\u{88}\u{88}{a\u{e2}\u{88}\u{88}{A\u{e2}\u{88}\u{88}{a\u{e2}\u{88}\u{88}{A\u{e2}\u{88}\u{88}{a\u{e2}\u{88}\u{88}{A\u{e2}\u{88}\u{88}{a\u{e2}\u{88}\u{88}{A\u{e2}\u{88}\u{88}{a\u{e2}\u{88}\u{88}{A\u{e2}\u{88}\u{88}{a\u{e2}\u{88}\u{88}{A\u{e2}\u{88}\u{88}{a\u{e2}\u{88}\u{88}{A\u{e2}\u{88}\u{88}{a\u{e2}\u{88}\u{88}{A\u{e2}\u{88}\u{88}{a\u{e2}\u{88}\u{88}{A\u{e2}\u{88}\u{88}{a\u{e2}\u{88}\u{88}{A\u{e2}\u{88}\u{88}{a\u{e2}\u{88}\u{88}{A\u{e2}\u{88}\u{88}{a\u{e2}\u{88}\u{88}{A\u{e2}\u{88}\u{88}{a\u{e2}\u{88}\u{88}{A\u{e2}\u{88}\u{88}{a\u{e2}\u{88}\u{88}{Abcdefghijklmnopqrstuvwxyz_0123456789_ABCDEFGHIJKLMNOPQRSTUVWXYZ matches{*}}}}}}}}}}}}}}}}}}}}}}}}}}}}}}}}}") 3 160
-    ∷ refuses (bytes "A\u{e2}\u{88}\u{88}{a\u{e2}\u{88}\u{88}{A\u{e2}\u{88}\u{88}{a\u{e2}\u{88}\u{88}{A\u{e2}\u{88}\u{88}{a\u{e2}\u{88}\u{88}{A\u{e2}\u{88}\u{88}{a\u{e2}\u{88}\u{88}{A\u{e2}\u{88}\u{88}{a\u{e2}\u{88}\u{88}{A\u{e2}\u{88}\u{88}{a\u{e2}\u{88}\u{88}{A\u{e2}\u{88}\u{88}{a\u{e2}\u{88}\u{88}{A\u{e2}\u{88}\u{88}{a\u{e2}\u{88}\u{88}{A\u{e2}\u{88}\u{88}{a\u{e2}\u{88}\u{88}{A\u{e2}\u{88}\u{88}{a\u{e2}\u{88}\u{88}{A\u{e2}\u{88}\u{88}{a\u{e2}\u{88}\u{88}{A\u{e2}\u{88}\u{88}{a\u{e2}\u{88}\u{88}{A\u{e2}\u{88}\u{88}{a\u{e2}\u{88}\u{88}{A\u{e2}\u{88}\u{88}{a\u{e2}\u{88}\u{88}{A\u{e2}\u{88}\u{88}{a\u{e2}\u{88}\u{88}{A\u{e2}\u{88}\u{88}{a\u{e2}\u{88}\u{88}{B") 3 160
-    ∷ refuses (bytes "A\u{e2}\u{88}\u{88}{a\u{e2}\u{88}\u{88}{A\u{e2}\u{88}\u{88}{a\u{e2}\u{88}\u{88}{A\u{e2}\u{88}\u{88}{a\u{e2}\u{88}\u{88}{A\u{e2}\u{88}\u{88}{a\u{e2}\u{88}\u{88}{A\u{e2}\u{88}\u{88}{a\u{e2}\u{88}\u{88}{A\u{e2}\u{88}\u{88}{a\u{e2}\u{88}\u{88}{A\u{e2}\u{88}\u{88}{a\u{e2}\u{88}\u{88}{A\u{e2}\u{88}\u{88}{a\u{e2}\u{88}\u{88}{A\u{e2}\u{88}\u{88}{a\u{e2}\u{88}\u{88}{A\u{e2}\u{88}\u{88}{a\u{e2}\u{88}\u{88}{A\u{e2}\u{88}\u{88}{a\u{e2}\u{88}\u{88}{A\u{e2}\u{88}\u{88}{a\u{e2}\u{88}\u{88}{A\u{e2}\u{88}\u{88}{a\u{e2}\u{88}\u{88}{A\u{e2}\u{88}\u{88}{a\u{e2}\u{88}\u{88}{A\u{e2}\u{88}\u{88}{a\u{e2}\u{88}\u{88}{A\u{e2}\u{88}\u{88}{a\u{e2}\u{88}\u{88}{b") 2 160
+    ∷ accepts (bytes "Aâ\u{88}\u{88}{aâ\u{88}\u{88}{Aâ\u{88}\u{88}{aâ\u{88}\u{88}{Aâ\u{88}\u{88}{aâ\u{88}\u{88}{Aâ\u{88}\u{88}{aâ\u{88}\u{88}{Aâ\u{88}\u{88}{aâ\u{88}\u{88}{Aâ\u{88}\u{88}{aâ\u{88}\u{88}{Aâ\u{88}\u{88}{aâ\u{88}\u{88}{Aâ\u{88}\u{88}{aâ\u{88}\u{88}{Aâ\u{88}\u{88}{aâ\u{88}\u{88}{Aâ\u{88}\u{88}{aâ\u{88}\u{88}{Aâ\u{88}\u{88}{aâ\u{88}\u{88}{Aâ\u{88}\u{88}{aâ\u{88}\u{88}{Aâ\u{88}\u{88}{aâ\u{88}\u{88}{Aâ\u{88}\u{88}{aâ\u{88}\u{88}{Aâ\u{88}\u{88}{aâ\u{88}\u{88}{A matches{*}}}}}}}}}}}}}}}}}}}}}}}}}}}}}}}") (object 1 (bytes "A") [] (attribute 2 2 (bytes "a") (nested (object 3 (bytes "A") [] (attribute 4 2 (bytes "a") (nested (object 5 (bytes "A") [] (attribute 6 2 (bytes "a") (nested (object 7 (bytes "A") [] (attribute 8 2 (bytes "a") (nested (object 9 (bytes "A") [] (attribute 10 2 (bytes "a") (nested (object 11 (bytes "A") [] (attribute 12 2 (bytes "a") (nested (object 13 (bytes "A") [] (attribute 14 2 (bytes "a") (nested (object 15 (bytes "A") [] (attribute 16 2 (bytes "a") (nested (object 17 (bytes "A") [] (attribute 18 2 (bytes "a") (nested (object 19 (bytes "A") [] (attribute 20 2 (bytes "a") (nested (object 21 (bytes "A") [] (attribute 22 2 (bytes "a") (nested (object 23 (bytes "A") [] (attribute 24 2 (bytes "a") (nested (object 25 (bytes "A") [] (attribute 26 2 (bytes "a") (nested (object 27 (bytes "A") [] (attribute 28 2 (bytes "a") (nested (object 29 (bytes "A") [] (attribute 30 2 (bytes "a") (nested (object 31 (bytes "A") [] noMore)) noMore))) noMore))) noMore))) noMore))) noMore))) noMore))) noMore))) noMore))) noMore))) noMore))) noMore))) noMore))) noMore))) noMore))) noMore))
+    ∷ accepts (bytes "Aâ\u{88}\u{88}{aâ\u{88}\u{88}{Aâ\u{88}\u{88}{aâ\u{88}\u{88}{Aâ\u{88}\u{88}{aâ\u{88}\u{88}{Aâ\u{88}\u{88}{aâ\u{88}\u{88}{Aâ\u{88}\u{88}{aâ\u{88}\u{88}{Aâ\u{88}\u{88}{aâ\u{88}\u{88}{Aâ\u{88}\u{88}{aâ\u{88}\u{88}{Aâ\u{88}\u{88}{aâ\u{88}\u{88}{Aâ\u{88}\u{88}{aâ\u{88}\u{88}{Aâ\u{88}\u{88}{aâ\u{88}\u{88}{Aâ\u{88}\u{88}{aâ\u{88}\u{88}{Aâ\u{88}\u{88}{aâ\u{88}\u{88}{Aâ\u{88}\u{88}{aâ\u{88}\u{88}{Aâ\u{88}\u{88}{aâ\u{88}\u{88}{Aâ\u{88}\u{88}{aâ\u{88}\u{88}{A matches{a matches{5}}}}}}}}}}}}}}}}}}}}}}}}}}}}}}}}") (object 1 (bytes "A") [] (attribute 2 2 (bytes "a") (nested (object 3 (bytes "A") [] (attribute 4 2 (bytes "a") (nested (object 5 (bytes "A") [] (attribute 6 2 (bytes "a") (nested (object 7 (bytes "A") [] (attribute 8 2 (bytes "a") (nested (object 9 (bytes "A") [] (attribute 10 2 (bytes "a") (nested (object 11 (bytes "A") [] (attribute 12 2 (bytes "a") (nested (object 13 (bytes "A") [] (attribute 14 2 (bytes "a") (nested (object 15 (bytes "A") [] (attribute 16 2 (bytes "a") (nested (object 17 (bytes "A") [] (attribute 18 2 (bytes "a") (nested (object 19 (bytes "A") [] (attribute 20 2 (bytes "a") (nested (object 21 (bytes "A") [] (attribute 22 2 (bytes "a") (nested (object 23 (bytes "A") [] (attribute 24 2 (bytes "a") (nested (object 25 (bytes "A") [] (attribute 26 2 (bytes "a") (nested (object 27 (bytes "A") [] (attribute 28 2 (bytes "a") (nested (object 29 (bytes "A") [] (attribute 30 2 (bytes "a") (nested (object 31 (bytes "A") [] (attribute 32 2 (bytes "a") (leaf (integers (range 33 2_147_483_653 2_147_483_653 ∷ []))) noMore))) noMore))) noMore))) noMore))) noMore))) noMore))) noMore))) noMore))) noMore))) noMore))) noMore))) noMore))) noMore))) noMore))) noMore))) noMore))
+    ∷ refuses (bytes "Aâ\u{88}\u{88}{aâ\u{88}\u{88}{Aâ\u{88}\u{88}{aâ\u{88}\u{88}{Aâ\u{88}\u{88}{aâ\u{88}\u{88}{Aâ\u{88}\u{88}{aâ\u{88}\u{88}{Aâ\u{88}\u{88}{aâ\u{88}\u{88}{Aâ\u{88}\u{88}{aâ\u{88}\u{88}{Aâ\u{88}\u{88}{aâ\u{88}\u{88}{Aâ\u{88}\u{88}{aâ\u{88}\u{88}{Aâ\u{88}\u{88}{aâ\u{88}\u{88}{Aâ\u{88}\u{88}{aâ\u{88}\u{88}{Aâ\u{88}\u{88}{aâ\u{88}\u{88}{Aâ\u{88}\u{88}{aâ\u{88}\u{88}{Aâ\u{88}\u{88}{aâ\u{88}\u{88}{Aâ\u{88}\u{88}{aâ\u{88}\u{88}{Aâ\u{88}\u{88}{aâ\u{88}\u{88}{Aâ\u{88}\u{88}{aâ\u{88}\u{88}{A matches{*}}}}}}}}}}}}}}}}}}}}}}}}}}}}}}}}}") 3 160
+    ∷ accepts (bytes "Aâ\u{88}\u{88}{aâ\u{88}\u{88}{Aâ\u{88}\u{88}{aâ\u{88}\u{88}{Aâ\u{88}\u{88}{aâ\u{88}\u{88}{Aâ\u{88}\u{88}{aâ\u{88}\u{88}{Aâ\u{88}\u{88}{aâ\u{88}\u{88}{Aâ\u{88}\u{88}{aâ\u{88}\u{88}{Aâ\u{88}\u{88}{aâ\u{88}\u{88}{Aâ\u{88}\u{88}{aâ\u{88}\u{88}{Aâ\u{88}\u{88}{aâ\u{88}\u{88}{Aâ\u{88}\u{88}{aâ\u{88}\u{88}{Aâ\u{88}\u{88}{aâ\u{88}\u{88}{Aâ\u{88}\u{88}{aâ\u{88}\u{88}{Aâ\u{88}\u{88}{aâ\u{88}\u{88}{Aâ\u{88}\u{88}{aâ\u{88}\u{88}{Aâ\u{88}\u{88}{aâ\u{88}\u{88}{Aâ\u{88}\u{88}{aâ\u{88}\u{88}{5}}}}}}}}}}}}}}}}}}}}}}}}}}}}}}}}") (object 1 (bytes "A") [] (attribute 2 2 (bytes "a") (nested (object 3 (bytes "A") [] (attribute 4 2 (bytes "a") (nested (object 5 (bytes "A") [] (attribute 6 2 (bytes "a") (nested (object 7 (bytes "A") [] (attribute 8 2 (bytes "a") (nested (object 9 (bytes "A") [] (attribute 10 2 (bytes "a") (nested (object 11 (bytes "A") [] (attribute 12 2 (bytes "a") (nested (object 13 (bytes "A") [] (attribute 14 2 (bytes "a") (nested (object 15 (bytes "A") [] (attribute 16 2 (bytes "a") (nested (object 17 (bytes "A") [] (attribute 18 2 (bytes "a") (nested (object 19 (bytes "A") [] (attribute 20 2 (bytes "a") (nested (object 21 (bytes "A") [] (attribute 22 2 (bytes "a") (nested (object 23 (bytes "A") [] (attribute 24 2 (bytes "a") (nested (object 25 (bytes "A") [] (attribute 26 2 (bytes "a") (nested (object 27 (bytes "A") [] (attribute 28 2 (bytes "a") (nested (object 29 (bytes "A") [] (attribute 30 2 (bytes "a") (nested (object 31 (bytes "A") [] (attribute 32 2 (bytes "a") (leaf (integers (range 33 2_147_483_653 2_147_483_653 ∷ []))) noMore))) noMore))) noMore))) noMore))) noMore))) noMore))) noMore))) noMore))) noMore))) noMore))) noMore))) noMore))) noMore))) noMore))) noMore))) noMore))
+    ∷ accepts (bytes "Aâ\u{88}\u{88}{aâ\u{88}\u{88}{Aâ\u{88}\u{88}{aâ\u{88}\u{88}{Aâ\u{88}\u{88}{aâ\u{88}\u{88}{Aâ\u{88}\u{88}{aâ\u{88}\u{88}{Aâ\u{88}\u{88}{aâ\u{88}\u{88}{Aâ\u{88}\u{88}{aâ\u{88}\u{88}{Aâ\u{88}\u{88}{aâ\u{88}\u{88}{Aâ\u{88}\u{88}{aâ\u{88}\u{88}{Aâ\u{88}\u{88}{aâ\u{88}\u{88}{Aâ\u{88}\u{88}{aâ\u{88}\u{88}{Aâ\u{88}\u{88}{aâ\u{88}\u{88}{Aâ\u{88}\u{88}{aâ\u{88}\u{88}{Aâ\u{88}\u{88}{aâ\u{88}\u{88}{Aâ\u{88}\u{88}{aâ\u{88}\u{88}{Aâ\u{88}\u{88}{aâ\u{88}\u{88}{Aâ\u{88}\u{88}{aâ\u{88}\u{88}{True}}}}}}}}}}}}}}}}}}}}}}}}}}}}}}}}") (object 1 (bytes "A") [] (attribute 2 2 (bytes "a") (nested (object 3 (bytes "A") [] (attribute 4 2 (bytes "a") (nested (object 5 (bytes "A") [] (attribute 6 2 (bytes "a") (nested (object 7 (bytes "A") [] (attribute 8 2 (bytes "a") (nested (object 9 (bytes "A") [] (attribute 10 2 (bytes "a") (nested (object 11 (bytes "A") [] (attribute 12 2 (bytes "a") (nested (object 13 (bytes "A") [] (attribute 14 2 (bytes "a") (nested (object 15 (bytes "A") [] (attribute 16 2 (bytes "a") (nested (object 17 (bytes "A") [] (attribute 18 2 (bytes "a") (nested (object 19 (bytes "A") [] (attribute 20 2 (bytes "a") (nested (object 21 (bytes "A") [] (attribute 22 2 (bytes "a") (nested (object 23 (bytes "A") [] (attribute 24 2 (bytes "a") (nested (object 25 (bytes "A") [] (attribute 26 2 (bytes "a") (nested (object 27 (bytes "A") [] (attribute 28 2 (bytes "a") (nested (object 29 (bytes "A") [] (attribute 30 2 (bytes "a") (nested (object 31 (bytes "A") [] (attribute 32 2 (bytes "a") (leaf (booleans 33 1)) noMore))) noMore))) noMore))) noMore))) noMore))) noMore))) noMore))) noMore))) noMore))) noMore))) noMore))) noMore))) noMore))) noMore))) noMore))) noMore))
+    ∷ refuses (bytes "Aâ\u{88}\u{88}{aâ\u{88}\u{88}{Aâ\u{88}\u{88}{aâ\u{88}\u{88}{Aâ\u{88}\u{88}{aâ\u{88}\u{88}{Aâ\u{88}\u{88}{aâ\u{88}\u{88}{Aâ\u{88}\u{88}{aâ\u{88}\u{88}{Aâ\u{88}\u{88}{aâ\u{88}\u{88}{Aâ\u{88}\u{88}{aâ\u{88}\u{88}{Aâ\u{88}\u{88}{aâ\u{88}\u{88}{Aâ\u{88}\u{88}{aâ\u{88}\u{88}{Aâ\u{88}\u{88}{aâ\u{88}\u{88}{Aâ\u{88}\u{88}{aâ\u{88}\u{88}{Aâ\u{88}\u{88}{aâ\u{88}\u{88}{Aâ\u{88}\u{88}{aâ\u{88}\u{88}{Aâ\u{88}\u{88}{aâ\u{88}\u{88}{Aâ\u{88}\u{88}{aâ\u{88}\u{88}{Aâ\u{88}\u{88}{aâ\u{88}\u{88}{Abcdefghijklmnopqrstuvwxyz_0123456789_ABCDEFGHIJKLMNOPQRSTUVWXYZ matches{*}}}}}}}}}}}}}}}}}}}}}}}}}}}}}}}}}") 3 160
+    ∷ refuses (bytes "Aâ\u{88}\u{88}{aâ\u{88}\u{88}{Aâ\u{88}\u{88}{aâ\u{88}\u{88}{Aâ\u{88}\u{88}{aâ\u{88}\u{88}{Aâ\u{88}\u{88}{aâ\u{88}\u{88}{Aâ\u{88}\u{88}{aâ\u{88}\u{88}{Aâ\u{88}\u{88}{aâ\u{88}\u{88}{Aâ\u{88}\u{88}{aâ\u{88}\u{88}{Aâ\u{88}\u{88}{aâ\u{88}\u{88}{Aâ\u{88}\u{88}{aâ\u{88}\u{88}{Aâ\u{88}\u{88}{aâ\u{88}\u{88}{Aâ\u{88}\u{88}{aâ\u{88}\u{88}{Aâ\u{88}\u{88}{aâ\u{88}\u{88}{Aâ\u{88}\u{88}{aâ\u{88}\u{88}{Aâ\u{88}\u{88}{aâ\u{88}\u{88}{Aâ\u{88}\u{88}{aâ\u{88}\u{88}{Aâ\u{88}\u{88}{aâ\u{88}\u{88}{B") 3 160
+    ∷ refuses (bytes "Aâ\u{88}\u{88}{aâ\u{88}\u{88}{Aâ\u{88}\u{88}{aâ\u{88}\u{88}{Aâ\u{88}\u{88}{aâ\u{88}\u{88}{Aâ\u{88}\u{88}{aâ\u{88}\u{88}{Aâ\u{88}\u{88}{aâ\u{88}\u{88}{Aâ\u{88}\u{88}{aâ\u{88}\u{88}{Aâ\u{88}\u{88}{aâ\u{88}\u{88}{Aâ\u{88}\u{88}{aâ\u{88}\u{88}{Aâ\u{88}\u{88}{aâ\u{88}\u{88}{Aâ\u{88}\u{88}{aâ\u{88}\u{88}{Aâ\u{88}\u{88}{aâ\u{88}\u{88}{Aâ\u{88}\u{88}{aâ\u{88}\u{88}{Aâ\u{88}\u{88}{aâ\u{88}\u{88}{Aâ\u{88}\u{88}{aâ\u{88}\u{88}{Aâ\u{88}\u{88}{aâ\u{88}\u{88}{Aâ\u{88}\u{88}{aâ\u{88}\u{88}{b") 2 160
     -- texts over 16,384 bytes, and of that length
     ∷ refuses (replicate 16_385 32) 1 16_384
     ∷ refuses (replicate 16_385 0) 1 16_384

@@ -76,7 +76,7 @@ cases =
     ∷ refuses (bytes "<-- >") 2 5
     ∷ refuses (bytes "<a--\n=<5>>") 2 1
     ∷ refuses (bytes "<a--c=<5>>") 2 1
-    ∷ accepts (bytes "<a=--\u{ff}\0\r<5>>") (datum 0 none (member (bytes "a") (word 8 (bytes "5")) noMore))
+    ∷ accepts (bytes "<a=--ÿ\0\r<5>>") (datum 0 none (member (bytes "a") (word 8 (bytes "5")) noMore))
     ∷ accepts (bytes "<a=<--\n5>>") (datum 0 none (member (bytes "a") (word 3 (bytes "5")) noMore))
     ∷ accepts (bytes "<a=<5 --c\n>>") (datum 0 none (member (bytes "a") (word 3 (bytes "5")) noMore))
     ∷ refuses (bytes "<a=<5--c\n>>") 5 4
@@ -94,8 +94,8 @@ cases =
     ∷ refuses (bytes "<a=<5>\u{b}>") 2 6
     ∷ refuses (bytes "<a\0=<5>>") 2 2
     ∷ refuses (bytes "\u{c}<>") 2 0
-    ∷ refuses (bytes "<a=<5>>\u{ff}") 2 7
-    ∷ refuses (bytes "\u{ef}\u{bb}\u{bf}<>") 2 0
+    ∷ refuses (bytes "<a=<5>>ÿ") 2 7
+    ∷ refuses (bytes "ï»¿<>") 2 0
     -- TYPEs: behind `(` a run is a TYPE or unreadable
     ∷ refuses (bytes "(True)<>") 2 1
     ∷ refuses (bytes "(False)<>") 2 1
@@ -172,7 +172,7 @@ cases =
     ∷ refuses (bytes "<a=<\"\t\">>") 2 4
     ∷ refuses (bytes "<a=<\"\u{7f}\">>") 2 4
     ∷ refuses (bytes "<a=<\"\u{1f}\">>") 2 4
-    ∷ refuses (bytes "<a=<\"\u{e2}\u{88}\u{88}\">>") 2 4
+    ∷ refuses (bytes "<a=<\"â\u{88}\u{88}\">>") 2 4
     ∷ refuses (bytes "<a=<\"\n\">>") 2 4
     ∷ refuses (bytes "<a=<\"\0\">>") 2 4
     -- words that are good

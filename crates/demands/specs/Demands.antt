@@ -44,18 +44,18 @@ pub record Demand1 : Type 0 where
 -- under an object of a checked table gets the verdict of the meaning; each other answer is given exactly when its rule says so, in the order table, root, data text.
 pub record Demand2 : Type 0 where
   pub accepted : (text : List ℕ) (tree : Object) (end : ℕ) (little : Bool) (out : List ℕ)
-    → constraintOf text ≡ got tree end → length (tableOf little tree) ≤ length out
-    → (compileAnswer text little out .answer ≡ Compile.done (length (tableOf little tree)))
-    × (take (length (tableOf little tree)) (compileAnswer text little out .out) ≡ tableOf little tree)
-    × (drop (length (tableOf little tree)) (compileAnswer text little out .out) ≡ drop (length (tableOf little tree)) out)
+      → constraintOf text ≡ got tree end → length (tableOf little tree) ≤ length out
+      → (compileAnswer text little out .answer ≡ Compile.done (length (tableOf little tree)))
+      × (take (length (tableOf little tree)) (compileAnswer text little out .out) ≡ tableOf little tree)
+      × (drop (length (tableOf little tree)) (compileAnswer text little out .out) ≡ drop (length (tableOf little tree)) out)
   pub refused : (text : List ℕ) (r : Refusal) (little : Bool) (out : List ℕ) → constraintOf text ≡ Reading.refused r → compileAnswer text little out .answer ≡ Compile.refused r
   pub verdict : (table : List ℕ) (root : ℕ) (form : List ℕ) (o : Object) (d : Datum) (end : ℕ)
-    → tableFault table ≡ none → objectAt (imageOf table) root ≡ some o → datumOf form ≡ got d end → judgeAnswer table root form ≡ Judge.judged (judge o d)
+      → tableFault table ≡ none → objectAt (imageOf table) root ≡ some o → datumOf form ≡ got d end → judgeAnswer table root form ≡ Judge.judged (judge o d)
   pub no-table : (table : List ℕ) (root : ℕ) (form : List ℕ) (r : Refusal) → tableFault table ≡ some r → judgeAnswer table root form ≡ Judge.refused r
   pub no-object : (table : List ℕ) (root : ℕ) (form : List ℕ)
-    → tableFault table ≡ none → objectAt (imageOf table) root ≡ none → judgeAnswer table root form ≡ Judge.refused (refusal NotAnObject root)
+      → tableFault table ≡ none → objectAt (imageOf table) root ≡ none → judgeAnswer table root form ≡ Judge.refused (refusal NotAnObject root)
   pub no-datum : (table : List ℕ) (root : ℕ) (form : List ℕ) (o : Object) (r : Refusal)
-    → tableFault table ≡ none → objectAt (imageOf table) root ≡ some o → datumOf form ≡ Reading.refused r → judgeAnswer table root form ≡ Judge.refused r
+      → tableFault table ≡ none → objectAt (imageOf table) root ≡ some o → datumOf form ≡ Reading.refused r → judgeAnswer table root form ≡ Judge.refused r
 
 -- Demand 3: take any text that compiling accepts, into either order, then any list of merges, refused ones included. Judging any data by the carried table, lent alone, at record
 -- 1 + the sum gives what the two texts alone mean, with the record moved by the sum.

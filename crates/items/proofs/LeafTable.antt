@@ -445,7 +445,7 @@ cases =
     ∷ refuses (bytes "\"a\\\"b\"}") 1 0 2 0
     ∷ refuses (bytes "\"\t\"}") 1 0 2 0
     ∷ refuses (bytes "\"\u{7f}\"}") 1 0 2 0
-    ∷ refuses (bytes "\"\u{e2}\u{88}\u{88}\"}") 1 0 2 0
+    ∷ refuses (bytes "\"â\u{88}\u{88}\"}") 1 0 2 0
     ∷ refuses (bytes "\"a\", \"a}") 1 0 2 5
     ∷ reads (bytes "\"a b\"}") 1 0 (strings (item 1 (bytes "a b") ∷ [])) 5
     ∷ reads (bytes "\"--\"}") 1 0 (strings (item 1 (bytes "--") ∷ [])) 4
@@ -542,9 +542,9 @@ cases =
     ∷ reads (bytes "5 - 6}") 1 0 (integers (range 1 2_147_483_653 2_147_483_653 ∷ [])) 1
     ∷ refuses (bytes "\0}") 1 0 2 0
     ∷ refuses (bytes "\u{b}}") 1 0 2 0
-    ∷ refuses (bytes "\u{ff}}") 1 0 2 0
+    ∷ refuses (bytes "ÿ}") 1 0 2 0
     ∷ refuses (bytes "\u{7f}}") 1 0 2 0
-    ∷ refuses (bytes "\u{e2}\u{88}\u{88}}") 1 0 2 0
+    ∷ refuses (bytes "â\u{88}\u{88}}") 1 0 2 0
     ∷ refuses (bytes "<5>}") 1 0 2 0
     ∷ refuses (bytes ">5}") 1 0 2 0
     ∷ refuses (bytes "..}") 1 0 2 0

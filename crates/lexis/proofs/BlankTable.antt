@@ -94,16 +94,16 @@ cases =
     ∷ starts (bytes " --\t--\n --") 9 9
     ∷ starts (bytes " --\t--\n --") 10 10
     ∷ starts (bytes " --\t--\n --") 11 11
-    ∷ starts (bytes "--\0\u{ff}\"\\\nx") 0 7
-    ∷ starts (bytes "--\0\u{ff}\"\\\nx") 1 1
-    ∷ starts (bytes "--\0\u{ff}\"\\\nx") 2 2
-    ∷ starts (bytes "--\0\u{ff}\"\\\nx") 3 3
-    ∷ starts (bytes "--\0\u{ff}\"\\\nx") 4 4
-    ∷ starts (bytes "--\0\u{ff}\"\\\nx") 5 5
-    ∷ starts (bytes "--\0\u{ff}\"\\\nx") 6 7
-    ∷ starts (bytes "--\0\u{ff}\"\\\nx") 7 7
-    ∷ starts (bytes "--\0\u{ff}\"\\\nx") 8 8
-    ∷ starts (bytes "--\0\u{ff}\"\\\nx") 9 9
+    ∷ starts (bytes "--\0ÿ\"\\\nx") 0 7
+    ∷ starts (bytes "--\0ÿ\"\\\nx") 1 1
+    ∷ starts (bytes "--\0ÿ\"\\\nx") 2 2
+    ∷ starts (bytes "--\0ÿ\"\\\nx") 3 3
+    ∷ starts (bytes "--\0ÿ\"\\\nx") 4 4
+    ∷ starts (bytes "--\0ÿ\"\\\nx") 5 5
+    ∷ starts (bytes "--\0ÿ\"\\\nx") 6 7
+    ∷ starts (bytes "--\0ÿ\"\\\nx") 7 7
+    ∷ starts (bytes "--\0ÿ\"\\\nx") 8 8
+    ∷ starts (bytes "--\0ÿ\"\\\nx") 9 9
     ∷ starts (bytes "-- ") 0 3
     ∷ starts (bytes "-- ") 1 1
     ∷ starts (bytes "-- ") 2 3

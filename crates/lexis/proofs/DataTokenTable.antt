@@ -84,7 +84,7 @@ cases =
     ∷ dataReads (bytes "|") (token unreadable 0 0 ∷ [])
     ∷ dataReads (bytes "[") (token unreadable 0 0 ∷ [])
     ∷ dataReads (bytes "/") (token unreadable 0 0 ∷ [])
-    ∷ dataReads (bytes "\u{e2}\u{88}\u{88}") (token unreadable 0 0 ∷ [])
+    ∷ dataReads (bytes "â\u{88}\u{88}") (token unreadable 0 0 ∷ [])
     ∷ dataReads (bytes "\0") (token unreadable 0 0 ∷ [])
     ∷ dataReads (bytes "5\0") (token wordRun 0 1 ∷ token unreadable 1 1 ∷ [])
     ∷ dataReads (bytes "5\u{b}") (token wordRun 0 1 ∷ token unreadable 1 1 ∷ [])

@@ -3,7 +3,6 @@
 use crate::constraint::{self, Existence, Item, Leaf, LeafBody, Value};
 use crate::data::{self, Datum, LeafValue};
 use crate::faults::Fault;
-use std::fmt::Write;
 
 /// The longest text that is quoted; a longer one must be one byte many times.
 const LONGEST_QUOTED: usize = 4_000;
@@ -17,23 +16,8 @@ pub fn bytes(text: &[u8]) -> String {
         assert!(text.iter().all(|byte| *byte == text[0]), "a long text of many bytes");
         return format!("(replicate {} {})", number(text.len() as u64), text[0]);
     }
-    let mut out = String::from("(bytes \"");
-    for byte in text {
-        match byte {
-            0 => out.push_str("\\0"),
-            b'\t' => out.push_str("\\t"),
-            b'\r' => out.push_str("\\r"),
-            b'\n' => out.push_str("\\n"),
-            b'"' => out.push_str("\\\""),
-            b'\\' => out.push_str("\\\\"),
-            0x20..=0x7E => out.push(char::from(*byte)),
-            _ => {
-                let _ = write!(out, "\\u{{{byte:x}}}");
-            }
-        }
-    }
-    out.push_str("\")");
-    out
+    let quoted: String = text.iter().map(|byte| char::from(*byte)).collect();
+    format!("(bytes {quoted:?})")
 }
 
 /// A number, with `_` between each three digits from 10,000 on.
