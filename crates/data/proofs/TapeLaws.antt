@@ -58,13 +58,13 @@ Ended w (word p x) = Unit {0}
 Ended w (inside (block p t ms)) = TypeEnded t
 
 -- a row has nine numbers
-row-length : (w : Span) (c : Content) (next : ℕ) → length (rowOf w c next) ≡ rowSize
+pub row-length : (w : Span) (c : Content) (next : ℕ) → length (rowOf w c next) ≡ rowSize
 row-length w (string p x) next = refl
 row-length w (word p x) next = refl
 row-length w (inside (block p t ms)) next = refl
 
 -- a row's numbers 1, 2 and 8 are the name and the next row
-row-numbers : (w : Span) (c : Content) (next : ℕ) → (number (rowOf w c next) 1 ≡ w .start) × (number (rowOf w c next) 2 ≡ w .end) × (number (rowOf w c next) 8 ≡ next)
+pub row-numbers : (w : Span) (c : Content) (next : ℕ) → (number (rowOf w c next) 1 ≡ w .start) × (number (rowOf w c next) 2 ≡ w .end) × (number (rowOf w c next) 8 ≡ next)
 row-numbers w (string p x) next = (refl, refl, refl)
 row-numbers w (word p x) next = (refl, refl, refl)
 row-numbers w (inside (block p t ms)) next = (refl, refl, refl)

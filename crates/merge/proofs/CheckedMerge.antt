@@ -68,7 +68,7 @@ place-moved true p x next n m e h = h
 place-moved false p x next n m e h = le-leb (p + x + next) m (omega (arith, leb-true (x + next) n h))
 
 -- moving keeps the number of fields
-length-moved : (s : Shifts) (us : List Use) (fs : List ℕ) → ListN.length (movedFields s us fs) ≡ ListN.length fs
+pub length-moved : (s : Shifts) (us : List Use) (fs : List ℕ) → ListN.length (movedFields s us fs) ≡ ListN.length fs
 length-moved s [] fs = refl
 length-moved s (u ∷ us) [] = refl
 length-moved s (u ∷ us) (f ∷ fs) = ap suc (length-moved s us fs)
@@ -149,7 +149,7 @@ module _ (x y : Image) where
   }
 
   -- a record of the second table, moved, is good at its moved number
-  record-moved : (n : ℕ) (r : Record) → RecordGood y n r → RecordGood (merged x y) (ListN.length (x .records) + n) (moved (shiftsBy x) r)
+  pub record-moved : (n : ℕ) (r : Record) → RecordGood y n r → RecordGood (merged x y) (ListN.length (x .records) + n) (moved (shiftsBy x) r)
   unfolding obeys clean
   record-moved n r h = record {
     five = length-moved (shiftsBy x) (rowOf (r .kind) .uses) (r .fields) ∙ h .five;
