@@ -17,7 +17,8 @@ use Rattle.table.specs.Records.{Record, Image, count}
 use Rattle.table.specs.Rows.{Use, unnamed, place, length, link, integers, dates, high, rowOf}
 use Rattle.table.specs.Check.{kinds, kindAt, fieldRight, fieldsRight, isNought, restNought, obeys, clean}
 use Rattle.table.proofs.Checked.{RecordGood, RecordsGood, Checked}
-use Rattle.table.proofs.FieldLaws.{linked, link-right, length-kinds, numbered}
+use Rattle.table.proofs.FieldLaws.{linked, link-right}
+use Rattle.table.proofs.CheckLaws.{length-kinds, kind-inside}
 use Rattle.merge.specs.Merge.{Shifts, movedField, movedFields, moved, shiftsBy, merged}
 use Rattle.merge.proofs.MergeLaws.{count-merged, pool-merged, reads, fixed, steady, steady-row, Same, next-same}
 
@@ -180,6 +181,6 @@ checked-merge x y h k few small =
       some = omega (arith, count-merged x y, k .some);
       few = rw count-merged few;
       pool = rw pool-merged small;
-      root = unfold merged in kind-kept x y (x .root) (numbered x (x .root) (omega arith)) ∙ e;
+      root = unfold merged in kind-kept x y (x .root) (kind-inside x (x .root) (omega arith)) ∙ e;
       records = unfold merged in records-merged x y h k;
     }

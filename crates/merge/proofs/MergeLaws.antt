@@ -13,12 +13,14 @@ use borrow.Author.Tests.{leb-true}
 use Rattle.lexis.specs.Bytes.{within}
 use Rattle.lexis.proofs.Cases.{and-left, and-right}
 use Rattle.table.specs.Records.{Record, Image, count}
-use Rattle.table.specs.Rows.{Use, unnamed, place, length, link, integers, dates, high, Row, rows, rowOf}
+use Rattle.table.specs.Rows.{Use, unnamed, place, length, link, integers, dates, high, rowOf}
 use Rattle.table.specs.Check.{fieldRight, fieldsRight}
 use Rattle.table.specs.Trees.{name, step, partOf, partsOf, cells, cellsOf, reach, trees, treesOf, treeAt}
 use Rattle.table.proofs.Checked.{RecordsGood, Checked}
 use Rattle.table.proofs.TreeLaws.{movedTree, trees-moved, trees-append, length-cells, length-trees-of, cells-append, reach-moved, reach-append, reach-past}
-use Rattle.table.proofs.FieldLaws.{fields-obey, closed}
+use Rattle.table.proofs.UseLaws.{row-passes}
+use Rattle.table.proofs.FieldLaws.{closed}
+use Rattle.table.proofs.CheckLaws.{good-fields}
 use Rattle.merge.specs.Merge.{Shifts, movedField, movedFields, moved, shiftsBy, merged}
 
 -- the count of a merge is both counts less one
@@ -57,21 +59,9 @@ abbrev pub steady : List Use → Bool
 steady [] = true
 steady (u ∷ us) = cond (reads u) (fixed us) true && steady us
 
--- so it is in all of these kinds
-abbrev pub allSteady : List Row → Bool
-allSteady [] = true
-allSteady (r ∷ rs) = steady (r .uses) && allSteady rs
-
--- so it is then in the kind at any place
-steady-at : (rs : List Row) (d : Row) (k : ℕ) → allSteady rs ≡ true → steady (d .uses) ≡ true → steady (getD rs k d .uses) ≡ true
-steady-at [] d k h g = g
-steady-at (r ∷ rs) d zero h g = and-left (steady (r .uses)) (allSteady rs) h
-steady-at (r ∷ rs) d (suc k) h g = steady-at rs d k (and-right (steady (r .uses)) (allSteady rs) h) g
-
 -- no field that another reads is moved in any kind
 pub steady-row : (kind : ℕ) → steady (rowOf kind .uses) ≡ true
-unfolding rowOf
-steady-row kind = steady-at rows _ kind refl refl
+steady-row kind = row-passes (λ w. steady (w .uses)) refl kind
 
 -- a field that no merge moves is what it was
 next-fixed : (s : Shifts) (us : List Use) (xs : List ℕ) → fixed us ≡ true → getD (movedFields s us xs) 0 0 ≡ getD xs 0 0
@@ -159,7 +149,7 @@ module _ (x : Image) (Q : List ℕ) where
   cells-kept : (n : ℕ) (rs : List Record) → RecordsGood x n rs → cells (x .pool ++ Q) n rs ≡ cells (x .pool) n rs
   cells-kept n [] h = refl
   cells-kept n (r ∷ rs) h =
-      ap₂ _∷_ (λ j. record { kind = r .kind; flag = r .flag; parts = parts-kept n (rowOf (r .kind) .uses) (r .fields) (fields-obey x n r (h .0 .obeyed)) j })
+      ap₂ _∷_ (λ j. record { kind = r .kind; flag = r .flag; parts = parts-kept n (rowOf (r .kind) .uses) (r .fields) (good-fields (h .0)) j })
       (cells-kept (suc n) rs (h .1))
 
 -- the cells of a merge are the first table's and then the second's

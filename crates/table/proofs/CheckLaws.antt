@@ -87,7 +87,7 @@ goods-fit m i [] g few small = tt
 goods-fit m i (r ∷ rs) g few small = (good-fits (g .0) few small, goods-fit m (suc i) rs (g .1) few small)
 
 -- there are as many kinds as records
-length-kinds : (rs : List Record) → length (kinds rs) ≡ length rs
+pub length-kinds : (rs : List Record) → length (kinds rs) ≡ length rs
 length-kinds [] = refl
 length-kinds (r ∷ rs) = ap suc (length-kinds rs)
 

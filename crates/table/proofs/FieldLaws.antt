@@ -1,65 +1,31 @@
 -- What the rules of a record's fields say of its links, and that no step of a checked table leads out of it. Assumes nothing.
-use mathlib.Core.Path.{_≡_, refl, ap}
-use mathlib.Core.Bool.{true, _&&_, or-true}
+use mathlib.Core.Path.{_≡_}
+use mathlib.Core.Bool.{true, or-true}
 use mathlib.Core.List.{List, [], _∷_}
-use Prim.Native.Nat.{ℕ, zero, suc, _+_, _≤_, _<_}
+use Prim.Native.Nat.{ℕ, zero, suc, _+_, _≤_}
 use native.Mathlib.Omega.{arith}
-use lib.Dec.{eqb, ltb, eqb·suc-zero}
+use lib.Dec.{eqb}
 use lib.ListN.{getD}
 use lib.ListN
-use borrow.Author.Tests.{ltb-true, lt-ltb}
-use Rattle.lexis.specs.Bytes.{within, among}
+use borrow.Author.Tests.{lt-ltb}
 use Rattle.lexis.proofs.Cases.{and-left, and-right}
 use Rattle.table.specs.Records.{Record, Image, count}
 use Rattle.table.specs.Rows.{Use, unnamed, place, length, link, integers, dates, high, rowOf}
-use Rattle.table.specs.Check.{kinds, kindAt, fieldRight, fieldsRight, obeys}
+use Rattle.table.specs.Check.{fieldRight, fieldsRight}
 use Rattle.table.specs.Trees.{number, partOf, partsOf, cells, cellsOf, stepIn}
+use Rattle.table.proofs.UseLaws.{LinkRight, by-link}
+use Rattle.table.proofs.CheckLaws.{good-fields}
 use Rattle.table.proofs.Checked.{RecordsGood, Checked}
 use Rattle.table.proofs.TreeLaws.{Closed, length-cells}
 
--- there are as many kinds as records
-pub length-kinds : (rs : List Record) → ListN.length (kinds rs) ≡ ListN.length rs
-length-kinds [] = refl
-length-kinds (r ∷ rs) = ap suc (length-kinds rs)
-
--- a place with a number other than 0 lies within the list
-at-one : (ks : List ℕ) (n : ℕ) → 1 ≤ getD ks n 0 → n < ListN.length ks
-at-one [] n h = omega arith
-at-one (k ∷ ks) zero h = omega arith
-at-one (k ∷ ks) (suc n) h = let l = at-one ks n h in omega arith
-
--- a number with a kind other than 0 is below the count
-pub numbered : (m : Image) (n : ℕ) → 1 ≤ kindAt m n → n < count m
-numbered m n h = rw length-kinds at (at-one (0 ∷ kinds (m .records)) n h)
-
--- a link other than 0: above its own record, within the table, at a kind that it needs
-pub record Linked (m : Image) (n : ℕ) (ks : List ℕ) (x : ℕ) : Type 0 where
-  pub above : n < x
-  pub below : x < count m
-  pub kind : among (kindAt m x) ks ≡ true
-
--- the rule of a link other than 0 says so
-pub linked : (m : Image) (n : ℕ) (ks : List ℕ) (x next : ℕ) → fieldRight m n (link ks) (suc x) next ≡ true → Linked m n ks (suc x)
-unfolding fieldRight
-linked m n ks x next h =
-    let a = ltb n (suc x) in
-    let b = ltb (suc x) (count m) in
-    let k = among (kindAt m (suc x)) ks in
-    let g : (a && b && k) ≡ true = rw eqb·suc-zero at h in
-    let f = and-left (a && b) k g in
-    record { above = ltb-true _ _ (and-left a b f); below = ltb-true _ _ (and-right a b f); kind = and-right (a && b) k g }
+-- the rule of a link other than 0
+pub linked : (m : Image) (n : ℕ) (ks : List ℕ) (x next : ℕ) → fieldRight m n (link ks) (suc x) next ≡ true → LinkRight m n ks (suc x)
+linked m n ks x next h = by-link m n ks (suc x) next h (λ e. absurd (omega arith)) (λ l. l)
 
 -- and says no more
-pub link-right : (m : Image) (n : ℕ) (ks : List ℕ) (x next : ℕ) → Linked m n ks x → fieldRight m n (link ks) x next ≡ true
+pub link-right : (m : Image) (n : ℕ) (ks : List ℕ) (x next : ℕ) → LinkRight m n ks x → fieldRight m n (link ks) x next ≡ true
 unfolding fieldRight
 link-right m n ks x next h = rw (lt-ltb _ _ (h .above), lt-ltb _ _ (h .below), h .kind) (or-true (eqb x 0))
-
--- the fields of a record that obeys the rules obey theirs
-pub fields-obey : (m : Image) (n : ℕ) (r : Record) → obeys m n r ≡ true → fieldsRight m n (rowOf (r .kind) .uses) (r .fields) ≡ true
-unfolding obeys
-fields-obey m n r h =
-    let w = rowOf (r .kind) in
-    and-right (within 1 8 (r .kind) && within (w .least) (w .most) (r .flag)) (fieldsRight m n (w .uses) (r .fields)) h
 
 module _ (m : Image) where
   -- the step of a field leads to one of the records above its own
@@ -85,7 +51,7 @@ module _ (m : Image) where
   closed-cells : (n : ℕ) (rs : List Record) → n + ListN.length rs ≡ count m → RecordsGood m n rs → Closed (cells (m .pool) n rs)
   closed-cells n [] e h = tt
   closed-cells n (r ∷ rs) e h = (
-    λ i. rw (length-cells (m .pool) (suc n) rs) (steps-within n (ListN.length rs) (rowOf (r .kind) .uses) (r .fields) (omega arith) (fields-obey m n r (h .0 .obeyed)) i),
+    λ i. rw (length-cells (m .pool) (suc n) rs) (steps-within n (ListN.length rs) (rowOf (r .kind) .uses) (r .fields) (omega arith) (good-fields (h .0)) i),
     closed-cells (suc n) rs (omega arith) (h .1),
   )
 
