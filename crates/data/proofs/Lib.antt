@@ -7,3 +7,10 @@ pub mod Computes
 pub mod Examples
 pub mod DataTable
 pub mod MadeTable
+mod TokenSteps
+mod ContentSteps
+mod TapeStores
+mod NameSteps
+mod EarlierNames
+mod BlockSteps
+pub mod DataSteps

@@ -15,3 +15,9 @@ pub mod BlankTable
 pub mod RunTable
 pub mod TokenTable
 pub mod DataTokenTable
+pub mod ByteLaws
+pub mod RunSteps
+pub mod SpellingSteps
+pub mod WordSteps
+pub mod TokenSteps
+pub mod DataTokenSteps

@@ -6,3 +6,4 @@ pub mod Spelling
 pub mod Tokens
 pub mod DataTokens
 pub mod Order
+pub mod Postconditions

@@ -9,3 +9,9 @@ pub mod Examples
 pub mod StepTable
 pub mod MadeTable
 pub mod LimitTable
+pub mod WriteSteps
+pub mod MoveSteps
+pub mod CopySteps
+pub mod MovedLaws
+pub mod JoinSteps
+pub mod MergeSteps

@@ -1,3 +1,4 @@
 pub mod Merge
 pub mod Answer
 pub mod Lists
+pub mod Answers

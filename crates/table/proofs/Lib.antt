@@ -17,3 +17,12 @@ pub mod Examples
 pub mod NameTable
 pub mod MadeTable
 pub mod Hex
+pub mod Chains
+pub mod DateSteps
+pub mod OrderSteps
+pub mod RecordSteps
+pub mod FrameLaws
+pub mod RuleSteps
+pub mod KindSteps
+pub mod CheckSteps
+pub mod NameSteps

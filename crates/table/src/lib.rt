@@ -1,1 +1,7 @@
-// Tables: records, byte order, the check, names and trees. The definitions stand in specs/.
+// Tables: byte order, records, the check and names. The definitions stand in specs/.
+pub mod check;
+mod dates;
+pub mod names;
+pub mod order;
+pub mod records;
+mod rules;

@@ -9,3 +9,10 @@ pub mod Examples
 pub mod WordTable
 pub mod NumberTable
 pub mod PatternTable
+mod CalendarSteps
+mod IntegerSteps
+mod ShapeSteps
+mod DateSteps
+mod TimeSteps
+mod WordSteps
+mod PatternSteps

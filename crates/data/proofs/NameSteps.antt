@@ -1,0 +1,270 @@
+-- What a step of the search for a repeated name and of the readers of names shows; and the names of a block's earlier rows. Assumes nothing.
+use mathlib.Core.Path.{_≡_, refl, sym, ap, _∙_}
+use mathlib.Core.Bool.{Bool, true, false, cond, _||_}
+use mathlib.Core.List.{List, [], _∷_}
+use Prim.Native.Nat.{ℕ, _+_, _*_, _-_, _≤_, _<_}
+use native.Mathlib.Omega.{arith}
+use lib.Dec.{ltb}
+use lib.ListN.{length, getD, drop, drop-of-length-le}
+use lib.Seq.{drop-cons, drop-drop, getD-take, getD-drop}
+use borrow.Author.Tests.{eq-eqb, ne-eqb, lt-ltb, le-ltb, ltb-true, ltb-false}
+use Rattle.lexis.specs.Runs.{byteAt, part, same, listed}
+use Rattle.lexis.specs.Tokens.{spelling}
+use Rattle.lexis.specs.DataTokens.{equals}
+use Rattle.lexis.specs.declared.Token.{Token}
+use Rattle.refusals.specs.Limits.{nameLimit}
+use Rattle.refusals.specs.Reading.{refused, got, andThen}
+use Rattle.refusals.specs.Refusals.{refusal}
+use Rattle.refusals.specs.declared.Cause.the-variants.{TooLong, RepeatedName}
+use Rattle.refusals.specs.declared.Refusal.{Refusal}
+use Rattle.data.specs.Placed.{span}
+use Rattle.data.specs.Data.{expect, nameFrom, spanOf}
+use Rattle.data.specs.Tape.{rowSize}
+use Rattle.data.specs.Answers.{ExpectIs, spanReading, SpanPast, SpanIs, ContentIs, contentOf, Inside, letterAt, numberAt, earlier, Chain, Earlier, memberOf}
+use Rattle.data.specs.declared.tokens.Expected.{Expected}
+use Rattle.data.specs.declared.tokens.Expected.the-variants.{Fault, Taken}
+use Rattle.data.specs.declared.tokens.SpanRead.{SpanRead}
+use Rattle.data.specs.declared.tokens.SpanRead.the-variants.{Bad, Spans}
+use Rattle.data.specs.declared.contents.ContentStart.{ContentStart}
+use Rattle.data.specs.declared.contents.ContentStart.the-variants.{Faulty}
+use Rattle.data.proofs.TokenSteps.{part-length, expected-fault, expected-token, expected-past}
+use Rattle.data.proofs.ContentSteps.{content-lower}
+
+-- one more than a list's first number, 0 where it has none
+abbrev first : List ℕ → ℕ
+first [] = 0
+first (x ∷ xs) = x + 1
+
+-- a letter of a name, and none at its end
+pub letter-there : (s : List ℕ) (at end b : ℕ) → at < end → b ≡ byteAt s at → b + 1 ≡ letterAt s at end
+letter-there s at end b h e = rw (lt-ltb at end h, e)
+
+pub letter-none : (s : List ℕ) (at end : ℕ) → end ≤ at → 0 ≡ letterAt s at end
+letter-none s at end h = rw (le-ltb at end h)
+
+-- a letter of a name is the first number of what is left of it
+module _ (s : List ℕ) (start end i : ℕ) (inside : end ≤ length s) (le : start + i ≤ end) where
+  long : length (part s start end) ≡ end - start
+  long = part-length s start end (omega arith) inside
+
+  letter-first : letterAt s (start + i) end ≡ first (drop i (part s start end))
+  letter-first = by (ltb (start + i) end) refl
+    where
+      by : (b : Bool) → ltb (start + i) end ≡ b → cond b (byteAt s (start + i) + 1) 0 ≡ first (drop i (part s start end))
+      by true e =
+          let l : start + i < end = ltb-true (start + i) end e in
+          let n = long in
+          let h : i < length (part s start end) = omega arith in
+          let g : getD (part s start end) i 0 ≡ byteAt s (start + i) = getD-take (end - start) (drop start s) i 0 (omega arith) ∙ getD-drop start s i 0 in
+          rw (drop-cons (part s start end) i 0 h, g)
+      by false e =
+          let l : end ≤ start + i = ltb-false (start + i) end e in
+          let n = long in
+          let h : length (part s start end) ≤ i = omega arith in
+          rw (drop-of-length-le (part s start end) h)
+
+-- a letter that is not 0 stands in the name
+letter-inside : (s : List ℕ) (at end x : ℕ) → x ≡ letterAt s at end → (x ≡ 0 → ⊥) → at < end
+letter-inside s at end x e n = by (ltb at end) refl
+  where
+    by : (b : Bool) → ltb at end ≡ b → at < end
+    by true f = ltb-true at end f
+    by false f = absurd (n (e ∙ ap (λ b. cond b (byteAt s at + 1) 0) f))
+
+-- two names, by their letters
+first-differ : (xs ys : List ℕ) → (first xs ≡ first ys → ⊥) → same xs ys ≡ false
+unfolding same
+first-differ [] [] n = absurd (n refl)
+first-differ [] (y ∷ ys) n = refl
+first-differ (x ∷ xs) [] n = refl
+first-differ (x ∷ xs) (y ∷ ys) n = rw (ne-eqb x y (λ e. n (ap (λ k. k + 1) e)))
+
+first-end : (xs ys : List ℕ) → first xs ≡ first ys → first xs ≡ 0 → same xs ys ≡ true
+unfolding same
+first-end [] [] e z = refl
+first-end [] (y ∷ ys) e z = absurd (omega arith)
+first-end (x ∷ xs) ys e z = absurd (omega arith)
+
+first-on : (xs ys : List ℕ) → first xs ≡ first ys → (first xs ≡ 0 → ⊥) → same xs ys ≡ same (drop 1 xs) (drop 1 ys)
+unfolding same
+first-on [] ys e n = absurd (n refl)
+first-on (x ∷ xs) [] e n = absurd (omega arith)
+first-on (x ∷ xs) (y ∷ ys) e n = rw (eq-eqb x y (omega arith))
+
+-- the rows from n on lead up to the last
+chain-low : (s tape : List ℕ) (n end : ℕ) (ws : List (List ℕ)) → Chain s tape n end ws → n ≤ end
+unfolding Chain
+chain-low s tape n end [] h = omega arith
+chain-low s tape n end (w ∷ ws) h = omega arith
+
+-- at row n of the search for w
+pub record InNames (s tape : List ℕ) (low end start stop n : ℕ) (again : Bool) : Type 0 where
+  pub names : List (List ℕ)
+  pub chain : Chain s tape n end names
+  pub least : n ≤ end
+  pub room : rowSize * end ≤ length tape
+  pub span : Inside s start stop
+  pub not-yet : again ≡ false
+  pub is : listed (part s start stop) names ≡ listed (part s start stop) (earlier s tape low end)
+
+-- at letter i of the name of row n, which stands from `from` up to `to`
+pub record InLetters (s tape : List ℕ) (low end start stop n from to i : ℕ) (again : Bool) : Type 0 where
+  pub names : List (List ℕ)
+  pub chain : Chain s tape (numberAt tape n 8) end names
+  pub up : n < numberAt tape n 8
+  pub most : numberAt tape n 8 ≤ end
+  pub room : rowSize * end ≤ length tape
+  pub span : Inside s start stop
+  pub not-yet : again ≡ false
+  pub here : start + i ≤ stop
+  pub there : from + i ≤ to
+  pub inside : to ≤ length s
+  pub is : (same (drop i (part s start stop)) (drop i (part s from to)) || listed (part s start stop) names) ≡ listed (part s start stop) (earlier s tape low end)
+
+pub names-start : (s tape : List ℕ) (low end start stop : ℕ) → Earlier s tape low end → Inside s start stop → InNames s tape low end start stop low false
+names-start s tape low end start stop e h = record {
+  names = earlier s tape low end;
+  chain = e .chain;
+  least = chain-low s tape low end (earlier s tape low end) (e .chain);
+  room = e .room;
+  span = h;
+  not-yet = refl;
+  is = refl;
+}
+
+module _ (s tape : List ℕ) (low end start stop n : ℕ) (again : Bool) (inv : InNames s tape low end start stop n again) where
+  none-left : (ws : List (List ℕ)) → Chain s tape n end ws → end ≤ n → listed (part s start stop) ws ≡ false
+  unfolding Chain listed
+  none-left [] h l = refl
+  none-left (w ∷ ws) h l = absurd (omega arith)
+
+  pub names-end : end ≤ n → again ≡ listed (part s start stop) (earlier s tape low end)
+  names-end l = inv .not-yet ∙ sym (none-left (inv .names) (inv .chain) l) ∙ inv .is
+
+  -- the row's name, and those behind it
+  enter : (ws : List (List ℕ)) → Chain s tape n end ws → n < end → listed (part s start stop) ws ≡ listed (part s start stop) (earlier s tape low end) → InLetters s tape low end start stop n (numberAt tape n 1) (numberAt tape n 2) 0 again
+  unfolding Chain listed
+  enter [] h l e = absurd (omega arith)
+  enter (w ∷ ws) h l e =
+      let r = h .0 in
+      let g = inv .span in
+      record {
+        names = ws;
+        chain = h .1;
+        up = r .up;
+        most = r .most;
+        room = inv .room;
+        span = g;
+        not-yet = inv .not-yet;
+        here = omega arith;
+        there = omega arith;
+        inside = r .inside;
+        is = rw (r .is) e;
+      }
+
+  pub names-in : (from to : ℕ) → n < end → from ≡ numberAt tape n 1 → to ≡ numberAt tape n 2 → InLetters s tape low end start stop n from to 0 again
+  names-in from to l e f = rw (e, f) (enter (inv .names) (inv .chain) l (inv .is))
+
+module _ (s tape : List ℕ) (low end start stop n from to i : ℕ) (again : Bool) (inv : InLetters s tape low end start stop n from to i again) (x y : ℕ) (ex : x ≡ letterAt s (start + i) stop) (ey : y ≡ letterAt s (from + i) to) where
+  here : x ≡ first (drop i (part s start stop))
+  here = let g = inv .span in ex ∙ letter-first s start stop i (g .inside) (inv .here)
+
+  there : y ≡ first (drop i (part s from to))
+  there = ey ∙ letter-first s from to i (inv .inside) (inv .there)
+
+  differ : (x ≡ y → ⊥) → same (drop i (part s start stop)) (drop i (part s from to)) ≡ false
+  differ d = first-differ _ _ (λ e. d (here ∙ e ∙ sym there))
+
+  pub letters-differ : (l : ℕ) → (x ≡ y → ⊥) → l ≡ numberAt tape n 8 → InNames s tape low end start stop l again
+  letters-differ l d e = rw e (record {
+    names = inv .names;
+    chain = inv .chain;
+    least = inv .most;
+    room = inv .room;
+    span = inv .span;
+    not-yet = inv .not-yet;
+    is = rw (differ d) at (inv .is);
+  })
+
+  pub names-less : (l : ℕ) → l ≡ numberAt tape n 8 → end - l < end - n
+  names-less l e = omega arith
+
+  pub letters-end : x ≡ y → x ≡ 0 → true ≡ listed (part s start stop) (earlier s tape low end)
+  letters-end e z = rw (first-end (drop i (part s start stop)) (drop i (part s from to)) (sym here ∙ e ∙ there) (sym here ∙ z)) at (inv .is)
+
+  module _ (e : x ≡ y) (z : x ≡ 0 → ⊥) where
+    here-more : start + i < stop
+    here-more = letter-inside s (start + i) stop x ex z
+
+    there-more : from + i < to
+    there-more = letter-inside s (from + i) to y ey (λ f. z (e ∙ f))
+
+    pub letters-on : InLetters s tape low end start stop n from to (i + 1) again
+    letters-on =
+        let a = here-more in
+        let b = there-more in
+        let f = first-on (drop i (part s start stop)) (drop i (part s from to)) (sym here ∙ e ∙ there) (λ g. z (here ∙ g)) in
+        record {
+          names = inv .names;
+          chain = inv .chain;
+          up = inv .up;
+          most = inv .most;
+          room = inv .room;
+          span = inv .span;
+          not-yet = inv .not-yet;
+          here = omega arith;
+          there = omega arith;
+          inside = inv .inside;
+          is = rw (f, drop-drop 1 i (part s start stop), drop-drop 1 i (part s from to)) at (inv .is);
+        }
+
+    pub letters-less : stop - (start + (i + 1)) < stop - (start + i)
+    letters-less = let a = here-more in omega arith
+
+-- a name and its `=`
+module _ (s : List ℕ) (seen : List (List ℕ)) (t : Token) (inside : Inside s (t .start) (t .end)) where
+  many : length (spelling s t) ≡ t .end - t .start
+  many = part-length s (t .start) (t .end) (omega arith) (omega arith)
+
+  pub name-long : nameLimit < t .end - t .start → (x : Refusal) → x ≡ refusal TooLong (t .start) → SpanIs s (t .start) (nameFrom s seen t) (Bad x)
+  unfolding nameFrom
+  name-long l x e = record { is = rw (many, lt-ltb nameLimit (t .end - t .start) l, e); past = tt }
+
+  module _ (l : t .end - t .start ≤ nameLimit) (again : Bool) (is : again ≡ listed (part s (t .start) (t .end)) seen) where
+    pub name-again : again ≡ true → SpanIs s (t .start) (nameFrom s seen t) (Bad (refusal RepeatedName (t .start)))
+    unfolding nameFrom
+    name-again e = record { is = rw (many, le-ltb nameLimit (t .end - t .start) l, ← is, e); past = tt }
+
+    module _ (new : again ≡ false) (r : Expected) (d : ExpectIs s equals (t .end) r) where
+      named : andThen (expect s equals (t .end)) (λ u p. got (spanOf t) p) ≡ nameFrom s seen t
+      unfolding nameFrom
+      named = rw (many, le-ltb nameLimit (t .end - t .start) l, ← is, new)
+
+      pub name-unclosed : (x : Refusal) → r ≡ Fault x → SpanIs s (t .start) (nameFrom s seen t) (Bad x)
+      name-unclosed x g = record { is = rw (expected-fault d x g) at named; past = tt }
+
+      pub name-closed : (u : Token) → r ≡ Taken u → SpanIs s (t .start) (nameFrom s seen t) (Spans (t .start) (t .end) (u .end))
+      name-closed u g =
+          let p = expected-past d u g in
+          let b : u .start < u .end = p .3 (omega arith) in
+          record { is = rw (expected-token d u g) at named; past = (omega arith, inside .order, omega arith, omega arith) }
+
+-- a member up to its leaf's end or its block's opening
+module _ (s : List ℕ) (seen : List (List ℕ)) (t : Token) (r : SpanRead) (d : SpanIs s (t .start) (nameFrom s seen t) r) where
+  pub member-bad : (x : Refusal) → r ≡ Bad x → ContentIs s (t .start + 2) (memberOf s seen t) (Faulty x)
+  unfolding memberOf
+  member-bad x g = let h : nameFrom s seen t ≡ refused x = sym (d .is) ∙ ap spanReading g in record { is = λ down. rw h; past = tt }
+
+  module _ (start end next : ℕ) (g : r ≡ Spans start end next) where
+    named-past : SpanPast s (t .start) (Spans start end next)
+    named-past = rw g at (d .past)
+
+    pub member-next : next ≤ length s
+    member-next = let p = named-past in omega arith
+
+    pub member-content : (o : ContentStart) → ContentIs s next (contentOf s next) o → ContentIs s (t .start + 2) (memberOf s seen t) o
+    unfolding memberOf contentOf
+    member-content o k =
+        let p = named-past in
+        let h : nameFrom s seen t ≡ got (span start end) next = sym (d .is) ∙ ap spanReading g in
+        record { is = λ down. rw h (k .is down); past = content-lower s (t .start + 2) next (omega arith) o (k .past) }

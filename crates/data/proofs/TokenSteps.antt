@@ -1,0 +1,167 @@
+-- What a step of the readers of tokens, types and openings shows: a law for each way out. Assumes nothing.
+use mathlib.Core.Path.{_≡_, sym, ap, _∙_}
+use mathlib.Core.Option.{some}
+use mathlib.Core.List.{List}
+use Prim.Native.Nat.{ℕ, _-_, _≤_, _<_}
+use native.Mathlib.Omega.{arith}
+use lib.ListN.{length, length-take, length-drop}
+use borrow.Author.Tests.{eq-eqb, ne-eqb, lt-ltb, le-ltb}
+use Rattle.lexis.specs.Runs.{part}
+use Rattle.lexis.specs.Spelling.{less}
+use Rattle.lexis.specs.Tokens.{typeName}
+use Rattle.lexis.specs.DataTokens.{dataTokenAt, typeTokenAt, openRound, closeRound}
+use Rattle.lexis.specs.declared.Token.{Token}
+use Rattle.refusals.specs.Limits.{nameLimit, levelLimit}
+use Rattle.refusals.specs.Reading.{refused, got, andThen}
+use Rattle.refusals.specs.Refusals.{refusal}
+use Rattle.refusals.specs.Steps.{syntaxCause}
+use Rattle.refusals.specs.declared.Cause.{Cause}
+use Rattle.refusals.specs.declared.Cause.the-variants.{Unreadable, CannotFollow, EndsEarly, TooLong}
+use Rattle.refusals.specs.declared.Refusal.{Refusal}
+use Rattle.data.specs.Placed.{span}
+use Rattle.data.specs.Data.{expect, typeFrom, typed, spanOf, blockFrom, outermost}
+use Rattle.lexis.specs.Postconditions.{TokenIs}
+use Rattle.data.specs.Answers.{Before, causeOf, tokenReading, TokenPast, ExpectIs, spanReading, SpanPast, SpanIs, typeSpan, OpenPast, OpeningIs, OutermostIs, typedLess, typedFrom}
+use Rattle.data.specs.declared.tokens.Expected.{Expected}
+use Rattle.data.specs.declared.tokens.Expected.the-variants.{Fault, Taken}
+use Rattle.data.specs.declared.tokens.SpanRead.{SpanRead}
+use Rattle.data.specs.declared.tokens.SpanRead.the-variants.{Bad, Spans}
+use Rattle.data.specs.declared.tokens.Opening.{Opening}
+use Rattle.data.specs.declared.tokens.Opening.the-variants.{Shut, Opens}
+
+-- the cause of a fault, by the token's sort
+module _ (sort : ℕ) where
+  pub cause-end : sort ≡ 0 → EndsEarly ≡ causeOf sort
+  cause-end e = rw (eq-eqb sort 0 e)
+
+  pub cause-unreadable : (sort ≡ 0 → ⊥) → sort ≡ 1 → Unreadable ≡ causeOf sort
+  cause-unreadable n e = rw (ne-eqb sort 0 n, eq-eqb sort 1 e)
+
+  pub cause-follow : (sort ≡ 0 → ⊥) → (sort ≡ 1 → ⊥) → CannotFollow ≡ causeOf sort
+  cause-follow n m = rw (ne-eqb sort 0 n, ne-eqb sort 1 m)
+
+-- the refusal of a token with that cause
+pub fault-is : (t : Token) (k : Cause) → k ≡ causeOf (t .sort) → refusal k (t .start) ≡ refusal (syntaxCause t) (t .start)
+fault-is t k e = ap (λ x. refusal x (t .start)) e
+
+-- a token's bytes are as many as its places say
+pub part-length : (s : List ℕ) (start end : ℕ) → start ≤ end → end ≤ length s → length (part s start end) ≡ end - start
+part-length s start end o i = simp (length-take, length-drop) (omega arith)
+
+module _ (s : List ℕ) (sort from : ℕ) (t : Token) (tok : TokenIs s from (dataTokenAt s from) t) where
+  pub expect-taken : t .sort ≡ sort → ExpectIs s sort from (Taken t)
+  unfolding expect
+  expect-taken e = record {
+    is = rw (← tok .is, eq-eqb (t .sort) sort e);
+    past = (tok .start, tok .order, tok .inside, λ k. tok .strict (omega arith));
+  }
+
+  pub expect-fault : (t .sort ≡ sort → ⊥) → (x : Refusal) → x ≡ refusal (syntaxCause t) (t .start) → ExpectIs s sort from (Fault x)
+  unfolding expect
+  expect-fault n x e = record { is = rw (← tok .is, ne-eqb (t .sort) sort n, e); past = tt }
+
+-- what an expected token's answer says of the definition
+module _ {s : List ℕ} {sort from : ℕ} {r : Expected} (e : ExpectIs s sort from r) where
+  pub expected-fault : (x : Refusal) → r ≡ Fault x → expect s sort from ≡ refused x
+  expected-fault x g = sym (e .is) ∙ ap tokenReading g
+
+  pub expected-token : (t : Token) → r ≡ Taken t → expect s sort from ≡ got t (t .end)
+  expected-token t g = sym (e .is) ∙ ap tokenReading g
+
+  pub expected-past : (t : Token) → r ≡ Taken t → TokenPast s sort from (Taken t)
+  expected-past t g = rw g at (e .past)
+
+-- a type
+module _ (s : List ℕ) (from : ℕ) (t : Token) (tok : TokenIs s from (typeTokenAt s from) t) where
+  pub type-fault : (t .sort ≡ typeName → ⊥) → (x : Refusal) → x ≡ refusal (syntaxCause t) (t .start) → SpanIs s from (typeFrom s from) (Bad x)
+  unfolding typeFrom
+  type-fault n x e = record { is = rw (← tok .is, ne-eqb (t .sort) typeName n, e); past = tt }
+
+  module _ (k : t .sort ≡ typeName) where
+    pub type-long : nameLimit < t .end - t .start → (x : Refusal) → x ≡ refusal TooLong (t .start) → SpanIs s from (typeFrom s from) (Bad x)
+    unfolding typeFrom
+    type-long l x e =
+        let n = part-length s (t .start) (t .end) (tok .order) (tok .inside) in
+        record { is = rw (← tok .is, eq-eqb (t .sort) typeName k, n, lt-ltb nameLimit (t .end - t .start) l, e); past = tt }
+
+    module _ (l : t .end - t .start ≤ nameLimit) (r : Expected) (e : ExpectIs s closeRound (t .end) r) where
+      short : andThen (expect s closeRound (t .end)) (λ u p. got (spanOf t) p) ≡ typeFrom s from
+      unfolding typeFrom
+      short =
+          let n = part-length s (t .start) (t .end) (tok .order) (tok .inside) in
+          rw (← tok .is, eq-eqb (t .sort) typeName k, n, le-ltb nameLimit (t .end - t .start) l)
+
+      pub type-unclosed : (x : Refusal) → r ≡ Fault x → SpanIs s from (typeFrom s from) (Bad x)
+      type-unclosed x g = record { is = rw (expected-fault e x g) at short; past = tt }
+
+      pub type-closed : (u : Token) → r ≡ Taken u → SpanIs s from (typeFrom s from) (Spans (t .start) (t .end) (u .end))
+      type-closed u g =
+          let p = expected-past e u g in
+          let a : t .start < t .end = tok .strict (omega arith) in
+          let b : u .start < u .end = p .3 (omega arith) in
+          record { is = rw (expected-token e u g) at short; past = (tok .start, a, omega arith, omega arith) }
+
+-- a type by its places
+pub type-span : (start end : ℕ) → start < end → typeSpan start end ≡ some (span start end)
+type-span start end h = rw (ne-eqb end 0 (λ e. omega arith))
+
+-- the `<` of a block with a type
+module _ (s : List ℕ) (start end from : ℕ) (r : Expected) (e : ExpectIs s less from r) where
+  pub less-missing : (x : Refusal) → r ≡ Fault x → OpeningIs s from (typedLess s start end from) (Shut x)
+  unfolding typedLess typed
+  less-missing x g = record { is = λ down. rw (expected-fault e x g); past = tt }
+
+  pub less-there : from ≤ length s → Before start end from → (u : Token) → r ≡ Taken u → OpeningIs s from (typedLess s start end from) (Opens (u .start) start end (u .end))
+  unfolding typedLess typed
+  less-there i h u g =
+      let p = expected-past e u g in
+      let b : u .start < u .end = p .3 (omega arith) in
+      record { is = λ down. rw (expected-token e u g, type-span start end (h .order)); past = (omega arith, b, omega arith, omega arith, omega arith) }
+
+-- a type and the `<` behind it
+module _ (s : List ℕ) (from : ℕ) (r : SpanRead) (e : SpanIs s from (typeFrom s from) r) where
+  pub typed-bad : (x : Refusal) → r ≡ Bad x → OpeningIs s from (typedFrom s from) (Shut x)
+  unfolding typedFrom
+  typed-bad x g = let h : typeFrom s from ≡ refused x = sym (e .is) ∙ ap spanReading g in record { is = λ down. rw h; past = tt }
+
+  module _ (start end next : ℕ) (g : r ≡ Spans start end next) where
+    past : SpanPast s from (Spans start end next)
+    past = rw g at (e .past)
+
+    pub typed-next : next ≤ length s
+    typed-next = let p = past in omega arith
+
+    pub typed-order : Before start end next
+    typed-order = let p = past in record { order = omega arith; ahead = omega arith }
+
+    pub typed-on : (o : Opening) → OpeningIs s next (typedLess s start end next) o → OpeningIs s from (typedFrom s from) o
+    unfolding typedFrom typedLess
+    typed-on o d =
+        let p = past in
+        let h : typeFrom s from ≡ got (span start end) next = sym (e .is) ∙ ap spanReading g in
+        record { is = λ down. rw h (d .is down); past = lower o (d .past) }
+      where
+        lower : (o : Opening) → OpenPast s next o → OpenPast s from o
+        lower (Shut x) h = tt
+        lower (Opens place a b q) h = let p = past in omega arith
+
+-- the outermost block's opening
+module _ (s : List ℕ) (t : Token) (tok : TokenIs s 0 (dataTokenAt s 0) t) where
+  pub outermost-typed : t .sort ≡ openRound → (o : Opening) → OpeningIs s (t .end) (typedFrom s (t .end)) o → OutermostIs s o
+  unfolding outermost typedFrom
+  outermost-typed k o d = record { is = rw (← tok .is, eq-eqb (t .sort) openRound k) (d .is (blockFrom s levelLimit)); past = lower o (d .past) }
+    where
+      lower : (o : Opening) → OpenPast s (t .end) o → OpenPast s 0 o
+      lower (Shut x) h = tt
+      lower (Opens place a b q) h = omega arith
+
+  module _ (n : t .sort ≡ openRound → ⊥) where
+    pub outermost-opens : t .sort ≡ less → OutermostIs s (Opens (t .start) 0 0 (t .end))
+    unfolding outermost expect
+    outermost-opens k =
+        let b : t .start < t .end = tok .strict (omega arith) in
+        record { is = rw (← tok .is, ne-eqb (t .sort) openRound n, eq-eqb (t .sort) less k); past = (omega arith, b, tok .inside, omega arith, omega arith) }
+
+    pub outermost-shut : (t .sort ≡ less → ⊥) → (x : Refusal) → x ≡ refusal (syntaxCause t) (t .start) → OutermostIs s (Shut x)
+    unfolding outermost expect
+    outermost-shut k x e = record { is = rw (← tok .is, ne-eqb (t .sort) openRound n, ne-eqb (t .sort) less k, e); past = tt }

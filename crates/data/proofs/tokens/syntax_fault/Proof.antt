@@ -1,0 +1,14 @@
+-- `data::tokens::syntax_fault` meets its contract. Assumes nothing.
+use borrow.Author.Needs.{needs}
+use Rattle.data.proofs.TokenSteps.{fault-is}
+use Rattle.data.proofs.tokens.syntax_fault.Statement.{statement}
+use Rattle.data.proofs.tokens.syntax_fault.Tie as tie
+
+syntax-cause-requires : tie.Need-syntax-cause-requires
+syntax-cause-requires c κs = search needs
+
+returns : tie.Need-returns
+returns c = search fault-is
+
+pub syntax-fault-spec : {M : Type 1} → statement M
+syntax-fault-spec = tie.close (tie.spec syntax-cause-requires returns)

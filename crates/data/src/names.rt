@@ -1,0 +1,109 @@
+// A member's name: its bytes, and whether an earlier member of its block has it.
+use crate::contents::ContentStart;
+use crate::contents::content_start;
+use crate::rows::number;
+use crate::tokens::Expected;
+use crate::tokens::NAME_LIMIT;
+use crate::tokens::SpanRead;
+use crate::tokens::expect;
+use crate::tokens::too_long;
+use lexis::EQUALS;
+use lexis::Token;
+use refusals::Cause;
+use refusals::Refusal;
+ghost use mathlib.Core.Path.{_≡_};
+ghost use Prim.Native.Nat.{_+_, _≤_};
+ghost use lib.ListN.{length};
+ghost use Rattle.lexis.specs.Runs.{part, listed};
+ghost use Rattle.data.specs.Data.{nameFrom};
+ghost use Rattle.data.specs.Answers.{letterAt, Inside, Earlier, earlier, SpanIs, ContentIs, memberOf};
+
+// A byte of the text, as a number.
+fn wide(b: u8) -> usize
+    ensures { λ r. ⌜ r ≡ b ⌝ }
+{
+    b as usize
+}
+
+// One more than the byte at a place of a name, and 0 at the name's end.
+fn letter(s: &[u8], at: usize, end: usize) -> usize
+    requires { ⌜ end ≤ length (now s) ⌝ }
+    ensures { λ r. ⌜ r ≡ letterAt (now (s .entry)) at end ⌝ }
+{
+    if at < end { wide(s[at]) + 1 } else { 0 }
+}
+
+// Whether the bytes from `start` up to `stop` are a name of the rows from `first` on, from link to link, up to `end`.
+fn repeated(s: &[u8], tape: &[u16], first: usize, end: usize, start: usize, stop: usize) -> bool
+    requires { ⌜ Earlier (now s) (now tape) first end ⌝ }
+    requires { ⌜ Inside (now s) start stop ⌝ }
+    ensures { λ r. ⌜ r ≡ listed (part (now (s .entry)) start stop) (earlier (now (s .entry)) (now (tape .entry)) first end) ⌝ }
+{
+    let mut n = first;
+    let mut again = false;
+    'names: while n < end {
+        let from = number(tape, n, 1);
+        let to = number(tape, n, 2);
+        let mut i: usize = 0;
+        loop {
+            let x = letter(s, start + i, stop);
+            let y = letter(s, from + i, to);
+            if x != y {
+                break;
+            }
+            if x == 0 {
+                again = true;
+                break 'names;
+            }
+            i += 1;
+        }
+        n = number(tape, n, 8);
+    }
+    again
+}
+
+// A member's NAME and `=`; the names before it are those of the rows from `first` on up to `end`.
+fn name_from(s: &[u8], tape: &[u16], first: usize, end: usize, t: Token) -> SpanRead
+    requires { ⌜ Earlier (now s) (now tape) first end ⌝ }
+    requires { ⌜ Inside (now s) (t .start) (t .end) ⌝ }
+    ensures { λ r. ⌜ SpanIs (now (s .entry)) (t .start) (nameFrom (now (s .entry)) (earlier (now (s .entry)) (now (tape .entry)) first end) t) r ⌝ }
+{
+    if NAME_LIMIT < t.end - t.start {
+        let fault = too_long(t);
+        return SpanRead::Bad(fault);
+    }
+    if repeated(s, tape, first, end, t.start, t.end) {
+        return SpanRead::Bad(Refusal {
+            cause: Cause::RepeatedName,
+            place: t.start,
+        });
+    }
+    match expect(s, EQUALS, t.end) {
+        Expected::Fault(fault) => {
+            return SpanRead::Bad(fault);
+        }
+        Expected::Taken(equals) => {
+            return SpanRead::Spans {
+                start: t.start,
+                end: t.end,
+                next: equals.end,
+            };
+        }
+    }
+}
+
+// A member up to its leaf's end, or up to the opening of its block.
+pub fn member_start(s: &[u8], tape: &[u16], first: usize, end: usize, t: Token) -> ContentStart
+    requires { ⌜ Earlier (now s) (now tape) first end ⌝ }
+    requires { ⌜ Inside (now s) (t .start) (t .end) ⌝ }
+    ensures { λ r. ⌜ ContentIs (now (s .entry)) (t .start + 2) (memberOf (now (s .entry)) (earlier (now (s .entry)) (now (tape .entry)) first end) t) r ⌝ }
+{
+    match name_from(s, tape, first, end, t) {
+        SpanRead::Bad(fault) => {
+            return ContentStart::Faulty(fault);
+        }
+        SpanRead::Spans { start, end, next } => {
+            return content_start(s, next);
+        }
+    }
+}

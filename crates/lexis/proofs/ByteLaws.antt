@@ -1,0 +1,75 @@
+-- A rule of numbers in a row, shown of all of them by one test that antt computes; the steps of the tests on bytes. Assumes nothing.
+use mathlib.Core.Path.{_≡_, refl, sym}
+use mathlib.Core.Bool.{Bool, true, false, cond, not, _&&_, _||_}
+use mathlib.Core.List.{List, [], _∷_}
+use Prim.Native.Nat.{ℕ, zero, suc, _+_, _≤_, _<_}
+use native.Mathlib.Omega.{arith}
+use native.Mathlib.Decide.{decLt}
+use lib.Dec.{eqb, leb}
+use lib.ListN.{getD}
+use borrow.Author.Tests.{ne-eqb, le-leb}
+use Rattle.lexis.specs.Bytes.{wordByte, stringByte, runByte}
+use Rattle.lexis.proofs.Cases.{and-left, and-right}
+
+-- two tests answer the same
+abbrev pub alike : Bool → Bool → Bool
+alike x y = cond x y (not y)
+
+alike-eq : (x y : Bool) → alike x y ≡ true → x ≡ y
+alike-eq true y h = sym h
+alike-eq false true h = h
+alike-eq false false h = refl
+
+-- n numbers from one on pass a test
+abbrev pub passes : (ℕ → Bool) → ℕ → ℕ → Bool
+passes f low zero = true
+passes f low (suc n) = f low && passes f (suc low) n
+
+-- two tests that answer the same in a row of numbers do so at each
+pub agree : (g f : ℕ → Bool) (low n : ℕ) → passes (λ x. alike (g x) (f x)) low n ≡ true → (b : ℕ) → low ≤ b → b < low + n → g b ≡ f b
+agree g f low zero t b h k = absurd (omega arith)
+agree g f low (suc n) t b h k =
+    let here = alike (g low) (f low) in
+    let more = passes (λ x. alike (g x) (f x)) (suc low) n in
+    by-place (decLt low b) (alike-eq (g low) (f low) (and-left here more t)) (λ l. agree g f (suc low) n (and-right here more t) b l (omega arith))
+  where
+    by-place : Dec (low < b) → g low ≡ f low → (low < b → g b ≡ f b) → g b ≡ f b
+    by-place (yes l) p q = q l
+    by-place (no l) p q = let e : low ≡ b = omega arith in rw e at p
+
+-- a table of what a rule says of n numbers from one on
+abbrev pub tabled : (ℕ → ℕ) → ℕ → ℕ → List ℕ
+tabled rule low zero = []
+tabled rule low (suc n) = rule low ∷ tabled rule (suc low) n
+
+entry-from : (rule : ℕ → ℕ) (low n k : ℕ) → k < n → getD (tabled rule low n) k 0 ≡ rule (low + k)
+entry-from rule low zero k h = absurd (omega arith)
+entry-from rule low (suc n) zero h = let e : low + zero ≡ low = omega arith in rw e
+entry-from rule low (suc n) (suc k) h = let e : low + suc k ≡ suc low + k = omega arith in rw e (entry-from rule (suc low) n k (omega arith))
+
+-- each entry of such a table is what the rule says of its number
+pub entry : (rule : ℕ → ℕ) (n k : ℕ) → k < n → getD (tabled rule 0 n) k 0 ≡ rule k
+entry rule n k h = let e : 0 + k ≡ k = omega arith in rw e at (entry-from rule 0 n k h)
+
+and-true : (x : Bool) → x ≡ (x && true)
+and-true true = refl
+and-true false = refl
+
+-- a byte other than the two that no string holds
+pub string-last : (b : ℕ) → 32 ≤ b → (b ≡ 34 → ⊥) → (b ≡ 92 → ⊥) → leb b 126 ≡ stringByte b
+unfolding stringByte
+string-last b h n m = rw (le-leb 32 b h, ne-eqb b 34 n, ne-eqb b 92 m) (and-true (leb b 126))
+
+-- a byte of words is one of runs
+pub run-word : (b : ℕ) (r : Bool) → r ≡ wordByte b → r ≡ true → true ≡ runByte b
+unfolding runByte
+run-word b r h e = rw (← h, e)
+
+-- a byte that is none of words, nor one of three that runs hold besides
+pub run-last : (b : ℕ) (r : Bool) → r ≡ wordByte b → r ≡ false → (b ≡ 43 → ⊥) → (b ≡ 45 → ⊥) → (b ≡ 46 → ⊥) → eqb b 58 ≡ runByte b
+unfolding runByte
+run-last b r h e n m k = rw (← h, e, ne-eqb b 43 n, ne-eqb b 45 m, ne-eqb b 46 k) (or-false (eqb b 58))
+  where
+    or-false : (x : Bool) → x ≡ (x || false)
+    or-false true = refl
+    or-false false = refl

@@ -1,0 +1,16 @@
+-- `merge::moving::moved_item` meets its contract. Assumes nothing.
+use borrow.Author.Needs.{needs}
+use Rattle.table.specs.Rows.{rowOf}
+use Rattle.merge.proofs.MoveSteps.{move-steps}
+use Rattle.merge.proofs.moving.moved_item.Statement.{statement}
+use Rattle.merge.proofs.moving.moved_item.Tie as tie
+
+moved-link-requires : tie.Need-moved-link-requires
+unfolding rowOf
+moved-link-requires c κs = c .pre .fits 4
+
+returns : tie.Need-returns
+returns c = search (move-steps, needs)
+
+pub moved-item-spec : {M : Type 1} → statement M
+moved-item-spec = tie.close (tie.spec moved-link-requires returns)

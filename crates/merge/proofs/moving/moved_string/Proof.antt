@@ -1,0 +1,20 @@
+-- `merge::moving::moved_string` meets its contract. Assumes nothing.
+use borrow.Author.Needs.{needs}
+use Rattle.table.specs.Rows.{rowOf}
+use Rattle.merge.proofs.MoveSteps.{move-steps}
+use Rattle.merge.proofs.moving.moved_string.Statement.{statement}
+use Rattle.merge.proofs.moving.moved_string.Tie as tie
+
+moved-place-requires : tie.Need-moved-place-requires
+unfolding rowOf
+moved-place-requires c κs = c .pre .fits 0
+
+moved-link-requires : tie.Need-moved-link-requires
+unfolding rowOf
+moved-link-requires c κs = c .before .pre .fits 4
+
+returns : tie.Need-returns
+returns c = search (move-steps, needs)
+
+pub moved-string-spec : {M : Type 1} → statement M
+moved-string-spec = tie.close (tie.spec moved-place-requires moved-link-requires returns)

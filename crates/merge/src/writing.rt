@@ -1,0 +1,43 @@
+// A record, written in either order.
+use table::order::put32;
+use table::records::Entry;
+ghost use mathlib.Core.Path.{_≡_};
+ghost use mathlib.Core.Bool.{cond};
+ghost use mathlib.Core.List.{[], _∷_, _++_};
+ghost use Prim.Native.Nat.{_+_, _≤_};
+ghost use lib.ListN.{length};
+ghost use lib.Seq.{sets};
+ghost use Rattle.table.specs.Order.{put};
+ghost use Rattle.table.specs.Records.{recordSize, mark, encode};
+ghost use Rattle.table.specs.Answers.{recordOf};
+
+// A byte of the mark, the lowest or the highest.
+fn mark_byte(lowest: bool) -> u8
+    ensures { λ r. ⌜ r ≡ cond lowest 0xAD 0xC0 ⌝ }
+{
+    if lowest { 0xAD } else { 0xC0 }
+}
+
+// A record's first four bytes: the mark, the kind and the flag.
+fn put_head(out: &mut [u8], at: usize, little: bool, kind: u8, flag: u8)
+    requires { ⌜ at + 4 ≤ length (now out) ⌝ }
+    ensures { λ _. ⌜ now (out .exit) ≡ sets (now (out .entry)) at (put little 2 mark ++ (kind ∷ flag ∷ [])) ⌝ }
+{
+    out[at] = mark_byte(little);
+    out[at + 1] = mark_byte(!little);
+    out[at + 2] = kind;
+    out[at + 3] = flag;
+}
+
+// A record, written at a place.
+pub fn put_record(out: &mut [u8], at: usize, little: bool, r: Entry)
+    requires { ⌜ at + recordSize ≤ length (now out) ⌝ }
+    ensures { λ _. ⌜ now (out .exit) ≡ sets (now (out .entry)) at (encode little (recordOf r)) ⌝ }
+{
+    put_head(out, at, little, r.kind, r.flag);
+    put32(out, at + 4, little, r.a);
+    put32(out, at + 8, little, r.b);
+    put32(out, at + 12, little, r.c);
+    put32(out, at + 16, little, r.d);
+    put32(out, at + 20, little, r.e);
+}

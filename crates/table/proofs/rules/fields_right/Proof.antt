@@ -1,0 +1,59 @@
+-- `table::rules::fields_right` meets its contract. Assumes nothing.
+use Rattle.table.proofs.Chains.{chain-steps}
+use Rattle.table.proofs.KindSteps.{kind-steps}
+use borrow.Author.Needs.{needs}
+use Rattle.table.proofs.rules.fields_right.Statement.{statement}
+use Rattle.table.proofs.rules.fields_right.Tie as tie
+
+object-right-requires : tie.Need-object-right-requires
+object-right-requires c κs = search needs
+
+attribute-right-requires : tie.Need-attribute-right-requires
+attribute-right-requires c κs = search needs
+
+integer-right-requires : tie.Need-integer-right-requires
+integer-right-requires c κs = search needs
+
+string-right-requires : tie.Need-string-right-requires
+string-right-requires c κs = search needs
+
+interval-right-requires : tie.Need-interval-right-requires
+interval-right-requires c κs = search needs
+
+unused-requires : tie.Need-unused-requires
+unused-requires c κs = search needs
+
+returns : tie.Need-returns
+returns c = search needs
+
+returns-2 : tie.Need-returns-2
+returns-2 c = search needs
+
+returns-3 : tie.Need-returns-3
+returns-3 c = search needs
+
+returns-4 : tie.Need-returns-4
+returns-4 c = search needs
+
+returns-5 : tie.Need-returns-5
+returns-5 c = search needs
+
+returns-6 : tie.Need-returns-6
+returns-6 c = search (kind-steps, chain-steps, needs)
+
+pub fields-right-spec : {M : Type 1} → statement M
+fields-right-spec =
+    tie.close
+    (tie.spec
+    object-right-requires
+    attribute-right-requires
+    integer-right-requires
+    string-right-requires
+    interval-right-requires
+    unused-requires
+    returns
+    returns-2
+    returns-3
+    returns-4
+    returns-5
+    returns-6)

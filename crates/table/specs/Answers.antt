@@ -1,0 +1,70 @@
+-- What the functions take and answer, as the definitions have it. Assumes nothing.
+use mathlib.Core.Path.{_≡_}
+use mathlib.Core.Bool.{Bool, _&&_}
+use mathlib.Core.Option.{Option, none, some}
+use mathlib.Core.List.{List, [], _∷_}
+use Prim.Native.Nat.{ℕ, _+_, _*_, _≤_}
+use lib.Dec.{eqb, leb}
+use lib.ListN
+use Rattle.refusals.specs.Limits.{recordLimit, poolLimit}
+use Rattle.refusals.specs.declared.Refusal.{Refusal}
+use Rattle.table.specs.Records.{Record, Image, recordSize, field, count, header}
+use Rattle.table.specs.Rows.{Use, place, link, rowOf}
+use Rattle.table.specs.Check.{fieldRight, fieldsRight, clean}
+use Rattle.table.specs.Names.{NameAnswer, refused, named, recordAt}
+use Rattle.table.specs.declared.records.Entry.{Entry}
+use Rattle.table.specs.declared.records.Frame.{Frame}
+use Rattle.table.specs.declared.check.CheckAnswer.{CheckAnswer}
+use Rattle.table.specs.declared.check.CheckAnswer.the-variants.{Passed, Refused}
+use Rattle.table.specs.declared.names.NameResult.{NameResult}
+use Rattle.table.specs.declared.names.NameResult.the-variants.{Named}
+use Rattle.table.specs.declared.names.NameResult.the-variants.{Refused as NotNamed}
+
+-- the refusal that the check answers, if there is one
+abbrev pub faultOf : CheckAnswer → Option Refusal
+faultOf Passed = none
+faultOf (Refused r) = some r
+
+-- what a request for a name answers
+abbrev pub answerOf : NameResult → NameAnswer
+answerOf (Named start length) = named (record { start = start; length = length })
+answerOf (NotNamed r) = refused r
+
+-- the part that the first two fields of the record with a number name
+abbrev pub partAt : Image → ℕ → NameAnswer
+partAt m n = named (record { start = recordSize * count m + field (recordAt m n) 0; length = field (recordAt m n) 1 })
+
+-- the record that an entry holds
+abbrev pub recordOf : Entry → Record
+recordOf e = record { kind = e .kind; flag = e .flag; fields = e .a ∷ e .b ∷ e .c ∷ e .d ∷ e .e ∷ [] }
+
+-- a frame holds the counts of a table's header, which are within their limits and make up the table's length
+pub record Opened (bs : List ℕ) (f : Frame) : Type 0 where
+  pub records : f .count ≡ field (header bs) 0
+  pub bytes : f .pool ≡ field (header bs) 1
+  pub some : 2 ≤ f .count
+  pub few : f .count ≤ recordLimit
+  pub small : f .pool ≤ poolLimit
+  pub whole : ListN.length bs ≡ recordSize * f .count + f .pool
+
+-- the answer is the rule of a field, and of the next: of a place, in any table with so long a pool; of a pair, in any table
+pub record PlaceIs (pool least most x next : ℕ) (r : Bool) : Type 0 where
+  pub is : (m : Image) (n : ℕ) → ListN.length (m .pool) ≡ pool → r ≡ fieldRight m n (place least most) x next
+
+pub record PairIs (u : Use) (x next : ℕ) (r : Bool) : Type 0 where
+  pub is : (m : Image) (n : ℕ) → r ≡ fieldRight m n u x next
+
+-- the rules of a record's fields: of those that are named, and that the others are 0
+unfoldable pub fieldsKept : Image → ℕ → Record → Bool
+fieldsKept m n r = fieldsRight m n (rowOf (r .kind) .uses) (r .fields) && clean r
+
+-- the rules of what follows an item's value: a link to an item of its kind, and two fields that are not named
+abbrev pub nextRight : Image → ℕ → Entry → Bool
+nextRight m n e = fieldRight m n (link (e .kind ∷ [])) (e .e) 0 && (eqb (e .c) 0 && eqb (e .d) 0)
+
+-- the tests of a header: what is 0 in it, and its counts
+abbrev pub plainHeader : Entry → Bool
+plainHeader h = eqb (h .kind) 0 && (eqb (h .flag) 0 && (eqb (h .d) 0 && eqb (h .e) 0))
+
+abbrev pub countsRight : Entry → ℕ → Bool
+countsRight h length = leb 2 (h .a) && (leb (h .a) recordLimit && (leb (h .b) poolLimit && eqb length (recordSize * h .a + h .b)))

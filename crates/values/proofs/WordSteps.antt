@@ -1,0 +1,81 @@
+-- What each way through the code of words answers is what the definition says. Assumes nothing.
+use mathlib.Core.Path.{_≡_, refl}
+use mathlib.Core.Bool.{Bool, true, false}
+use mathlib.Core.Option.{none, some}
+use mathlib.Core.List.{List}
+use Prim.Native.Nat.{ℕ}
+use Rattle.lexis.specs.Text.{bytes}
+use Rattle.lexis.specs.Runs.{same, all}
+use Rattle.values.specs.Integers.{integerOf}
+use Rattle.values.specs.Dates.{exactly, dateOf}
+use Rattle.values.specs.Times.{timeOf}
+use Rattle.values.specs.Words.{booleanOf, good}
+use Rattle.values.specs.Answers.{integerAnswer, dateAnswer, timeAnswer, booleanAnswer}
+use Rattle.values.specs.declared.integers.Number.{Number}
+use Rattle.values.specs.declared.integers.Number.the-variants as number
+use Rattle.values.specs.declared.dates.Day.{Day}
+use Rattle.values.specs.declared.dates.Day.the-variants as date
+use Rattle.values.specs.declared.times.Parts.{Parts}
+use Rattle.values.specs.declared.times.Parts.the-variants as time
+use Rattle.values.specs.declared.words.Boolean.{Boolean}
+use Rattle.values.specs.declared.words.Boolean.the-variants as boolean
+use Rattle.values.proofs.ShapeSteps.{exactly-same}
+
+-- True and False
+module _ (w : List ℕ) (r : Bool) (h : r ≡ exactly (bytes "True") w) where
+  as-true : exactly (bytes "True") w ≡ same (bytes "True") w
+  unfolding all
+  as-true = exactly-same (bytes "True") w refl
+
+  as-false : exactly (bytes "False") w ≡ same (bytes "False") w
+  unfolding all
+  as-false = exactly-same (bytes "False") w refl
+
+  pub boolean-true : r ≡ true → some 1 ≡ booleanOf w
+  unfolding booleanOf
+  boolean-true q = rw (← as-true, ← h, q)
+
+  module _ (n : r ≡ false) (s : Bool) (i : s ≡ exactly (bytes "False") w) where
+    pub boolean-false : s ≡ true → some 2 ≡ booleanOf w
+    unfolding booleanOf
+    boolean-false q = rw (← as-true, ← h, n, ← as-false, ← i, q)
+
+    pub boolean-none : s ≡ false → none ≡ booleanOf w
+    unfolding booleanOf
+    boolean-none q = rw (← as-true, ← h, n, ← as-false, ← i, q)
+
+-- a good word, by the first that it reads as
+module _ (w : List ℕ) (b : Boolean) (hb : booleanAnswer b ≡ booleanOf w) where
+  pub good-boolean : (n : ℕ) → b ≡ boolean.Value n → true ≡ good w
+  unfolding good
+  good-boolean n q = rw (← hb, q)
+
+  module _ (nb : b ≡ boolean.Nothing) (i : Number) (hi : integerAnswer i ≡ integerOf w) where
+    pub good-integer : (n : ℕ) → i ≡ number.Value n → true ≡ good w
+    unfolding good
+    good-integer n q = rw (← hb, nb, ← hi, q)
+
+    module _ (ni : i ≡ number.Nothing) (d : Day) (hd : dateAnswer d ≡ dateOf w) where
+      pub good-date : (p n : ℕ) → d ≡ date.Value p n → true ≡ good w
+      unfolding good
+      good-date p n q = rw (← hb, nb, ← hi, ni, ← hd, q)
+
+      module _ (nd : d ≡ date.Nothing) (t : Parts) (ht : timeAnswer t ≡ timeOf w) where
+        pub good-time : (n : ℕ) → t ≡ time.Value n → true ≡ good w
+        unfolding good
+        good-time n q = rw (← hb, nb, ← hi, ni, ← hd, nd, ← ht, q)
+
+        pub good-none : t ≡ time.Nothing → false ≡ good w
+        unfolding good
+        good-none q = rw (← hb, nb, ← hi, ni, ← hd, nd, ← ht, q)
+
+pub ruleset steps = (
+  boolean-true,
+  boolean-false,
+  boolean-none,
+  good-boolean,
+  good-integer,
+  good-date,
+  good-time,
+  good-none,
+)

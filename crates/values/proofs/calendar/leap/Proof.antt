@@ -1,0 +1,17 @@
+-- `calendar::leap` answers what its definition says. Assumes nothing.
+use borrow.Author.Needs.{needs}
+use Rattle.values.proofs.CalendarSteps.{steps}
+use Rattle.values.proofs.calendar.leap.Statement.{statement}
+use Rattle.values.proofs.calendar.leap.Tie as tie
+
+returns : tie.Need-returns
+returns c = search (steps, needs)
+
+returns-2 : tie.Need-returns-2
+returns-2 c = search (steps, needs)
+
+returns-3 : tie.Need-returns-3
+returns-3 c = search (steps, needs)
+
+pub leap-spec : {M : Type 1} → statement M
+leap-spec = tie.close (tie.spec returns returns-2 returns-3)
