@@ -21,6 +21,7 @@ mod numbers;
 mod patterns;
 mod table;
 mod tokens;
+pub mod vectors;
 mod words;
 
 pub use compile::compile;

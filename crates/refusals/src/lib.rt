@@ -1,3 +1,7 @@
+// What is refused and why; the limits and the numbers of document 01.
+pub mod limits;
+pub mod numbers;
+
 // Why a text, a table or a request is refused: what happened. A definition gives document 01's number for each.
 pub enum Cause {
     TextTooLong,

@@ -10,7 +10,7 @@ mod broken;
 mod compiles;
 mod constraint;
 mod data;
-mod handmade;
+pub(crate) mod handmade;
 mod images;
 mod items;
 mod judging;

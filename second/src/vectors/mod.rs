@@ -1,0 +1,46 @@
+//! Test vectors for the programs that run the jobs: what each reads from standard input, and what it must print.
+//! The inputs stand here or come from the generator; the expectations are this library's answers.
+//!
+//! `write` writes the files below a root, `check` compares them with what it would write. `stream` says how cases
+//! are spelled for a program, and the other modules hold the cases of one program each.
+
+mod stream;
+mod tables;
+
+use std::fs;
+use std::path::Path;
+use stream::Stream;
+
+/// A file below the root.
+struct File {
+    path: String,
+    bytes: Vec<u8>,
+}
+
+/// Every file.
+fn files() -> Vec<File> {
+    let mut all = Vec::new();
+    let mut add = |program: &str, stream: Stream| {
+        all.push(File { path: format!("crates/{program}/stdin"), bytes: stream.input });
+        all.push(File { path: format!("crates/{program}/stdout"), bytes: stream.output.into_bytes() });
+    };
+    add("table_vectors", tables::cases());
+    all
+}
+
+/// Writes every file below the root, and says how long each is.
+pub fn write(root: &Path) -> Result<Vec<String>, String> {
+    let mut lines = Vec::new();
+    for file in files() {
+        let path = root.join(&file.path);
+        fs::write(&path, &file.bytes).map_err(|error| format!("{}: {error}", path.display()))?;
+        lines.push(format!("{}: {} bytes", file.path, file.bytes.len()));
+    }
+    Ok(lines)
+}
+
+/// The files below the root that aren't as `write` would write them.
+pub fn check(root: &Path) -> Vec<String> {
+    let differs = |file: &File| fs::read(root.join(&file.path)).ok().as_deref() != Some(&file.bytes[..]);
+    files().into_iter().filter(differs).map(|file| file.path).collect()
+}
