@@ -9,7 +9,6 @@ pub mod Examples
 pub mod StepTable
 pub mod MadeTable
 pub mod LimitTable
-pub mod WriteSteps
 pub mod MoveSteps
 pub mod CopySteps
 pub mod MovedLaws

@@ -1,10 +1,10 @@
 // Records and pools, copied from one table into another.
 use crate::moving::moved_record;
-use crate::writing::put_record;
 use table::records::PoolShift;
 use table::records::RecordNumber;
 use table::records::RecordShift;
 use table::records::read;
+use table::writing::put_record;
 ghost use mathlib.Core.Path.{_≡_};
 ghost use mathlib.Core.List.{map};
 ghost use Prim.Native.Nat.{_+_, _*_, _-_, _≤_};

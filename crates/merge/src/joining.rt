@@ -1,7 +1,6 @@
 // Two tables that fit together, written as one.
 use crate::copying::copy_bytes;
 use crate::copying::copy_records;
-use crate::writing::put_record;
 use table::records::Entry;
 use table::records::Frame;
 use table::records::PoolPlace;
@@ -9,6 +8,7 @@ use table::records::PoolShift;
 use table::records::RecordShift;
 use table::records::frame_of;
 use table::records::read;
+use table::writing::put_record;
 ghost use mathlib.Core.Path.{_≡_};
 ghost use mathlib.Core.Option.{none};
 ghost use mathlib.Core.List.{_++_};

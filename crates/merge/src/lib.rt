@@ -2,12 +2,13 @@
 mod copying;
 mod joining;
 mod moving;
-mod writing;
 
 use crate::joining::open_table;
 use crate::joining::write_joined;
 use refusals::Cause;
 use refusals::Refusal;
+use refusals::limits::POOL_LIMIT;
+use refusals::limits::RECORD_LIMIT;
 use table::check::CheckAnswer;
 use table::check::check;
 use table::records::PoolPlace;
@@ -20,11 +21,6 @@ ghost use Rattle.table.specs.Records.{imageOf};
 ghost use Rattle.table.specs.Check.{tableFault};
 ghost use Rattle.merge.specs.Answer.{refused, merging, join, mergeAnswer};
 ghost use Rattle.merge.specs.Answers.{answerOf};
-
-// The most records, and the most bytes of a pool.
-const RECORD_LIMIT: u32 = 2048;
-
-const POOL_LIMIT: u32 = 16384;
 
 // What a merge answers: how long the table written is, and how far the second table was moved; or why there is none,
 // and which table is at fault, 0 where neither is.

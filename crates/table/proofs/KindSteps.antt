@@ -1,9 +1,11 @@
 -- Steps of the functions that test the fields of each kind. Assumes nothing.
 use mathlib.Core.Path.{_≡_, refl}
-use mathlib.Core.Bool.{Bool, _&&_, and-true, and-assoc}
+use mathlib.Core.Bool.{Bool, true, _&&_, _||_, and-true, and-assoc, or-true, false≢true}
 use mathlib.Core.List.{List, [], _∷_}
-use Prim.Native.Nat.{ℕ, zero, suc}
-use lib.Dec.{eqb}
+use Prim.Native.Nat.{ℕ, zero, suc, _+_, _≤_}
+use native.Mathlib.Omega.{arith}
+use lib.Dec.{eqb, leb}
+use borrow.Author.Tests.{le-leb}
 use Rattle.lexis.specs.Bytes.{within}
 use Rattle.table.specs.Records.{Image, imageOf}
 use Rattle.table.specs.Rows.{Use, place, link, integers, dates, items, nothing, rowOf}
@@ -20,19 +22,26 @@ place-told bs f n least most x next r o p = p .is (imageOf bs) n (pool-opened bs
 pub pair-told : (m : Image) (n : ℕ) (u : Use) (x next : ℕ) (r : Bool) → PairIs u x next r → r ≡ fieldRight m n u x next
 pair-told m n u x next r p = p .is m n
 
+-- a number that is none of the four from another on, and not below it
+past-four : (j k : ℕ) → j ≤ k → (k ≡ j → ⊥) → (k ≡ j + 1 → ⊥) → (k ≡ j + 2 → ⊥) → (k ≡ j + 3 → ⊥) → j + 4 ≤ k
+past-four j k h a b c d = omega arith
+
 -- a kind that names no field
-uses-none : (k : ℕ) → (k ≡ 1 → ⊥) → (k ≡ 2 → ⊥) → (k ≡ 4 → ⊥) → (k ≡ 5 → ⊥) → (k ≡ 7 → ⊥) → rowOf k .uses ≡ nothing
+abbrev unnamed : ℕ → Bool
+unnamed k = eqb k 0 || eqb k 3 || eqb k 6 || leb 8 k
+
+uses-none : (k : ℕ) → unnamed k ≡ true → rowOf k .uses ≡ nothing
 unfolding rowOf
-uses-none zero a b c d f = refl
-uses-none (suc zero) a b c d f = absurd (a refl)
-uses-none (suc (suc zero)) a b c d f = absurd (b refl)
-uses-none (suc (suc (suc zero))) a b c d f = refl
-uses-none (suc (suc (suc (suc zero)))) a b c d f = absurd (c refl)
-uses-none (suc (suc (suc (suc (suc zero))))) a b c d f = absurd (d refl)
-uses-none (suc (suc (suc (suc (suc (suc zero)))))) a b c d f = refl
-uses-none (suc (suc (suc (suc (suc (suc (suc zero))))))) a b c d f = absurd (f refl)
-uses-none (suc (suc (suc (suc (suc (suc (suc (suc zero)))))))) a b c d f = refl
-uses-none (suc (suc (suc (suc (suc (suc (suc (suc (suc k))))))))) a b c d f = refl
+uses-none zero h = refl
+uses-none (suc zero) h = absurd (false≢true h)
+uses-none (suc (suc zero)) h = absurd (false≢true h)
+uses-none (suc (suc (suc zero))) h = refl
+uses-none (suc (suc (suc (suc zero)))) h = absurd (false≢true h)
+uses-none (suc (suc (suc (suc (suc zero))))) h = absurd (false≢true h)
+uses-none (suc (suc (suc (suc (suc (suc zero)))))) h = refl
+uses-none (suc (suc (suc (suc (suc (suc (suc zero))))))) h = absurd (false≢true h)
+uses-none (suc (suc (suc (suc (suc (suc (suc (suc zero)))))))) h = refl
+uses-none (suc (suc (suc (suc (suc (suc (suc (suc (suc k))))))))) h = refl
 
 -- the tests of each kind's fields, in the order taken
 module _ (m : Image) (n : ℕ) (e : Entry) (r : Bool) where
@@ -61,10 +70,16 @@ module _ (m : Image) (n : ℕ) (e : Entry) (r : Bool) where
   interval-is h q = rw h (simp (and-true, and-assoc) (simp and-assoc at (rw h at q)))
 
   -- every other kind names no field
-  pub unused-is : (e .kind ≡ 1 → ⊥) → (e .kind ≡ 2 → ⊥) → (e .kind ≡ 4 → ⊥) → (e .kind ≡ 5 → ⊥) → (e .kind ≡ 7 → ⊥)
-      → r ≡ restNought nothing (recordOf e .fields) → r ≡ fieldsKept m n (recordOf e)
+  unused-is : unnamed (e .kind) ≡ true → r ≡ restNought nothing (recordOf e .fields) → r ≡ fieldsKept m n (recordOf e)
   unfolding fieldsKept clean fieldRight
-  unused-is h1 h2 h4 h5 h7 q = rw (uses-none (e .kind) h1 h2 h4 h5 h7) q
+  unused-is h q = rw (uses-none (e .kind) h) q
+
+  pub unused-at : (k : ℕ) → e .kind ≡ k → unnamed k ≡ true → r ≡ restNought nothing (recordOf e .fields) → r ≡ fieldsKept m n (recordOf e)
+  unused-at k h u q = unused-is (rw h u) q
+
+  pub unused-from : (e .kind ≡ 0 → ⊥) → (e .kind ≡ 1 → ⊥) → (e .kind ≡ 2 → ⊥) → (e .kind ≡ 3 → ⊥) → (e .kind ≡ 4 → ⊥) → (e .kind ≡ 5 → ⊥) → (e .kind ≡ 6 → ⊥) → (e .kind ≡ 7 → ⊥)
+      → r ≡ restNought nothing (recordOf e .fields) → r ≡ fieldsKept m n (recordOf e)
+  unused-from h0 h1 h2 h3 h4 h5 h6 h7 q = unused-is (rw (le-leb 8 (e .kind) (past-four 4 (e .kind) (past-four 0 (e .kind) (omega arith) h0 h1 h2 h3) h4 h5 h6 h7)) (or-true (eqb (e .kind) 0 || eqb (e .kind) 3 || eqb (e .kind) 6))) q
 
 -- the rules of the kind and flag, and of the fields
 pub rules-are : (m : Image) (n : ℕ) (e : Entry) (r : Bool)
@@ -73,4 +88,4 @@ pub rules-are : (m : Image) (n : ℕ) (e : Entry) (r : Bool)
 unfolding obeys fieldsKept
 rules-are m n e r q = rw and-assoc q
 
-pub ruleset kind-steps = (place-told, pair-told, object-is, attribute-is, integer-is, string-is, interval-is, unused-is, rules-are)
+pub ruleset kind-steps = (place-told, pair-told, object-is, attribute-is, integer-is, string-is, interval-is, unused-at, unused-from, rules-are)

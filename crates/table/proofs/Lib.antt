@@ -18,7 +18,6 @@ pub mod NameTable
 pub mod MadeTable
 pub mod Hex
 pub mod Chains
-pub mod DateSteps
 pub mod OrderSteps
 pub mod RecordSteps
 pub mod FrameLaws
@@ -26,3 +25,4 @@ pub mod RuleSteps
 pub mod KindSteps
 pub mod CheckSteps
 pub mod NameSteps
+pub mod WriteSteps

@@ -9,6 +9,8 @@ use crate::records::read;
 use crate::rules::rules_kept;
 use refusals::Cause;
 use refusals::Refusal;
+use refusals::limits::POOL_LIMIT;
+use refusals::limits::RECORD_LIMIT;
 ghost use mathlib.Core.Path.{_≡_};
 ghost use Prim.Native.Nat.{_*_, _<_};
 ghost use lib.ListN.{length, take, drop};
@@ -21,11 +23,6 @@ pub enum CheckAnswer {
     Passed,
     Refused(Refusal),
 }
-
-// The most records, and the most bytes of the pool.
-const RECORD_LIMIT: u32 = 2048;
-
-const POOL_LIMIT: u32 = 16384;
 
 // The header's kind, flag and last two numbers are 0.
 fn plain_header(h: Entry) -> bool

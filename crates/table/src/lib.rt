@@ -1,7 +1,7 @@
 // Tables: byte order, records, the check and names. The definitions stand in specs/.
 pub mod check;
-mod dates;
 pub mod names;
 pub mod order;
 pub mod records;
 mod rules;
+pub mod writing;

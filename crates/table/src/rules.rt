@@ -1,10 +1,13 @@
 // The rules of a record's flag and fields.
-use crate::dates::is_real;
 use crate::records::Entry;
 use crate::records::Frame;
 use crate::records::PoolPlace;
 use crate::records::RecordNumber;
 use crate::records::kind_at;
+use refusals::limits::CODE_LIMIT;
+use refusals::limits::NAME_LIMIT;
+use refusals::limits::STRING_LIMIT;
+use values::calendar::real;
 ghost use mathlib.Core.Path.{_≡_};
 ghost use mathlib.Core.Bool.{_&&_};
 ghost use mathlib.Core.List.{[], _∷_};
@@ -83,7 +86,7 @@ fn integers_right(low: u32, high: u32) -> bool
 fn dates_right(low: u32, high: u32) -> bool
     ensures { λ r. ⌜ PairIs dates low high r ⌝ }
 {
-    is_real(low) && (is_real(high) && low <= high)
+    real(low) && (real(high) && low <= high)
 }
 
 // A number is above a record's own and below the count.
@@ -122,12 +125,12 @@ fn value_link_right(table: &[u8], frame: Frame, n: RecordNumber, to: RecordNumbe
     to.0 == 0 || (leads_up(frame, n, to) && is_value(kind_at(table, frame, to)))
 }
 
-// The longest names of types and attributes, codes and strings.
-const NAME_LIMIT: u32 = 63;
+// The longest names of types and attributes, codes and strings, as a table holds them.
+const NAME_MOST: u32 = NAME_LIMIT as u32;
 
-const CODE_LIMIT: u32 = 31;
+const CODE_MOST: u32 = CODE_LIMIT as u32;
 
-const STRING_LIMIT: u32 = 255;
+const STRING_MOST: u32 = STRING_LIMIT as u32;
 
 // An object: its type, its code and its first attribute.
 fn object_right(table: &[u8], frame: Frame, n: RecordNumber, e: Entry) -> bool
@@ -135,8 +138,8 @@ fn object_right(table: &[u8], frame: Frame, n: RecordNumber, e: Entry) -> bool
     requires { ⌜ e .kind ≡ 1 ⌝ }
     ensures { λ r. ⌜ r ≡ fieldsKept (imageOf (now (table .entry))) (n .0) (recordOf e) ⌝ }
 {
-    place_right(frame.pool, PoolPlace(e.a), e.b, 1, NAME_LIMIT)
-        && (place_right(frame.pool, PoolPlace(e.c), e.d, 0, CODE_LIMIT)
+    place_right(frame.pool, PoolPlace(e.a), e.b, 1, NAME_MOST)
+        && (place_right(frame.pool, PoolPlace(e.c), e.d, 0, CODE_MOST)
             && link_right(table, frame, n, RecordNumber(e.e), 2))
 }
 
@@ -146,7 +149,7 @@ fn attribute_right(table: &[u8], frame: Frame, n: RecordNumber, e: Entry) -> boo
     requires { ⌜ e .kind ≡ 2 ⌝ }
     ensures { λ r. ⌜ r ≡ fieldsKept (imageOf (now (table .entry))) (n .0) (recordOf e) ⌝ }
 {
-    place_right(frame.pool, PoolPlace(e.a), e.b, 1, NAME_LIMIT)
+    place_right(frame.pool, PoolPlace(e.a), e.b, 1, NAME_MOST)
         && (value_link_right(table, frame, n, RecordNumber(e.c))
             && (link_right(table, frame, n, RecordNumber(e.d), 2) && e.e == 0))
 }
@@ -174,7 +177,7 @@ fn string_right(table: &[u8], frame: Frame, n: RecordNumber, e: Entry) -> bool
     requires { ⌜ e .kind ≡ 5 ⌝ }
     ensures { λ r. ⌜ r ≡ fieldsKept (imageOf (now (table .entry))) (n .0) (recordOf e) ⌝ }
 {
-    place_right(frame.pool, PoolPlace(e.a), e.b, 0, STRING_LIMIT) && next_right(table, frame, n, e)
+    place_right(frame.pool, PoolPlace(e.a), e.b, 0, STRING_MOST) && next_right(table, frame, n, e)
 }
 
 // A date interval: its ends.
@@ -200,12 +203,15 @@ fn fields_right(table: &[u8], frame: Frame, n: RecordNumber, e: Entry) -> bool
 {
     let kind = e.kind;
     match kind {
+        0 => unused(e),
         1 => object_right(table, frame, n, e),
         2 => attribute_right(table, frame, n, e),
+        3 => unused(e),
         4 => integer_right(table, frame, n, e),
         5 => string_right(table, frame, n, e),
+        6 => unused(e),
         7 => interval_right(table, frame, n, e),
-        _ => unused(e),
+        8..=255 => unused(e),
     }
 }
 

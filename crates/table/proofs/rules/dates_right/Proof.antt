@@ -4,11 +4,11 @@ use borrow.Author.Needs.{needs}
 use Rattle.table.proofs.rules.dates_right.Statement.{statement}
 use Rattle.table.proofs.rules.dates_right.Tie as tie
 
-is-real-requires : tie.Need-is-real-requires
-is-real-requires c κs = search needs
+real-requires : tie.Need-real-requires
+real-requires c κs = search needs
 
-is-real-requires-2 : tie.Need-is-real-requires-2
-is-real-requires-2 c κs = search needs
+real-requires-2 : tie.Need-real-requires-2
+real-requires-2 c κs = search needs
 
 returns : tie.Need-returns
 returns c = search (rule-steps, needs)
@@ -21,4 +21,4 @@ returns-3 c = search (rule-steps, needs)
 
 pub dates-right-spec : {M : Type 1} → statement M
 dates-right-spec =
-    tie.close (tie.spec is-real-requires is-real-requires-2 returns returns-2 returns-3)
+    tie.close (tie.spec real-requires real-requires-2 returns returns-2 returns-3)

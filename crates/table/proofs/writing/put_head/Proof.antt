@@ -1,10 +1,10 @@
--- `merge::writing::put_head` meets its contract. Assumes nothing.
+-- `table::writing::put_head` meets its contract. Assumes nothing.
 use native.Mathlib.Omega.{arith}
 use lib.ListN.{length-set}
 use borrow.Author.Needs.{needs}
-use Rattle.merge.proofs.WriteSteps.{write-steps}
-use Rattle.merge.proofs.writing.put_head.Statement.{statement}
-use Rattle.merge.proofs.writing.put_head.Tie as tie
+use Rattle.table.proofs.WriteSteps.{write-steps}
+use Rattle.table.proofs.writing.put_head.Statement.{statement}
+use Rattle.table.proofs.writing.put_head.Tie as tie
 
 mark-byte-requires : tie.Need-mark-byte-requires
 mark-byte-requires c κs = search needs

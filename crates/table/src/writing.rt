@@ -1,15 +1,15 @@
 // A record, written in either order.
-use table::order::put32;
-use table::records::Entry;
+use crate::order::put32;
+use crate::records::Entry;
 ghost use mathlib.Core.Path.{_≡_};
 ghost use mathlib.Core.Bool.{cond};
 ghost use mathlib.Core.List.{[], _∷_, _++_};
 ghost use Prim.Native.Nat.{_+_, _≤_};
 ghost use lib.ListN.{length};
 ghost use lib.Seq.{sets};
 ghost use Rattle.table.specs.Order.{put};
 ghost use Rattle.table.specs.Records.{recordSize, mark, encode};
 ghost use Rattle.table.specs.Answers.{recordOf};
 
 // A byte of the mark, the lowest or the highest.
 fn mark_byte(lowest: bool) -> u8

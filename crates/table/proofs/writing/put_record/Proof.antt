@@ -1,8 +1,8 @@
--- `merge::writing::put_record` meets its contract. Assumes nothing.
+-- `table::writing::put_record` meets its contract. Assumes nothing.
 use borrow.Author.Needs.{needs}
-use Rattle.merge.proofs.WriteSteps.{record-put}
-use Rattle.merge.proofs.writing.put_record.Statement.{statement}
-use Rattle.merge.proofs.writing.put_record.Tie as tie
+use Rattle.table.proofs.WriteSteps.{record-put}
+use Rattle.table.proofs.writing.put_record.Statement.{statement}
+use Rattle.table.proofs.writing.put_record.Tie as tie
 
 put-head-requires : tie.Need-put-head-requires
 put-head-requires c κs = search needs
