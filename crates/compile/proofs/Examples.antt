@@ -1,6 +1,6 @@
 -- Examples of compiling: a text into an output, with the answer and the output behind it. The cases stand in CompileTable, RefusalTable and MadeTable. Assumes nothing.
-use mathlib.Core.Bool.{Bool, true, false, _&&_}
-use mathlib.Core.List.{List, [], _∷_}
+use mathlib.Core.Bool.{Bool, false, _&&_}
+use mathlib.Core.List.{List}
 use Prim.Native.Nat.{ℕ}
 use lib.Dec.{eqb}
 use Rattle.lexis.specs.Runs.{same}

@@ -1,5 +1,5 @@
 -- Examples of constraint texts, each with its tree or with its refusal's number and place. The cases stand in the tables. Assumes nothing.
-use mathlib.Core.Bool.{Bool, true, false, _&&_}
+use mathlib.Core.Bool.{Bool, false, _&&_}
 use mathlib.Core.List.{List}
 use Prim.Native.Nat.{ℕ, _-_}
 use lib.Dec.{eqb}

@@ -1,7 +1,7 @@
 -- Examples of demand 3: a text compiled, a list of merges, and data judged by the carried table at 1 + the sum. What is expected is the answer, and that the two texts alone mean
 -- the same with the record moved by the sum. The cases stand in ListTable. Assumes nothing.
-use mathlib.Core.Bool.{Bool, true, false, _&&_}
-use mathlib.Core.List.{List, [], _∷_}
+use mathlib.Core.Bool.{Bool, _&&_}
+use mathlib.Core.List.{List}
 use Prim.Native.Nat.{ℕ, _+_}
 use lib.Dec.{eqb}
 use Rattle.meaning.specs.Verdicts.{Verdict}

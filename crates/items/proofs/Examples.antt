@@ -1,6 +1,6 @@
 -- Examples of leaves, each with what is read or with its refusal's number and place, given the next record's number and the bytes in the pool. The cases
 -- stand in the table. Assumes nothing.
-use mathlib.Core.Bool.{Bool, true, false, _&&_}
+use mathlib.Core.Bool.{Bool, false, _&&_}
 use mathlib.Core.List.{List}
 use Prim.Native.Nat.{ℕ}
 use lib.Dec.{eqb}

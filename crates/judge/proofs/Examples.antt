@@ -1,6 +1,6 @@
 -- Examples of judging a data text by a table at a root. The cases stand in JudgeTable, RefusalTable and MadeTable. Assumes nothing.
-use mathlib.Core.Bool.{Bool, true, false, _&&_}
-use mathlib.Core.List.{List, [], _∷_}
+use mathlib.Core.Bool.{Bool, false, _&&_}
+use mathlib.Core.List.{List}
 use Prim.Native.Nat.{ℕ}
 use lib.Dec.{eqb}
 use Rattle.refusals.specs.Refusals.{numberOf}

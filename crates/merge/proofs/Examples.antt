@@ -1,5 +1,5 @@
 -- Examples of merging: two tables into an output, and lists of merges. The cases stand in MergeTable, RefusalTable, MadeTable, LimitTable and StepTable. Assumes nothing.
-use mathlib.Core.Bool.{Bool, true, false, _&&_}
+use mathlib.Core.Bool.{Bool, false, _&&_}
 use mathlib.Core.List.{List, [], _∷_}
 use Prim.Native.Nat.{ℕ}
 use lib.Dec.{eqb}
@@ -8,7 +8,6 @@ use Rattle.lexis.specs.Runs.{same}
 use Rattle.refusals.specs.Refusals.{numberOf}
 use Rattle.table.specs.Records.{Image}
 use Rattle.table.proofs.Hex.{filling}
-use Rattle.merge.specs.Merge.{Shifts}
 use Rattle.merge.specs.Answer.{MergeAnswer, refused, done, Merging, join, mergeAnswer}
 use Rattle.merge.specs.Lists.{Step, Carried, carried, afterSteps}
 

@@ -1,5 +1,5 @@
 -- Examples of causes with their numbers, of limits, and of tokens asked for, each with what is expected. The cases stand in the table. Assumes nothing.
-use mathlib.Core.Bool.{Bool, true, false, _&&_}
+use mathlib.Core.Bool.{Bool, false, _&&_}
 use mathlib.Core.List.{List}
 use Prim.Native.Nat.{ℕ}
 use lib.Dec.{eqb}

@@ -1,8 +1,8 @@
 -- Examples of tables: numbers and records as bytes, the check, names and trees. The cases stand in OrderTable, RecordTable, CheckTable, FaultTable, NameTable, TreeTable and
 -- MadeTable. Assumes nothing.
-use mathlib.Core.Bool.{Bool, true, false, cond, not, _&&_}
+use mathlib.Core.Bool.{Bool, true, false, not, _&&_}
 use mathlib.Core.Option.{Option, none, some}
-use mathlib.Core.List.{List, [], _∷_}
+use mathlib.Core.List.{List, []}
 use Prim.Native.Nat.{ℕ}
 use lib.Dec.{eqb}
 use Rattle.lexis.specs.Runs.{same}

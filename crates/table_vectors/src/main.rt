@@ -6,7 +6,6 @@ use table::check::check;
 use table::names::NameResult;
 use table::names::name;
 use table::names::name_refusal;
-use vectors::Head;
 use vectors::digest;
 use vectors::read_bytes;
 use vectors::read_head;

@@ -1,6 +1,6 @@
 -- Examples of words, of the calendar, of values with a distance on either side and of patterns, each with what is expected. The cases stand in the tables.
 -- Assumes nothing.
-use mathlib.Core.Bool.{Bool, true, false, cond, not, _&&_}
+use mathlib.Core.Bool.{Bool, false, not, _&&_}
 use mathlib.Core.Option.{Option, none, some}
 use mathlib.Core.List.{List, [], _∷_}
 use Prim.Native.Nat.{ℕ}

@@ -20,7 +20,7 @@ use Rattle.values.specs.Answers.{DigitIs, integerAnswer, digitsFrom, pla
 use Rattle.values.specs.declared.integers.Number.{Number}
 use Rattle.values.specs.declared.integers.Number.the-variants.{Value, Nothing}
 use Rattle.values.proofs.Common.{le-left, le-right, by-order}
-use Rattle.values.proofs.ShapeSteps.{drop-in}
+use Rattle.lexis.proofs.Places.{drop-in}
 
 -- digits do not take a number down
 value-least : (n : ℕ) (ds : List ℕ) → n ≤ valueOf n ds

@@ -1,83 +1,19 @@
 -- What each way through the code of shapes answers is what the definition says. Assumes nothing.
 use mathlib.Core.Path.{_≡_, refl, sym, _∙_}
-use mathlib.Core.Bool.{Bool, true, false, cond, not, _&&_}
+use mathlib.Core.Bool.{Bool, true, false, not, _&&_}
 use mathlib.Core.List.{List, [], _∷_}
-use Prim.Native.Nat.{ℕ, _+_, _*_, _-_, _≤_, _<_}
-use native.Mathlib.Numerals.{add-one}
+use Prim.Native.Nat.{ℕ, _+_, _*_, _-_, _≤_}
 use native.Mathlib.Omega.{arith}
-use lib.Dec.{eqb, leb, eqb·zero-suc, eqb·suc-zero, eqb·suc-suc}
-use lib.ListN.{length, getD, drop, drop-of-length-le}
-use lib.Seq.{drop-cons}
-use borrow.Author.Tests.{le-leb, lt-leb, eq-eqb, ne-eqb, not-true, not-false, eqb-true}
-use Rattle.lexis.specs.Bytes.{is, digit, sortOf, among, blanks, marks, within}
-use Rattle.lexis.specs.Runs.{same, shaped, allows, anyDigit, all}
+use lib.Dec.{eqb, eqb·zero-suc, eqb·suc-zero, eqb·suc-suc}
+use lib.ListN.{length, getD}
+use borrow.Author.Tests.{eq-eqb, ne-eqb, not-true, eqb-true}
+use Rattle.lexis.specs.Bytes.{is}
+use Rattle.lexis.specs.Runs.{same, shaped, anyDigit, all}
 use Rattle.lexis.proofs.Cases.{and-left, and-right}
+use Rattle.lexis.proofs.Places.{drop-in}
 use Rattle.values.specs.Integers.{valueOf}
 use Rattle.values.specs.Dates.{exactly, digitsAt}
 use Rattle.values.specs.Answers.{DigitIs, DigitsAre}
-
--- the bytes from a place on, as the code counts
-pub drop-in : (w : List ℕ) (at : ℕ) → at < length w → drop at w ≡ getD w at 0 ∷ drop (at + 1) w
-drop-in w at h = rw (add-one, drop-cons w at 0)
-
--- a byte is a digit by where it stands among the sorts
-sorted : (a b c d e : Bool) → eqb (cond a 0 (cond b 1 (cond c 2 (cond d 3 (cond e 4 5))))) 1 ≡ cond a false b
-sorted true b c d e = refl
-sorted false true c d e = refl
-sorted false false true d e = refl
-sorted false false false true e = refl
-sorted false false false false true = refl
-sorted false false false false false = refl
-
-no-either : (a : Bool) → cond a false false ≡ false
-no-either true = refl
-no-either false = refl
-
-module _ (b : ℕ) where
-  digit-within : is digit b ≡ cond (among b blanks) false (within 48 57 b)
-  unfolding sortOf
-  digit-within = sorted (among b blanks) (within 48 57 b) (within 97 122 b) (within 65 90 b) (among b marks)
-
-  pub digit-below : b < 48 → false ≡ is digit b
-  digit-below h = rw (digit-within, lt-leb 48 b h, no-either)
-
-  pub digit-from : 48 ≤ b → leb b 57 ≡ is digit b
-  digit-from h =
-      rw (
-        digit-within,
-        le-leb 48 b h,
-        ne-eqb b 32 (omega arith),
-        ne-eqb b 9 (omega arith),
-        ne-eqb b 13 (omega arith),
-        ne-eqb b 10 (omega arith),
-      )
-
--- one byte of a shape
-module _ (s b : ℕ) where
-  pub allows-digit : (r : Bool) → r ≡ is digit b → s ≡ anyDigit → r ≡ allows s b
-  allows-digit r h q = rw (eq-eqb s anyDigit q) h
-
-  pub allows-itself : (s ≡ anyDigit → ⊥) → eqb s b ≡ allows s b
-  allows-itself n = rw (ne-eqb s anyDigit n)
-
--- a shape, from a place on
-module _ (shape w : List ℕ) (i : ℕ) (x : Bool) (now : shaped (drop i shape) (drop i w) ≡ x) where
-  pub shaped-done : length shape ≤ i → true ≡ x
-  unfolding shaped
-  shaped-done h = rw (drop-of-length-le shape h) at now
-
-  pub shaped-short : i < length shape → length w ≤ i → false ≡ x
-  unfolding shaped
-  shaped-short h l = rw (drop-in shape i h, drop-of-length-le w l) at now
-
-  module _ (r : Bool) (h : i < length shape) (l : i < length w) (q : r ≡ allows (getD shape i 0) (getD w i 0)) where
-    pub shaped-out : not r ≡ true → false ≡ x
-    unfolding shaped
-    shaped-out n = rw (drop-in shape i h, drop-in w i l, ← q, not-true r n) at now
-
-    pub shaped-on : not r ≡ false → shaped (drop (i + 1) shape) (drop (i + 1) w) ≡ x
-    unfolding shaped
-    shaped-on n = rw (drop-in shape i h, drop-in w i l, ← q, not-false r n) at now
 
 -- a shape, to the end
 module _ (shape w : List ℕ) where
@@ -138,14 +74,6 @@ four-are w x y h a b =
     record { is = four-is w x y h (a .is) (b .is); fits = omega arith }
 
 pub ruleset steps = (
-  digit-below,
-  digit-from,
-  allows-digit,
-  allows-itself,
-  shaped-done,
-  shaped-short,
-  shaped-out,
-  shaped-on,
   exactly-not,
   exactly-shaped,
   two-are,

@@ -3,8 +3,8 @@ ghost use mathlib.Core.Path.{_≡_};
 ghost use mathlib.Core.Bool.{true};
 ghost use Rattle.values.specs.Integers.{integerOf, negative, notNegative, twosComplement, magnitude, inside, pair, around};
 ghost use Rattle.values.specs.Answers.{integerAnswer, digitsFrom, plainNumber};
-use crate::shapes::digit;
 use crate::shapes::digit_value;
+use lexis::sorts::is_digit;
 
 // An integer that is read, or that none is spelled.
 pub enum Number {
@@ -25,7 +25,7 @@ fn digits(ds: &[u8]) -> Number
     let mut n: u32 = 0;
     let mut i = 0;
     while i < ds.len() {
-        if !digit(ds[i]) {
+        if !is_digit(ds[i]) {
             return Number::Nothing;
         }
         if 214_748_364 < n {

@@ -1,24 +1,10 @@
 // Bytes of a given shape, and the numbers that digits spell.
+use lexis::runs::shaped;
 ghost use mathlib.Core.Path.{_≡_};
 ghost use Prim.Native.Nat.{_+_, _≤_};
 ghost use lib.ListN.{length};
-ghost use Rattle.lexis.specs.Bytes.{is, digit};
-ghost use Rattle.lexis.specs.Runs.{shaped, allows};
 ghost use Rattle.values.specs.Dates.{exactly};
 ghost use Rattle.values.specs.Answers.{DigitIs, DigitsAre};
-
-// Where any digit may stand in a shape.
-const ANY_DIGIT: u8 = b'd';
-
-// The byte is a digit.
-pub fn digit(b: u8) -> bool
-    ensures { λ r. ⌜ r ≡ is digit b ⌝ }
-{
-    if b < b'0' {
-        return false;
-    }
-    b <= b'9'
-}
 
 // What a digit counts.
 pub fn digit_value(b: u8) -> u32
@@ -30,33 +16,6 @@ pub fn digit_value(b: u8) -> u32
     (b - b'0') as u32
 }
 
-// The shape's byte allows the byte.
-fn allows(s: u8, b: u8) -> bool
-    ensures { λ r. ⌜ r ≡ allows s b ⌝ }
-{
-    if s == ANY_DIGIT {
-        return digit(b);
-    }
-    s == b
-}
-
-// The bytes begin in the shape.
-pub fn shaped(shape: &[u8], w: &[u8]) -> bool
-    ensures { λ r. ⌜ r ≡ shaped (now (shape .entry)) (now (w .entry)) ⌝ }
-{
-    let mut i = 0;
-    while i < shape.len() {
-        if w.len() <= i {
-            return false;
-        }
-        if !allows(shape[i], w[i]) {
-            return false;
-        }
-        i += 1;
-    }
-    true
-}
-
 // The bytes are of the shape, all of them.
 pub fn exactly(shape: &[u8], w: &[u8]) -> bool
     ensures { λ r. ⌜ r ≡ exactly (now (shape .entry)) (now (w .entry)) ⌝ }
@@ -64,7 +23,7 @@ pub fn exactly(shape: &[u8], w: &[u8]) -> bool
     if w.len() != shape.len() {
         return false;
     }
-    shaped(shape, w)
+    shaped(w, 0, shape)
 }
 
 // The number that two digits spell from a place on.

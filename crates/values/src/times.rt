@@ -7,8 +7,8 @@ ghost use Rattle.values.specs.Dates.{digitsAt};
 ghost use Rattle.values.specs.Times.{zone, goodTime, timeOf};
 ghost use Rattle.values.specs.Answers.{eastZone, westZone, hourTime, minuteTime, secondTime, timeAnswer};
 use crate::shapes::exactly;
-use crate::shapes::shaped;
 use crate::shapes::two_digits;
+use lexis::runs::shaped;
 
 // The last hour of a day.
 const LAST_HOUR: u32 = 23;
@@ -152,13 +152,13 @@ fn good_time(good: bool, parts: u8) -> Parts
 pub fn time_of(w: &[u8]) -> Parts
     ensures { λ r. ⌜ timeAnswer r ≡ timeOf (now (w .entry)) ⌝ }
 {
-    if shaped(b"dd:dd:dd", w) {
+    if shaped(w, 0, b"dd:dd:dd") {
         return good_time(second_time(w), 3);
     }
-    if shaped(b"dd:dd", w) {
+    if shaped(w, 0, b"dd:dd") {
         return good_time(minute_time(w), 2);
     }
-    if shaped(b"dd", w) {
+    if shaped(w, 0, b"dd") {
         return good_time(hour_time(w), 1);
     }
     Parts::Nothing

@@ -1,6 +1,5 @@
 -- `number` answers the number of a cause. Assumes nothing.
 use mathlib.Core.Path.{_≡_, ap, sym}
-use Prim.Native.Nat.{ℕ}
 use borrow.Author.Needs.{needs}
 use Rattle.refusals.specs.Refusals.{numberOf}
 use Rattle.refusals.specs.declared.Cause.{Cause}
