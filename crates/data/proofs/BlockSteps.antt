@@ -40,7 +40,7 @@ use Rattle.data.specs.declared.blocks.MemberRead.{MemberRead}
 use Rattle.data.specs.declared.blocks.MemberRead.the-variants.{Not, Member}
 use Rattle.data.proofs.TapeLaws.{row-length, row-numbers, content-length}
 use Rattle.data.proofs.TreeReading.{SpanRead, EntriesRead, ContentRead, name-holds, content-holds, members-holds, block-holds}
-use Rattle.data.proofs.TapeStores.{sets-sets, sets-append, below-sets, in-sets}
+use Rattle.lexis.proofs.Stores.{sets-sets, sets-append, below-sets, in-sets}
 use Rattle.data.proofs.EarlierNames.{Seen, seen-none, seen-more}
 
 -- ---- a member's row on the tape

@@ -9,7 +9,6 @@ pub mod DataTable
 pub mod MadeTable
 mod TokenSteps
 mod ContentSteps
-mod TapeStores
 mod NameSteps
 mod EarlierNames
 mod BlockSteps

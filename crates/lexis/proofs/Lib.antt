@@ -21,3 +21,4 @@ pub mod SpellingSteps
 pub mod WordSteps
 pub mod TokenSteps
 pub mod DataTokenSteps
+pub mod Stores

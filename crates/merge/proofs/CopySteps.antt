@@ -14,7 +14,7 @@ use Rattle.table.proofs.RecordLaws.{decode-five, length-encode}
 use Rattle.merge.specs.Merge.{Shifts, moved}
 use Rattle.merge.specs.Answers.{Movable, recordIn, Copying}
 use Rattle.merge.proofs.CheckedMerge.{length-moved}
-use Rattle.table.proofs.WriteSteps.{sets-behind}
+use Rattle.lexis.proofs.Stores.{sets-behind}
 
 -- one record, read at its place, moved, and written at the place of its moved number
 module _ (bs : List ℕ) (n : ℕ) (s : Shifts) (from : ℕ) (e : Entry) (at : from ≡ recordSize * n) (read : recordOf e ≡ decode (take recordSize (drop from bs))) where

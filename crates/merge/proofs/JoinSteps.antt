@@ -21,7 +21,7 @@ use Rattle.merge.specs.Answers.{shifts, Copying, headerWith, Joinable, j
 use Rattle.merge.proofs.MergeLaws.{count-merged, pool-merged}
 use Rattle.merge.proofs.CheckedMerge.{checked-merge}
 use Rattle.merge.proofs.MovedLaws.{all-by-nothing, shifts-opened, still-movable, behind-movable}
-use Rattle.table.proofs.WriteSteps.{sets-behind}
+use Rattle.lexis.proofs.Stores.{sets-behind}
 
 -- the counts of a table that passes the check
 module _ (bs : List ℕ) (passes : tableFault bs ≡ none) where

@@ -1,26 +1,17 @@
 -- Steps of the functions that write a record. Assumes nothing.
-use mathlib.Core.Path.{_≡_, sym, ap, _∙_}
+use mathlib.Core.Path.{_≡_, ap}
 use mathlib.Core.Bool.{Bool, true, false, cond, not}
 use mathlib.Core.List.{List, [], _∷_, _++_, append-assoc, append-nil}
-use Prim.Native.Nat.{ℕ, suc, _+_}
-use native.Mathlib.Nat.{add-zero}
+use Prim.Native.Nat.{ℕ, _+_}
 use native.Mathlib.Numerals.{towards-suc}
-use native.Mathlib.Omega.{arith}
 use lib.ListN.{length, set, length-append}
 use lib.Seq.{sets}
+use Rattle.lexis.proofs.Stores.{sets-behind}
 use Rattle.table.specs.Order.{put}
 use Rattle.table.specs.Records.{mark, encode}
 use Rattle.table.specs.Answers.{recordOf}
 use Rattle.table.specs.declared.records.Entry.{Entry}
 use Rattle.table.proofs.OrderLaws.{length-put}
-
--- one run of stores behind another is one run
-pub sets-append : (xs ys l : List ℕ) (i : ℕ) → sets l i (xs ++ ys) ≡ sets (sets l i xs) (i + length xs) ys
-sets-append [] ys l i = rw add-zero
-sets-append (a ∷ xs) ys l i = sets-append xs ys (set l i a) (suc i) ∙ ap (λ (k : ℕ). sets (sets (set l i a) (suc i) xs) k ys) (omega arith)
-
-pub sets-behind : (xs ys l : List ℕ) (i j : ℕ) → i + length xs ≡ j → sets (sets l i xs) j ys ≡ sets l i (xs ++ ys)
-sets-behind xs ys l i j e = rw (← e) (sym (sets-append xs ys l i))
 
 -- the mark, byte by byte, with the kind and the flag
 pub head-put : (s : List ℕ) (at : ℕ) (little : Bool) (kind flag a b : ℕ) → a ≡ cond little 0xAD 0xC0 → b ≡ cond (not little) 0xAD 0xC0
