@@ -14,6 +14,7 @@ use lexis::WORD_RUN;
 use lexis::data_tokens::data_token_at;
 use refusals::Cause;
 use refusals::Refusal;
+use refusals::limits::STRING_LIMIT;
 use values::words::good;
 ghost use mathlib.Core.Path.{_≡_};
 ghost use Prim.Native.Nat.{_≤_};
@@ -21,9 +22,6 @@ ghost use lib.ListN.{length};
 ghost use Rattle.lexis.specs.DataTokens.{dataTokenAt};
 ghost use Rattle.lexis.specs.Postconditions.{TokenIs};
 ghost use Rattle.data.specs.Answers.{Behind, ContentIs, LeafEnds, leafBy, lessFrom, typedContent, contentOf};
-
-// The most bytes of a string, without its quotes.
-const STRING_LIMIT: usize = 255;
 
 // What a row says that a member holds: a string or a word.
 const IS_STRING: usize = 1;

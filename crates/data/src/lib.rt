@@ -14,6 +14,8 @@ use crate::tokens::outermost_opening;
 use lexis::TEXT_END;
 use refusals::Cause;
 use refusals::Refusal;
+use refusals::limits::LEVEL_LIMIT;
+use refusals::limits::TEXT_LIMIT;
 ghost use mathlib.Core.Path.{_≡_};
 ghost use Prim.Native.Nat.{_≤_};
 ghost use lib.ListN.{length};
@@ -21,12 +23,6 @@ ghost use Rattle.lexis.specs.Tokens.{textEnd};
 ghost use Rattle.data.specs.Data.{blockOf};
 ghost use Rattle.data.specs.Data as definitions;
 ghost use Rattle.data.specs.Answers.{endAnswer, TapeRoom, dataWrote, dataWritten};
-
-// The most bytes of a text.
-const TEXT_LIMIT: usize = 16384;
-
-// The most levels of blocks.
-const LEVEL_LIMIT: usize = 16;
 
 // What reading a data text answers: its refusal, or the outermost block's `<` and type, 0 and 0 where it has none,
 // the number of rows on the tape, and the text's end.

@@ -10,6 +10,7 @@ use lexis::data_tokens::data_token_at;
 use lexis::data_tokens::type_token_at;
 use refusals::Cause;
 use refusals::Refusal;
+use refusals::limits::NAME_LIMIT;
 ghost use mathlib.Core.Path.{_≡_};
 ghost use Prim.Native.Nat.{_≤_};
 ghost use lib.ListN.{length};
@@ -18,9 +19,6 @@ ghost use Rattle.refusals.specs.Refusals.{refusal};
 ghost use Rattle.refusals.specs.declared.Cause.the-variants.{TooLong};
 ghost use Rattle.data.specs.Data.{typeFrom};
 ghost use Rattle.data.specs.Answers.{causeOf, ExpectIs, SpanIs, Before, OpeningIs, typedLess, typedFrom, OutermostIs};
-
-// The most bytes of a type or a name.
-pub const NAME_LIMIT: usize = 63;
 
 // A token that must stand at a place, or the refusal where another does.
 pub enum Expected {
