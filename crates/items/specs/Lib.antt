@@ -2,3 +2,5 @@ pub mod Intervals
 pub mod Ranges
 pub mod Strings
 pub mod Leaves
+pub mod Spans
+pub mod Answers

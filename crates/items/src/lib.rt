@@ -1,1 +1,8 @@
-// The leaves of constraint text. The definitions stand in specs/.
+// The leaves of constraint text: a leaf's items are left in a scratch that the caller lends. The definitions stand in specs/.
+mod intervals;
+pub mod leaves;
+mod limits;
+mod literals;
+mod ranges;
+pub mod spans;
+mod strings;

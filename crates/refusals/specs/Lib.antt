@@ -2,3 +2,4 @@ pub mod Limits
 pub mod Refusals
 pub mod Reading
 pub mod Steps
+pub mod Answers

@@ -1,6 +1,7 @@
-// What is refused and why; the limits and the numbers of document 01.
+// What is refused and why; the limits and numbers of document 01; and the tokens of constraint text that must stand at a place.
 pub mod limits;
 pub mod numbers;
+pub mod steps;
 
 // Why a text, a table or a request is refused: what happened. A definition gives document 01's number for each.
 pub enum Cause {

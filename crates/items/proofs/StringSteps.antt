@@ -1,0 +1,376 @@
+-- What a step of the readers of strings shows: a law for each way out. Assumes nothing.
+use mathlib.Core.Path.{_≡_, refl, sym, ap, _∙_}
+use mathlib.Core.Logic.{_≢_}
+use mathlib.Core.Bool.{Bool, true, false, cond, not, _&&_}
+use mathlib.Core.List.{List, [], _∷_, _++_, append-assoc}
+use Prim.Native.Nat.{ℕ, zero, suc, _+_, _*_, _-_, _≤_, _<_}
+use native.Mathlib.Omega.{arith}
+use lib.Dec.{eqb, leb, ltb}
+use lib.ListN.{length, drop, length-append, length-set}
+use borrow.Author.Tests.{eq-eqb, ne-eqb, eqb-true, eqb-false, not-true, lt-ltb, le-ltb}
+use Rattle.lexis.specs.Bytes.{is, digit, small, capital, mark, stringByte}
+use Rattle.lexis.specs.Text.{byte}
+use Rattle.lexis.specs.Runs.{past, byteAt, part, same, listed, shaped, startsWith}
+use Rattle.lexis.specs.Blanks.{tokenStart}
+use Rattle.lexis.specs.Spelling.{Literal, wordSort, marks, keywords, elementSign, booleans, datePatterns, timePatterns, codeStart, dateShape, comma}
+use Rattle.lexis.specs.Tokens.{token, noToken, spelled, number, quoted, codeEnd, tokenOn, tokenAt, typeName, name, string, inner}
+use Rattle.lexis.specs.Postconditions.{TokenIs}
+use Rattle.lexis.specs.declared.Token.{Token}
+use native.Mathlib.Decide.{decLt}
+use Rattle.lexis.proofs.Cases.{either, and-left, and-right}
+use Rattle.lexis.proofs.Places.{past-between}
+use Rattle.refusals.specs.Limits.{itemLimit, recordLimit, stringLimit, poolLimit, textLimit}
+use Rattle.refusals.specs.Reading.{Reading, refused, got, refuse, andThen, unless}
+use Rattle.refusals.specs.Refusals.{refusal}
+use Rattle.refusals.specs.Steps.{expect, syntaxFault}
+use Rattle.refusals.specs.Answers.{tokenReading, ExpectIs}
+use Rattle.refusals.specs.declared.Cause.the-variants.{TooLong, TooManyItems, TooManyRecords, Overlap, PoolTooLarge}
+use Rattle.refusals.specs.declared.Refusal.{Refusal}
+use Rattle.refusals.specs.declared.steps.Expected.{Expected}
+use Rattle.refusals.specs.declared.steps.Expected.the-variants.{Fault, Taken}
+use Rattle.refusals.proofs.StepLaws.{expected-fault, expected-token, expected-past}
+use Rattle.meaning.specs.Constraints.{Text}
+use Rattle.meaning.specs.Counting.{textPool}
+use Rattle.items.specs.Strings.{startString, withText, strings}
+use Rattle.items.specs.Spans.{firstOf, secondOf, spanAt, latest, earlier, Within, SpansIn}
+use Rattle.items.specs.Answers.{Before, roomy, withItem, textAt, itemsFrom, stringReading, keptString, StringStartPast, StringStartIs, StringRoom, KeepString, StringKept, Kept, StringIs, StringsIs, LeafRoom}
+use Rattle.items.specs.declared.strings.StringRead.{StringRead}
+use Rattle.items.specs.declared.strings.StringRead.the-variants as stringRead
+use Rattle.items.specs.declared.strings.StringsRead.the-variants as stringsRead
+use Rattle.items.proofs.SpanSteps.{part-length}
+use Rattle.items.proofs.ItemLaws.{item-first, item-second, item-kept, all-kept, first-kept, second-kept, latest-more, latest-same, items-last, items-same, roomy-none, roomy-some}
+
+-- a token that is a string has at least two bytes
+abbrev Quotes : Token → Type 0
+Quotes t = t .sort ≡ string → t .start + 2 ≤ t .end
+
+-- no spelling of a list is a string's sort
+unfoldable others : List Literal → Bool
+others [] = true
+others (l ∷ ls) = not (eqb (l .sort) string) && others ls
+
+other-first : (l : Literal) (ls : List Literal) → others (l ∷ ls) ≡ true → l .sort ≢ string
+unfolding others
+other-first l ls o = eqb-false (l .sort) string (not-true (eqb (l .sort) string) (and-left _ _ o))
+
+other-rest : (l : Literal) (ls : List Literal) → others (l ∷ ls) ≡ true → others ls ≡ true
+unfolding others
+other-rest l ls o = and-right (not (eqb (l .sort) string)) _ o
+
+spelled-quotes : (ls : List Literal) (at : ℕ) (bs : List ℕ) (t : Token) → others ls ≡ true → Quotes t → Quotes (spelled ls at bs t)
+unfolding spelled
+spelled-quotes [] at bs t o h = h
+spelled-quotes (l ∷ ls) at bs t o h = either Quotes (startsWith (l .spelling) bs) (λ e. absurd (other-first l ls o e)) (spelled-quotes ls at bs t (other-rest l ls o) h)
+
+word-other : (ls : List Literal) (w : List ℕ) (sort : ℕ) → others ls ≡ true → sort ≢ string → wordSort ls w sort ≢ string
+unfolding wordSort
+word-other [] w sort o h = h
+word-other (l ∷ ls) w sort o h = either (λ x. x ≢ string) (same (l .spelling) w) (other-first l ls o) (word-other ls w sort (other-rest l ls o) h)
+
+-- a string at any place has both its quotes
+on-quotes : (s : List ℕ) (at : ℕ) → Quotes (tokenOn s at)
+unfolding tokenOn others
+on-quotes s at =
+    let b = past-between stringByte (at + 1) (drop (at + 1) s) in
+    let none : Quotes (noToken at) = λ e. absurd (omega arith) in
+    either Quotes (leb (length s) at) (λ e. absurd (omega arith))
+    (either Quotes (is capital (byteAt s at)) (spelled-quotes timePatterns at (drop at s) _ refl (λ e. absurd (word-other booleans _ typeName refl (λ d. omega arith) e)))
+    (either Quotes (is small (byteAt s at)) (spelled-quotes datePatterns at (drop at s) _ refl (λ e. absurd (word-other keywords _ name refl (λ d. omega arith) e)))
+    (either Quotes (is digit (byteAt s at)) (either Quotes (shaped dateShape (drop at s)) (λ e. absurd (omega arith)) (λ e. absurd (omega arith)))
+    (either Quotes (is mark (byteAt s at))
+    (either Quotes (eqb (byteAt s at) (byte "-") && is digit (byteAt s (at + 1))) (λ e. absurd (omega arith)) (spelled-quotes marks at (drop at s) (noToken at) refl none))
+    (either Quotes (eqb (byteAt s at) (byte "\"")) (either Quotes (eqb (byteAt s (past stringByte (at + 1) (drop (at + 1) s))) (byte "\"")) (λ e. omega arith) none)
+    (either Quotes (eqb (byteAt s at) (byte "["))
+    (either Quotes (startsWith codeStart (drop at s)) (either Quotes (eqb (codeEnd false (at + 3) (drop (at + 3) s)) 0) none (λ e. absurd (omega arith))) none)
+    (spelled-quotes elementSign at (drop at s) (noToken at) refl none)))))))
+
+token-quotes : (s : List ℕ) (from : ℕ) → Quotes (tokenAt s from)
+unfolding tokenAt
+token-quotes s from = on-quotes s (tokenStart s from)
+
+-- a string that is not too long
+module _ (s : List ℕ) (at : ℕ) (r : Expected) (e : ExpectIs s string at (expect s string at) r) where
+  pub string-missing : (x : Refusal) → r ≡ Fault x → ExpectIs s string at (startString s at) (Fault x)
+  unfolding startString
+  string-missing x g = record { is = rw (expected-fault e x g); past = tt }
+
+  module _ (t : Token) (g : r ≡ Taken t) where
+    pub string-order : t .start ≤ t .end
+    string-order = let p = expected-past e t g in omega arith
+
+    inner-length : length (inner s t) ≡ t .end - 1 - (t .start + 1)
+    inner-length = let p = expected-past e t g in part-length s (t .start + 1) (t .end - 1) (omega arith)
+
+    pub string-long : stringLimit + 2 < t .end - t .start → (x : Refusal) → x ≡ refusal TooLong (t .start) → ExpectIs s string at (startString s at) (Fault x)
+    unfolding startString
+    string-long l x h = record { is = rw (expected-token e t g, inner-length, lt-ltb stringLimit (t .end - 1 - (t .start + 1)) (omega arith), h); past = tt }
+
+    pub string-there : t .end - t .start ≤ stringLimit + 2 → ExpectIs s string at (startString s at) (Taken t)
+    unfolding startString
+    string-there l = record { is = rw (expected-token e t g, inner-length, le-ltb stringLimit (t .end - 1 - (t .start + 1)) (omega arith)); past = expected-past e t g }
+
+-- what was taken, and not too long, was taken
+short-got : (r : Reading Token) (f : Token → Bool) (t : Token) (p : ℕ) → andThen r (λ u q. unless (f u) TooLong (u .start) (got u q)) ≡ got t p → r ≡ got t p
+short-got (refused x) f t p h = let z : _≡_ {A = ℕ} 0 1 = cc in absurd (omega arith)
+short-got (got u q) f t p h = by (f u) h
+  where
+    by : (b : Bool) → cond b (refuse TooLong (u .start)) (got u q) ≡ got t p → got u q ≡ got t p
+    by true h = let z : _≡_ {A = ℕ} 0 1 = cc in absurd (omega arith)
+    by false h = h
+
+-- a string that was read is in quotes
+expect-quoted : (s : List ℕ) (at : ℕ) (t : Token) (p : ℕ) → expect s string at ≡ got t p → t .start + 2 ≤ t .end
+unfolding expect
+expect-quoted s at t p h = by (eqb (tokenAt s at .sort) string) refl h
+  where
+    by : (b : Bool) → eqb (tokenAt s at .sort) string ≡ b → cond b (got (tokenAt s at) (tokenAt s at .end)) (syntaxFault (tokenAt s at)) ≡ got t p → t .start + 2 ≤ t .end
+    by true e h = let z : tokenAt s at ≡ t = cc in rw z at (token-quotes s at (eqb-true _ _ e))
+    by false e h = let z : _≡_ {A = ℕ} 0 1 = cc in absurd (omega arith)
+
+start-quoted : (s : List ℕ) (at : ℕ) (t : Token) (p : ℕ) → startString s at ≡ got t p → t .start + 2 ≤ t .end
+unfolding startString
+start-quoted s at t p e = expect-quoted s at t p (short-got (expect s string at) (λ u. ltb stringLimit (length (inner s u))) t p e)
+
+-- room for it
+module _ (s : List ℕ) (number count at : ℕ) (r : Expected) (e : ExpectIs s string at (startString s at) r) where
+  pub text-faulty : (x : Refusal) → r ≡ Fault x → StringStartIs s number count at (Fault x)
+  unfolding roomy
+  text-faulty x g = record { is = rw (expected-fault e x g); past = tt }
+
+  module _ (t : Token) (g : r ≡ Taken t) where
+    pub text-items : count ≡ itemLimit → StringStartIs s number count at (Fault (refusal TooManyItems (t .start)))
+    unfolding roomy
+    text-items k = record { is = rw (expected-token e t g, eq-eqb count itemLimit k); past = tt }
+
+    module _ (n : count ≡ itemLimit → ⊥) where
+      pub text-records : number ≡ recordLimit → StringStartIs s number count at (Fault (refusal TooManyRecords (t .start)))
+      unfolding roomy
+      text-records k = record { is = rw (expected-token e t g, ne-eqb count itemLimit n, eq-eqb number recordLimit k); past = tt }
+
+      pub text-there : (number ≡ recordLimit → ⊥) → Before s number count at → StringStartIs s number count at (Taken t)
+      unfolding roomy
+      text-there k b =
+          let q = expected-past e t g in
+          record {
+            is = rw (expected-token e t g, ne-eqb count itemLimit n, ne-eqb number recordLimit k);
+            past = (record { order = start-quoted s at t (t .end) (expected-token e t g); inside = q .2 }, omega arith, omega arith);
+          }
+
+-- a string that was read
+module _ (s : List ℕ) (number count pool : ℕ) (t : Token) (before : List ℕ) (room : KeepString s number count pool t before) (o : Bool) (h : o ≡ listed (part s (t .start + 1) (t .end - 1)) (earlier s before 0 count)) where
+  abbrev Reads : List ℕ → StringRead → Type 0
+  Reads after r = StringIs s number count pool (keptString s number count pool (earlier s before 0 count) t (t .end)) before after r
+
+  size-is : length (inner s t) ≡ t .end - 1 - (t .start + 1)
+  size-is = let q = room .quoted in part-length s (t .start + 1) (t .end - 1) (omega arith)
+
+  pub keep-equal : o ≡ true → Reads before (stringRead.Faulty (refusal Overlap (t .start)))
+  unfolding keptString
+  keep-equal k = record { is = rw (← h, k); kept = all-kept before count; past = tt }
+
+  module _ (k : o ≡ false) where
+    pub keep-full : poolLimit < pool + (t .end - 1 - (t .start + 1)) → Reads before (stringRead.Faulty (refusal PoolTooLarge (t .start)))
+    unfolding keptString
+    keep-full l = record { is = rw (← h, k, size-is, lt-ltb poolLimit (pool + (t .end - 1 - (t .start + 1))) l); kept = all-kept before count; past = tt }
+
+    module _ (l : pool + (t .end - 1 - (t .start + 1)) ≤ poolLimit) (long : length before ≡ 32) (u : Token) (tok : TokenIs s (t .end) (tokenAt s (t .end)) u) (a b : ℕ) (ea : a ≡ t .start + 1) (eb : b ≡ t .end - 1) (after : List ℕ) (e : after ≡ withItem before count a b) where
+      roomy-count : 2 * count + 1 < length before
+      roomy-count = let f = room .few in omega arith
+
+      put-start : firstOf after count ≡ t .start + 1
+      put-start = rw e (item-first before count a b roomy-count) ∙ ea
+
+      put-stop : secondOf after count ≡ t .end - 1
+      put-stop = rw e (item-second before count a b roomy-count) ∙ eb
+
+      put-here : spanAt s after count ≡ inner s t
+      put-here = λ i. part s (put-start i) (put-stop i)
+
+      still : Kept count before after
+      still = rw e (item-kept before count a b)
+
+      spans-more : earlier s after 0 (count + 1) ≡ inner s t ∷ earlier s before 0 count
+      spans-more =
+          let c = latest-same (spanAt s after) (spanAt s before) count (λ j l i. part s (first-kept count before after still j l i) (second-kept count before after still j l i)) in
+          let y : count + 1 - 0 ≡ count + 1 = omega arith in
+          let z : count - 0 ≡ count = omega arith in
+          rw (y, z) (latest-more (spanAt s after) count ∙ rw (put-here, c))
+
+      lies : (i : ℕ) → Dec (i < count) → i < count + 1 → Within s (firstOf after i) (secondOf after i)
+      lies i (yes l) m =
+          let w = room .spans .within i (omega arith) l in
+          rw (first-kept count before after still i l, second-kept count before after still i l) w
+      lies i (no n) m =
+          let z : i ≡ count = omega arith in
+          let q = room .quoted in
+          rw (z, put-start, put-stop) (record { order = omega arith; inside = omega arith })
+
+      kept : (next : ℕ) → next ≤ length s → StringKept s number count pool after (t .end - 1 - (t .start + 1)) next
+      kept next m =
+          let f = room .few in
+          let g = room .quoted in
+          let n : length after ≡ 32 = rw (e, length-set, length-set) long in
+          record {
+            few = f;
+            records = room .records;
+            bytes = l;
+            long = sym size-is ∙ ap length (sym put-here);
+            spans = record { room = omega arith; within = λ i x y. lies i (decLt i count) y };
+            inside = m;
+          }
+
+      pub keep-comma : u .sort ≡ comma → Reads after (stringRead.More (t .end - 1 - (t .start + 1)) (u .end))
+      unfolding keptString
+      keep-comma c =
+          record {
+            is = rw (← h, k, size-is, le-ltb poolLimit (pool + (t .end - 1 - (t .start + 1))) l, ← tok .is, eq-eqb (u .sort) comma c, put-here, spans-more);
+            kept = still;
+            past = kept (u .end) (tok .inside);
+          }
+
+      pub keep-end : (u .sort ≡ comma → ⊥) → Reads after (stringRead.Last (t .end - 1 - (t .start + 1)) (t .end))
+      unfolding keptString
+      keep-end n =
+          record {
+            is = rw (← h, k, size-is, le-ltb poolLimit (pool + (t .end - 1 - (t .start + 1))) l, ← tok .is, ne-eqb (u .sort) comma n, put-here);
+            kept = still;
+            past = kept (t .end) (room .quoted .inside);
+          }
+
+-- a list from a string on
+strings-step : (s : List ℕ) (number count pool at : ℕ) (seen : List (List ℕ)) → count ≤ itemLimit
+    → andThen (roomy (λ t. t .start) number count (startString s at)) (λ t p. keptString s number count pool seen t p) ≡ strings s (itemLimit - count) number pool seen at
+unfolding strings keptString
+strings-step s number count pool at seen l = by (eqb count itemLimit) refl
+  where
+    go : Token → ℕ → Reading (List Text)
+    go t p = keptString s number count pool seen t p
+
+    by : (b : Bool) → eqb count itemLimit ≡ b → andThen (roomy (λ t. t .start) number count (startString s at)) go ≡ strings s (itemLimit - count) number pool seen at
+    by true e =
+        let c = eqb-true count itemLimit e in
+        let z : itemLimit - count ≡ zero = omega arith in
+        rw z (roomy-none (λ t. t .start) number count go (startString s at) e)
+    by false e =
+        let c = eqb-false count itemLimit e in
+        let z : itemLimit - count ≡ suc (itemLimit - (count + 1)) = omega arith in
+        rw z (roomy-some (λ t. t .start) number count go (startString s at) e)
+
+module _ (s : List ℕ) (number count pool at : ℕ) (before : List ℕ) (d : StringRoom s number count pool at before) (r : Expected) (e : StringStartIs s number count at r) where
+  abbrev Steps : List ℕ → StringRead → Type 0
+  Steps after o = StringIs s number count pool (strings s (itemLimit - count) number pool (earlier s before 0 count) at) before after o
+
+  step : andThen (tokenReading r) (λ t p. keptString s number count pool (earlier s before 0 count) t p) ≡ strings s (itemLimit - count) number pool (earlier s before 0 count) at
+  step = rw (e .is) (strings-step s number count pool at (earlier s before 0 count) (d .before .few))
+
+  pub step-faulty : (x : Refusal) → r ≡ Fault x → Steps before (stringRead.Faulty x)
+  step-faulty x g = record { is = rw g at step; kept = all-kept before count; past = tt }
+
+  module _ (t : Token) (g : r ≡ Taken t) where
+    pub step-room : KeepString s number count pool t before
+    step-room =
+        let p : StringStartPast s number count (Taken t) = rw g at (e .past) in
+        record { quoted = p .0; few = p .1; records = p .2; short = d .short; bytes = d .bytes; spans = d .spans }
+
+    pub step-kept : (after : List ℕ) (o : StringRead) → StringIs s number count pool (keptString s number count pool (earlier s before 0 count) t (t .end)) before after o → Steps after o
+    step-kept after o b = record { is = b .is ∙ rw g at step; kept = b .kept; past = b .past }
+
+-- strings before the others of a list
+abbrev withTexts : List Text → Reading (List Text) → Reading (List Text)
+withTexts xs r = andThen r (λ l p. got (xs ++ l) p)
+
+with-text : (xs : List Text) (x : Text) (r : Reading (List Text)) → withTexts xs (withText x r) ≡ withTexts (xs ++ (x ∷ [])) r
+with-text xs x (refused y) = refl
+with-text xs x (got l p) = let h = append-assoc xs (x ∷ []) l in λ i. got (sym h i) p
+
+with-none : (r : Reading (List Text)) → withTexts [] r ≡ r
+with-none (refused y) = refl
+with-none (got l p) = refl
+
+pool-more : (xs : List Text) (x : Text) → length (textPool (xs ++ (x ∷ []))) ≡ length (textPool xs) + length (x .text)
+pool-more [] x = simp length-append (omega arith)
+pool-more (y ∷ ys) x = let h = pool-more ys x in simp length-append (omega arith)
+
+-- so many strings are in the scratch, and the list goes on at a place
+pub record InStrings (s : List ℕ) (number pool from : ℕ) (scratch : List ℕ) (bytes count at : ℕ) : Type 0 where
+  pub inside : at ≤ length s
+  pub short : length s ≤ textLimit
+  pub few : count ≤ itemLimit
+  pub records : number + count ≤ recordLimit
+  pub spans : SpansIn s scratch 0 count
+  pub most : bytes ≤ poolLimit
+  pub sum : bytes ≡ pool + length (textPool (itemsFrom (textAt s scratch) number 0 count))
+  pub is : withTexts (itemsFrom (textAt s scratch) number 0 count) (strings s (itemLimit - count) (number + count) bytes (earlier s scratch 0 count) at) ≡ strings s itemLimit number pool [] from
+
+pub strings-start : (s : List ℕ) (number pool from : ℕ) (scratch : List ℕ) → LeafRoom s number pool from → InStrings s number pool from scratch pool 0 from
+unfolding itemsFrom latest
+strings-start s number pool from scratch h =
+    let e : number + 0 ≡ number = omega arith in
+    let r = h .records in
+    record {
+      inside = h .inside;
+      short = h .short;
+      few = omega arith;
+      records = omega arith;
+      spans = record { room = omega arith; within = λ i a b. absurd (omega arith) };
+      most = h .bytes;
+      sum = omega arith;
+      is = rw e (with-none (strings s itemLimit number pool [] from));
+    }
+
+module _ (s : List ℕ) (number pool from : ℕ) (before : List ℕ) (bytes count at : ℕ) (inv : InStrings s number pool from before bytes count at) where
+  pub strings-room : StringRoom s (number + count) count bytes at before
+  strings-room = record { before = record { inside = inv .inside; few = inv .few; records = inv .records }; short = inv .short; bytes = inv .most; spans = inv .spans }
+
+  module _ (after : List ℕ) (r : StringRead) (e : StringIs s (number + count) count bytes (strings s (itemLimit - count) (number + count) bytes (earlier s before 0 count) at) before after r) where
+    same-items : itemsFrom (textAt s after) number 0 count ≡ itemsFrom (textAt s before) number 0 count
+    same-items =
+        items-same (textAt s after) (textAt s before) number 0 count
+        (λ m j l i. record { number = m; text = part s (first-kept count before after (e .kept) j (omega arith) i) (second-kept count before after (e .kept) j (omega arith) i) })
+
+    whole : withTexts (itemsFrom (textAt s after) number 0 count) (stringReading s (number + count) count bytes after r) ≡ strings s itemLimit number pool [] from
+    whole = rw (same-items, e .is) (inv .is)
+
+    pub strings-faulty : (x : Refusal) → r ≡ stringRead.Faulty x → StringsIs s number pool from after (stringsRead.Faulty x)
+    strings-faulty x g = record { is = rw g at whole; past = tt }
+
+    more : itemsFrom (textAt s after) number 0 (count + 1) ≡ itemsFrom (textAt s after) number 0 count ++ (textAt s after (number + count) count ∷ [])
+    more = items-last (textAt s after) number count
+
+    sum-more : (size : ℕ) → size ≡ length (spanAt s after count) → bytes + size ≡ pool + length (textPool (itemsFrom (textAt s after) number 0 (count + 1)))
+    sum-more size z =
+        let h = pool-more (itemsFrom (textAt s after) number 0 count) (textAt s after (number + count) count) in
+        let k : bytes ≡ pool + length (textPool (itemsFrom (textAt s after) number 0 count)) = rw same-items (inv .sum) in
+        rw (more, h) (omega arith)
+
+    pub strings-last : (size p : ℕ) → r ≡ stringRead.Last size p → StringsIs s number pool from after (stringsRead.Strings (count + 1) p)
+    strings-last size p g =
+        let q : StringKept s (number + count) count bytes after size p = rw g at (e .past) in
+        let z = sum-more size (q .long) in
+        record {
+          is = rw more (rw g at whole);
+          past = record { some = omega arith; few = omega arith; records = omega arith; spans = q .spans; bytes = omega arith };
+        }
+
+    pub strings-more : (size p : ℕ) → r ≡ stringRead.More size p → InStrings s number pool from after (bytes + size) (count + 1) p
+    strings-more size p g =
+        let q : StringKept s (number + count) count bytes after size p = rw g at (e .past) in
+        let w = rw g at whole in
+        let m : number + (count + 1) ≡ number + count + 1 = omega arith in
+        let n = with-text (itemsFrom (textAt s after) number 0 count) (textAt s after (number + count) count) (strings s (itemLimit - (count + 1)) (number + count + 1) (bytes + size) (earlier s after 0 (count + 1)) p) in
+        record {
+          inside = q .inside;
+          short = inv .short;
+          few = omega arith;
+          records = omega arith;
+          spans = q .spans;
+          most = q .bytes;
+          sum = sum-more size (q .long);
+          is = rw (m, more) (sym n ∙ w);
+        }
+
+    pub strings-less : (size p : ℕ) → r ≡ stringRead.More size p → itemLimit - (count + 1) < itemLimit - count
+    strings-less size p g = let q : StringKept s (number + count) count bytes after size p = rw g at (e .past) in omega arith
+
+    pub strings-fits : (size p : ℕ) → r ≡ stringRead.More size p → bytes + size ≤ poolLimit
+    strings-fits size p g = let q : StringKept s (number + count) count bytes after size p = rw g at (e .past) in q .bytes

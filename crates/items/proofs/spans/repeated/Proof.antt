@@ -1,0 +1,105 @@
+-- `items::spans::repeated` meets its contract. Assumes nothing.
+use borrow.Author.Needs.{needs}
+use Prim.Native.Nat.{_+_, _-_}
+use native.Mathlib.Omega.{arith}
+use Rattle.items.proofs.SpanSteps.{InNames, InLetters, names-start, names-end, names-room, names-in, letters-differ, letters-end, letters-on, letters-less}
+use Rattle.items.proofs.SpanSteps as steps
+use Rattle.items.proofs.spans.repeated.Statement.{statement}
+use Rattle.items.proofs.spans.repeated.Tie as tie
+
+abbrev Inv-loop : tie.InvT-loop
+Inv-loop s spans first end start stop n again₀ k from to i₀ again i = InLetters s spans first end start stop n from to i again
+
+abbrev μ-loop : tie.MeasureT-loop
+μ-loop s spans first end start stop n again₀ k from to i₀ again i = stop - (start + i)
+
+abbrev Inv-names : tie.InvT-names
+Inv-names s spans first end start stop n₀ again₀ n again = InNames s spans first end start stop n again
+
+abbrev μ-names : tie.MeasureT-names
+μ-names s spans first end start stop n₀ again₀ n again = n
+
+names-holds : tie.Need-names-holds Inv-loop μ-loop Inv-names μ-names
+names-holds c = search names-start
+
+sub-k : tie.Need-sub-k Inv-loop μ-loop Inv-names μ-names
+sub-k c = search needs
+
+mul-number : tie.Need-mul-number Inv-loop μ-loop Inv-names μ-names
+mul-number c = let h = names-room _ _ _ _ _ _ _ _ (c .before .names .inv) (c .names-test .taken) in omega arith
+
+number-requires : tie.Need-number-requires Inv-loop μ-loop Inv-names μ-names
+number-requires c κs = let h = names-room _ _ _ _ _ _ _ _ (c .before .names .inv) (c .names-test .taken) in omega arith
+
+mul-number-2 : tie.Need-mul-number-2 Inv-loop μ-loop Inv-names μ-names
+mul-number-2 c = let h = names-room _ _ _ _ _ _ _ _ (c .before .before .names .inv) (c .before .names-test .taken) in omega arith
+
+add-number : tie.Need-add-number Inv-loop μ-loop Inv-names μ-names
+add-number c = let h = names-room _ _ _ _ _ _ _ _ (c .before .before .names .inv) (c .before .names-test .taken) in omega arith
+
+number-requires-2 : tie.Need-number-requires-2 Inv-loop μ-loop Inv-names μ-names
+number-requires-2 c κs = let h = names-room _ _ _ _ _ _ _ _ (c .before .before .names .inv) (c .before .names-test .taken) in omega arith
+
+loop-holds : tie.Need-loop-holds Inv-loop μ-loop Inv-names μ-names
+loop-holds c = search names-in
+
+add-letter : tie.Need-add-letter Inv-loop μ-loop Inv-names μ-names
+add-letter c = search needs
+
+letter-requires : tie.Need-letter-requires Inv-loop μ-loop Inv-names μ-names
+letter-requires c κs = search needs
+
+add-letter-2 : tie.Need-add-letter-2 Inv-loop μ-loop Inv-names μ-names
+add-letter-2 c = search needs
+
+letter-requires-2 : tie.Need-letter-requires-2 Inv-loop μ-loop Inv-names μ-names
+letter-requires-2 c κs = search needs
+
+add-i : tie.Need-add-i Inv-loop μ-loop Inv-names μ-names
+add-i c = search needs
+
+loop-less : tie.Need-loop-less Inv-loop μ-loop Inv-names μ-names
+loop-less c = letters-less _ _ _ _ _ _ _ _ _ _ _ (c .before .before .before .before .loop .inv) _ _ (c .before .before .before .letter .ensures) (c .before .before .letter2 .ensures) (c .before .if1 .left) (c .if2 .left)
+
+loop-again : tie.Need-loop-again Inv-loop μ-loop Inv-names μ-names
+loop-again c = letters-on _ _ _ _ _ _ _ _ _ _ _ (c .before .before .before .before .loop .inv) _ _ (c .before .before .before .letter .ensures) (c .before .before .letter2 .ensures) (c .before .if1 .left) (c .if2 .left)
+
+names-less : tie.Need-names-less Inv-loop μ-loop Inv-names μ-names
+names-less c = steps.names-less _ _ _ _ _ _ _ _ _ _ _ (c .before .before .before .loop .inv) _ _ (c .before .before .letter .ensures) (c .before .letter2 .ensures)
+
+names-again : tie.Need-names-again Inv-loop μ-loop Inv-names μ-names
+names-again c = letters-differ _ _ _ _ _ _ _ _ _ _ _ (c .before .before .before .loop .inv) _ _ (c .before .before .letter .ensures) (c .before .letter2 .ensures) (c .if1 .taken)
+
+returns : tie.Need-returns Inv-loop μ-loop Inv-names μ-names
+returns c = search names-end
+
+returns-2 : tie.Need-returns-2 Inv-loop μ-loop Inv-names μ-names
+returns-2 c = letters-end _ _ _ _ _ _ _ _ _ _ _ (c .before .before .before .before .loop .inv) _ _ (c .before .before .before .letter .ensures) (c .before .before .letter2 .ensures) (c .before .if1 .left) (c .if2 .taken)
+
+pub repeated-spec : {M : Type 1} → statement M
+repeated-spec =
+    tie.close
+    (tie.spec
+    Inv-loop
+    μ-loop
+    Inv-names
+    μ-names
+    names-holds
+    sub-k
+    mul-number
+    number-requires
+    mul-number-2
+    add-number
+    number-requires-2
+    loop-holds
+    add-letter
+    letter-requires
+    add-letter-2
+    letter-requires-2
+    add-i
+    loop-less
+    loop-again
+    names-less
+    names-again
+    returns
+    returns-2)

@@ -1,0 +1,187 @@
+// Lists of strings.
+use crate::limits::ITEM_LIMIT;
+use crate::limits::POOL_LIMIT;
+use crate::limits::RECORD_LIMIT;
+use crate::limits::STRING_LIMIT;
+use crate::spans::put;
+use crate::spans::repeated;
+use lexis::COMMA;
+use lexis::STRING;
+use lexis::Token;
+use lexis::tokens::token_at;
+use refusals::Cause;
+use refusals::Refusal;
+use refusals::steps::Expected;
+use refusals::steps::expect;
+use refusals::steps::too_long;
+ghost use mathlib.Core.Path.{_≡_};
+ghost use Prim.Native.Nat.{_-_, _≤_};
+ghost use lib.ListN.{length};
+ghost use Rattle.lexis.specs.Tokens.{string};
+ghost use Rattle.lexis.specs.declared.Token.{Token};
+ghost use Rattle.refusals.specs.Limits.{textLimit, itemLimit};
+ghost use Rattle.refusals.specs.Answers.{ExpectIs};
+ghost use Rattle.items.specs.Spans.{earlier};
+ghost use Rattle.items.specs.Strings.{startString, strings};
+ghost use Rattle.items.specs.Answers.{Before, StringStartIs, keptString, StringRoom, KeepString, StringIs, LeafRoom, StringsIs};
+
+// The bytes of a string's two quotes.
+const QUOTES: usize = 2;
+
+// A string that is in the scratch, with the number of its bytes: the last, or one with a comma and more behind it; or a refusal.
+pub enum StringRead {
+    Faulty(Refusal),
+    Last { size: usize, next: usize },
+    More { size: usize, next: usize },
+}
+
+// The number of a list's strings and the place behind it, or its refusal.
+pub enum StringsRead {
+    Faulty(Refusal),
+    Strings { count: usize, next: usize },
+}
+
+// A place of the text, as a number of the scratch.
+fn narrow(place: usize) -> u32
+    requires { ⌜ place ≤ textLimit ⌝ }
+    ensures { λ r. ⌜ r ≡ place ⌝ }
+{
+    place as u32
+}
+
+// A string that is not too long.
+fn start_string(s: &[u8], from: usize) -> Expected
+    requires { ⌜ from ≤ length (now s) ⌝ }
+    ensures { λ r. ⌜ ExpectIs (now (s .entry)) string from (startString (now (s .entry)) from) r ⌝ }
+{
+    match expect(s, STRING, from) {
+        Expected::Fault(fault) => {
+            return Expected::Fault(fault);
+        }
+        Expected::Taken(t) => {
+            if STRING_LIMIT + QUOTES < t.end - t.start {
+                let fault = too_long(t);
+                return Expected::Fault(fault);
+            }
+            return Expected::Taken(t);
+        }
+    }
+}
+
+// The same, if there is room for one more item and one more record.
+fn roomy_string(s: &[u8], number: usize, count: usize, from: usize) -> Expected
+    requires { ⌜ Before (now s) number count from ⌝ }
+    ensures { λ r. ⌜ StringStartIs (now (s .entry)) number count from r ⌝ }
+{
+    match start_string(s, from) {
+        Expected::Fault(fault) => {
+            return Expected::Fault(fault);
+        }
+        Expected::Taken(t) => {
+            if count == ITEM_LIMIT {
+                return Expected::Fault(Refusal {
+                    cause: Cause::TooManyItems,
+                    place: t.start,
+                });
+            }
+            if number == RECORD_LIMIT {
+                return Expected::Fault(Refusal {
+                    cause: Cause::TooManyRecords,
+                    place: t.start,
+                });
+            }
+            return Expected::Taken(t);
+        }
+    }
+}
+
+// Puts a string's places into the scratch, if no earlier one is equal and the pool has room, and looks for a comma behind it.
+fn keep_string(
+    s: &[u8],
+    number: usize,
+    count: usize,
+    pool: usize,
+    t: Token,
+    scratch: &mut [u32; 32],
+) -> StringRead
+    requires { ⌜ KeepString (now s) number count pool t (now scratch) ⌝ }
+    ensures { λ r. ⌜ StringIs (now (s .entry)) number count pool (keptString (now (s .entry)) number count pool (earlier (now (s .entry)) (now (scratch .entry)) 0 count) t (t .end)) (now (scratch .entry)) (now (scratch .exit)) r ⌝ }
+{
+    let start = t.start + 1;
+    let stop = t.end - 1;
+    if repeated(s, scratch, 0, count, start, stop) {
+        return StringRead::Faulty(Refusal {
+            cause: Cause::Overlap,
+            place: t.start,
+        });
+    }
+    let size = stop - start;
+    if POOL_LIMIT < pool + size {
+        return StringRead::Faulty(Refusal {
+            cause: Cause::PoolTooLarge,
+            place: t.start,
+        });
+    }
+    put(scratch, count, narrow(start), narrow(stop));
+    let u = token_at(s, t.end);
+    if u.sort == COMMA {
+        return StringRead::More { size, next: u.end };
+    }
+    StringRead::Last { size, next: t.end }
+}
+
+// A string of a list behind so many others.
+fn string_item(
+    s: &[u8],
+    number: usize,
+    count: usize,
+    pool: usize,
+    from: usize,
+    scratch: &mut [u32; 32],
+) -> StringRead
+    requires { ⌜ StringRoom (now s) number count pool from (now scratch) ⌝ }
+    ensures { λ r. ⌜ StringIs (now (s .entry)) number count pool (strings (now (s .entry)) (itemLimit - count) number pool (earlier (now (s .entry)) (now (scratch .entry)) 0 count) from) (now (scratch .entry)) (now (scratch .exit)) r ⌝ }
+{
+    match roomy_string(s, number, count, from) {
+        Expected::Fault(fault) => {
+            return StringRead::Faulty(fault);
+        }
+        Expected::Taken(t) => {
+            return keep_string(s, number, count, pool, t, scratch);
+        }
+    }
+}
+
+// The strings of a list.
+pub fn read_strings(
+    s: &[u8],
+    number: usize,
+    pool: usize,
+    from: usize,
+    scratch: &mut [u32; 32],
+) -> StringsRead
+    requires { ⌜ LeafRoom (now s) number pool from ⌝ }
+    ensures { λ r. ⌜ StringsIs (now (s .entry)) number pool from (now (scratch .exit)) r ⌝ }
+{
+    let mut bytes = pool;
+    let mut count: usize = 0;
+    let mut at = from;
+    loop {
+        match string_item(s, number + count, count, bytes, at, scratch) {
+            StringRead::Faulty(fault) => {
+                return StringsRead::Faulty(fault);
+            }
+            StringRead::Last { size: _, next } => {
+                return StringsRead::Strings {
+                    count: count + 1,
+                    next,
+                };
+            }
+            StringRead::More { size, next } => {
+                bytes += size;
+                count += 1;
+                at = next;
+            }
+        }
+    }
+}

@@ -1,0 +1,14 @@
+-- `refusals::steps::syntax_fault` meets its contract. Assumes nothing.
+use borrow.Author.Needs.{needs}
+use Rattle.refusals.proofs.StepLaws.{fault-is}
+use Rattle.refusals.proofs.steps.syntax_fault.Statement.{statement}
+use Rattle.refusals.proofs.steps.syntax_fault.Tie as tie
+
+syntax-cause-requires : tie.Need-syntax-cause-requires
+syntax-cause-requires c κs = search needs
+
+returns : tie.Need-returns
+returns c = search fault-is
+
+pub syntax-fault-spec : {M : Type 1} → statement M
+syntax-fault-spec = tie.close (tie.spec syntax-cause-requires returns)
