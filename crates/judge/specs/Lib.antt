@@ -1,1 +1,4 @@
 pub mod Answer
+pub mod Items
+pub mod Answers
+pub mod Walking

@@ -1,0 +1,176 @@
+-- Steps of the walk: a block's type, then its attributes in table order. Assumes nothing.
+use mathlib.Core.Path.{_≡_, refl, sym, ap, _∙_}
+use mathlib.Core.Bool.{Bool, true, false, not, cond, false≢true}
+use mathlib.Core.List.{List, [], _∷_}
+use Prim.Native.Nat.{ℕ, zero, suc, _+_, _-_, _≤_, _<_}
+use native.Mathlib.Omega.{arith}
+use lib.Dec.{eqb, lit<}
+use lib.ListN.{length, take, drop}
+use borrow.Author.Tests.{not-true, not-false, eq-eqb, ne-eqb}
+use Rattle.lexis.specs.Runs.{part, same}
+use Rattle.values.proofs.Common.{by-order}
+use Rattle.meaning.specs.Constraints.{attribute}
+use Rattle.meaning.specs.Data.{Datum, datum, Members}
+use Rattle.meaning.specs.Verdicts.{valid, fails}
+use Rattle.meaning.specs.Verdicts
+use Rattle.meaning.specs.Judging.{andThen, typeSuits, judge, judgeAttributes, judgeValue}
+use Rattle.table.specs.Records.{field}
+use Rattle.table.specs.Rows.{rowOf}
+use Rattle.table.specs.Check.{kindAt}
+use Rattle.table.specs.Trees.{attributesIn, treeAt}
+use Rattle.table.specs.Answers.{recordOf}
+use Rattle.table.specs.declared.records.Entry.{Entry}
+use Rattle.table.specs.declared.records.RecordNumber.{RecordNumber}
+use Rattle.table.proofs.UseLaws.{LinkRight}
+use Rattle.judge.specs.Items.{recordIn, nameOf, Lies, tableOf, TableGood}
+use Rattle.judge.specs.Answers.{verdictIn}
+use Rattle.judge.specs.Walking.{typeOn, membersOn, datumOn, Begins, BlockGood, DatumWithin, MembersWithin, judgeFirst, Walk, AttributeAt, blockUnder, stepVerdict, Leads, AttributeIs, Under}
+use Rattle.judge.specs.declared.members.Block.{Block}
+use Rattle.judge.specs.declared.attributes.Verdict.{Verdict}
+use Rattle.judge.specs.declared.attributes.Verdict.the-variants.{Valid, Fails}
+use Rattle.judge.specs.declared.attributes.Step.{Step}
+use Rattle.judge.specs.declared.attributes.Step.the-variants.{Told, Nested}
+use Rattle.judge.proofs.TableLaws.{by-kind, number-lies, link-there, name-there, object-tree, attribute-tree}
+use Rattle.judge.proofs.ItemSteps.{left}
+
+-- a type that is not written suits, and one that is if it is the object's
+module _ (s t : List ℕ) (start end : ℕ) where
+  pub type-none : end ≡ 0 → true ≡ typeSuits t (typeOn s start end)
+  type-none h = rw h
+
+  pub type-same : (w : List ℕ) (r : Bool) → w ≡ t → r ≡ same w (take (end - start) (drop start s)) → (end ≡ 0 → ⊥) → r ≡ typeSuits t (typeOn s start end)
+  type-same w r ew er h = rw (ne-eqb end 0 h, ← ew) er
+
+-- a datum of at most so many levels: there is one, and its members have one less
+abbrev members-of : Datum → Members
+members-of (datum p t ms) = ms
+
+pub within-less : (d : Datum) (levels : ℕ) → DatumWithin d levels → (0 < levels) × MembersWithin (members-of d) (levels - 1)
+unfolding DatumWithin
+within-less (datum p t ms) zero h = absurd h
+within-less (datum p t ms) (suc levels) h = let e : suc levels - 1 ≡ levels = omega arith in (omega arith, rw e h)
+
+-- a link that leads up, or is 0
+link-kind : (records pool : List ℕ) → TableGood records pool → (n k i j : ℕ) → kindAt (tableOf records pool) n ≡ k → (0 < field (recordIn records n) i → LinkRight (tableOf records pool) n (j ∷ []) (field (recordIn records n) i))
+    → 0 < field (recordIn records n) i → kindAt (tableOf records pool) (field (recordIn records n) i) ≡ j
+link-kind records pool t n k i j e l h = by-kind (kindAt (tableOf records pool) (field (recordIn records n) i)) j [] (l h .kind) (λ y. y) (λ y. absurd (false≢true y))
+
+-- at attribute n of the walk from `first` on
+pub record InAttributes (records pool s tape : List ℕ) (rows levels : ℕ) (b : Block) (first n : ℕ) : Type 0 where
+  pub walk : Walk records pool s tape rows
+  pub good : BlockGood (length s) rows b
+  pub within : DatumWithin (datumOn s rows tape b) levels
+  pub kind : 0 < n → kindAt (tableOf records pool) n ≡ 2
+  pub is : judgeAttributes (attributesIn (treeAt (tableOf records pool) n)) (b .place) (membersOn s rows tape b) ≡ judgeAttributes (attributesIn (treeAt (tableOf records pool) first)) (b .place) (membersOn s rows tape b)
+
+-- a block under an object
+module _ (records pool s tape : List ℕ) (rows levels : ℕ) (object : RecordNumber) (b : Block) (u : Under records pool s tape rows levels (object .0) b) where
+  pub object-lies : Lies records (object .0)
+  object-lies = number-lies records pool (u .walk .checked) (object .0) 1 (u .kind) (omega arith)
+
+  module _ (e : Entry) (q : recordOf e ≡ recordIn records (object .0)) where
+    pub object-name : e .a + e .b ≤ length pool
+    object-name = rw (← q) at (name-there records pool (u .walk .checked) (object .0) 1 (u .kind) (omega arith) refl)
+
+    module _ (r : Bool) (er : r ≡ typeSuits (nameOf pool (recordOf e)) (typeOn s (b .«type_start») (b .«type_end»))) where
+      block-is : cond r (judgeAttributes (attributesIn (treeAt (tableOf records pool) (e .e))) (b .place) (membersOn s rows tape b)) (fails 21 (object .0) (b .place)) ≡ blockUnder (tableOf records pool) s rows tape (object .0) b
+      unfolding judgeValue judge
+      block-is = rw (object-tree records pool (u .walk .checked) (object .0) (u .kind), ← q, er)
+
+      pub type-differs : not r ≡ true → fails 21 (object .0) (b .place) ≡ blockUnder (tableOf records pool) s rows tape (object .0) b
+      type-differs h = rw (not-true r h) at block-is
+
+      -- a type that suits leaves the attributes
+      pub type-suits : not r ≡ false → (v : Verdicts.Verdict) → v ≡ judgeAttributes (attributesIn (treeAt (tableOf records pool) (e .e))) (b .place) (membersOn s rows tape b) → v ≡ blockUnder (tableOf records pool) s rows tape (object .0) b
+      type-suits h v ev = ev ∙ (rw (not-false r h) at block-is)
+
+    pub attributes-start : InAttributes records pool s tape rows levels b (e .e) (e .e)
+    unfolding rowOf
+    attributes-start = record {
+      walk = u .walk;
+      good = u .good;
+      within = u .within;
+      kind = rw (← q) at (link-kind records pool (u .walk .checked) (object .0) 1 4 2 (u .kind) (link-there records pool (u .walk .checked) (object .0) 1 (u .kind) (omega arith) 4 (2 ∷ []) (lit< tt) refl));
+      is = refl;
+    }
+
+-- the attributes of a block
+module _ (records pool s tape : List ℕ) (rows levels : ℕ) (b : Block) (first n : ℕ) (i : InAttributes records pool s tape rows levels b first n) where
+  pub attributes-end : n ≡ 0 → valid ≡ judgeAttributes (attributesIn (treeAt (tableOf records pool) first)) (b .place) (membersOn s rows tape b)
+  unfolding judgeAttributes treeAt
+  attributes-end z = rw z at (i .is)
+
+  pub levels-some : 1 ≤ levels
+  levels-some = within-less (datumOn s rows tape b) levels (i .within) .0
+
+  pub levels-fall : (t : ℕ) → levels ≡ t → levels - 1 < t
+  levels-fall t h = let l = levels-some in omega arith
+
+  -- at an attribute
+  module _ (z : n ≡ 0 → ⊥) where
+    pub attribute-lies : Lies records n
+    attribute-lies = number-lies records pool (i .walk .checked) n 2 (i .kind (omega arith)) (omega arith)
+
+    -- one that fails is told
+    first-fails : (v : Verdict) (reason place : ℕ) («record» : RecordNumber) → v ≡ Fails reason «record» place → verdictIn v ≡ judgeFirst (attributesIn (treeAt (tableOf records pool) n)) (b .place) (membersOn s rows tape b)
+        → verdictIn v ≡ judgeAttributes (attributesIn (treeAt (tableOf records pool) first)) (b .place) (membersOn s rows tape b)
+    unfolding judgeAttributes
+    first-fails v reason place «record» ev ef =
+        let t = attribute-tree records pool (i .walk .checked) n (i .kind (omega arith)) in
+        fails-first _ _ (rw t at ef) ∙ (rw t at (i .is))
+      where
+        fails-first : (x y : Verdicts.Verdict) → verdictIn v ≡ x → verdictIn v ≡ andThen x y
+        fails-first x y h = rw (← h, ev)
+
+    module _ (a : Entry) (qa : recordOf a ≡ recordIn records n) where
+      pub attribute-at : AttributeAt records pool n a
+      attribute-at = record { kind = i .kind (omega arith); is = qa }
+
+      next-link : 0 < a .d → LinkRight (tableOf records pool) n (2 ∷ []) (a .d)
+      unfolding rowOf
+      next-link = rw (← qa) at (link-there records pool (i .walk .checked) n 2 (i .kind (omega arith)) (omega arith) 3 (2 ∷ []) (lit< tt) refl)
+
+      pub attribute-less : left records (a .d) < left records n
+      attribute-less =
+          let l = attribute-lies in
+          rw (ne-eqb n 0 z)
+          (by-order (a .d) 0
+          (λ k. let y : a .d ≡ 0 = omega arith in rw y (omega arith))
+          (λ k. let x = next-link k .above in rw (ne-eqb (a .d) 0 (λ y. omega arith)) (omega arith)))
+
+      -- one that holds leads to the next
+      first-holds : valid ≡ judgeFirst (attributesIn (treeAt (tableOf records pool) n)) (b .place) (membersOn s rows tape b) → InAttributes records pool s tape rows levels b first (a .d)
+      unfolding judgeAttributes
+      first-holds ef =
+          let t = attribute-tree records pool (i .walk .checked) n (i .kind (omega arith)) in
+          record {
+            walk = i .walk;
+            good = i .good;
+            within = i .within;
+            kind = λ h. by-kind (kindAt (tableOf records pool) (a .d)) 2 [] (next-link h .kind) (λ y. y) (λ y. absurd (false≢true y));
+            is = valid-first _ _ (rw (t, ← qa) at ef) ∙ (rw (t, ← qa) at (i .is));
+          }
+        where
+          valid-first : (x y : Verdicts.Verdict) → valid ≡ x → y ≡ andThen x y
+          valid-first x y h = rw (← h)
+
+      module _ (step : Step) (ar : AttributeIs (tableOf records pool) s rows tape n b step) where
+        pub told-valid : (v : Verdict) → step ≡ Told v → v ≡ Valid → InAttributes records pool s tape rows levels b first (a .d)
+        told-valid v h k = first-holds (ap verdictIn (sym k) ∙ (rw h at (ar .is)))
+
+        pub told-fails : (v : Verdict) (reason place : ℕ) («record» : RecordNumber) → step ≡ Told v → v ≡ Fails reason «record» place → fails reason («record» .0) place ≡ judgeAttributes (attributesIn (treeAt (tableOf records pool) first)) (b .place) (membersOn s rows tape b)
+        told-fails v reason place «record» h k = ap verdictIn (sym k) ∙ first-fails v reason place «record» k (rw h at (ar .is))
+
+        module _ (inner : RecordNumber) (part : Block) (h : step ≡ Nested inner part) where
+          leads : Leads (tableOf records pool) s rows tape (λ l. MembersWithin (membersOn s rows tape b) l) (Nested inner part)
+          leads = rw h at (ar .leads)
+
+          pub nested-under : Under records pool s tape rows (levels - 1) (inner .0) part
+          nested-under = record { walk = i .walk; kind = leads .0; good = leads .1; within = leads .2 (levels - 1) (within-less (datumOn s rows tape b) levels (i .within) .1) }
+
+          module _ (v : Verdict) (ev : verdictIn v ≡ blockUnder (tableOf records pool) s rows tape (inner .0) part) where
+            pub nested-valid : v ≡ Valid → InAttributes records pool s tape rows levels b first (a .d)
+            nested-valid k = first-holds (ap verdictIn (sym k) ∙ ev ∙ (rw h at (ar .is)))
+
+            pub nested-fails : (reason place : ℕ) («record» : RecordNumber) → v ≡ Fails reason «record» place → fails reason («record» .0) place ≡ judgeAttributes (attributesIn (treeAt (tableOf records pool) first)) (b .place) (membersOn s rows tape b)
+            nested-fails reason place «record» k = ap verdictIn (sym k) ∙ first-fails v reason place «record» k (ev ∙ (rw h at (ar .is)))

@@ -1,0 +1,331 @@
+-- `judge::walk::+judge_block` meets its contract. Assumes nothing.
+use borrow.Author.Needs.{needs}
+use Rattle.judge.proofs.WalkSteps.{InAttributes, object-lies, object-name, type-differs, type-suits, attributes-start, attributes-end, attribute-lies, attribute-at, attribute-less, told-valid, told-fails, levels-some, levels-fall, nested-under, nested-valid, nested-fails}
+use Rattle.judge.proofs.ItemSteps.{left}
+use Rattle.judge.proofs.WalkSteps.{InAttributes, object-lies, object-name, type-differs, attributes-start, attributes-end, attribute-lies, attribute-at, attribute-less, told-valid, told-fails, levels-some, levels-fall, nested-under, nested-valid, nested-fails}
+use Rattle.judge.proofs.WalkSteps.{InAttributes, object-lies, object-name, type-differs, attributes-start, attributes-end, attribute-lies, attribute-at, attribute-less, told-valid, told-fails, levels-some, nested-under, nested-valid, nested-fails}
+use Prim.Native.Nat.{ℕ, _<_}
+use borrow.Fn.Kinds.{In}
+use borrow.Fn.PlainCycle.{Measures, is, falls, and}
+use Rattle.judge.proofs.walk.judge_block.Reads as judge-block
+use Rattle.judge.proofs.walk.judge_block.Kinds as judge-block-kinds
+use Rattle.judge.proofs.walk.+judge_block.Lts-judge_block as judge-block-lts
+use Rattle.judge.proofs.admission.entry_at.Reads as entry-at-reads
+use Rattle.judge.proofs.attributes.judge_attribute.Reads as judge-attribute-reads
+use Rattle.judge.proofs.walk.type_suits.Reads as type-suits-reads
+use Rattle.judge.proofs.walk.+judge_block.{statement}
+use Rattle.judge.proofs.walk.+judge_block.Tie.{close}
+
+abbrev μ-judge-block : Measures 4 judge-block-kinds.ps ℕ
+μ-judge-block κs a = a .1 .1 .1 .1 .1 .0 
+
+abbrev judge-block-at : ℕ → In 4 judge-block-kinds.ps
+judge-block-at t =
+    and 4 judge-block-kinds.ps (is 4 judge-block-kinds.ps μ-judge-block t) judge-block.Pre
+
+abbrev judge-block-below : ℕ → In 4 judge-block-kinds.ps
+judge-block-below t =
+    and 4 judge-block-kinds.ps (falls 4 judge-block-kinds.ps _<_ μ-judge-block t) judge-block.Pre
+
+abbrev judge-block-Inv-loop : judge-block-lts.InvT-loop
+judge-block-Inv-loop records pool s tape rows levels block n₀ n = InAttributes records pool s tape rows levels block n₀ n 
+
+abbrev judge-block-μ-loop : judge-block-lts.MeasureT-loop
+judge-block-μ-loop records pool s tape rows levels block n₀ n = left records n 
+
+judge-block-entry-at-requires : (t : ℕ) → judge-block-lts.Need-entry-at-requires (
+  entry-at-reads.Asked,
+  entry-at-reads.Learnt,
+  type-suits-reads.Asked,
+  type-suits-reads.Learnt,
+  judge-attribute-reads.Asked,
+  judge-attribute-reads.Learnt,
+  judge-block-below t,
+  judge-block.Post,
+) (judge-block-at t) judge-block.Post judge-block-Inv-loop judge-block-μ-loop
+judge-block-entry-at-requires t c κs = search object-lies 
+
+judge-block-type-suits-requires : (t : ℕ) → judge-block-lts.Need-type-suits-requires (
+  entry-at-reads.Asked,
+  entry-at-reads.Learnt,
+  type-suits-reads.Asked,
+  type-suits-reads.Learnt,
+  judge-attribute-reads.Asked,
+  judge-attribute-reads.Learnt,
+  judge-block-below t,
+  judge-block.Post,
+) (judge-block-at t) judge-block.Post judge-block-Inv-loop judge-block-μ-loop
+judge-block-type-suits-requires t c κs = (search object-name, search needs) 
+
+judge-block-returns : (t : ℕ) → judge-block-lts.Need-returns (
+  entry-at-reads.Asked,
+  entry-at-reads.Learnt,
+  type-suits-reads.Asked,
+  type-suits-reads.Learnt,
+  judge-attribute-reads.Asked,
+  judge-attribute-reads.Learnt,
+  judge-block-below t,
+  judge-block.Post,
+) (judge-block-at t) judge-block.Post judge-block-Inv-loop judge-block-μ-loop
+judge-block-returns t c = search type-differs 
+
+judge-block-loop-holds : (t : ℕ) → judge-block-lts.Need-loop-holds (
+  entry-at-reads.Asked,
+  entry-at-reads.Learnt,
+  type-suits-reads.Asked,
+  type-suits-reads.Learnt,
+  judge-attribute-reads.Asked,
+  judge-attribute-reads.Learnt,
+  judge-block-below t,
+  judge-block.Post,
+) (judge-block-at t) judge-block.Post judge-block-Inv-loop judge-block-μ-loop
+judge-block-loop-holds t c = search attributes-start 
+
+judge-block-entry-at-requires-2 : (t : ℕ) → judge-block-lts.Need-entry-at-requires-2 (
+  entry-at-reads.Asked,
+  entry-at-reads.Learnt,
+  type-suits-reads.Asked,
+  type-suits-reads.Learnt,
+  judge-attribute-reads.Asked,
+  judge-attribute-reads.Learnt,
+  judge-block-below t,
+  judge-block.Post,
+) (judge-block-at t) judge-block.Post judge-block-Inv-loop judge-block-μ-loop
+judge-block-entry-at-requires-2 t c κs = search attribute-lies 
+
+judge-block-judge-attribute-requires : (t : ℕ) → judge-block-lts.Need-judge-attribute-requires (
+  entry-at-reads.Asked,
+  entry-at-reads.Learnt,
+  type-suits-reads.Asked,
+  type-suits-reads.Learnt,
+  judge-attribute-reads.Asked,
+  judge-attribute-reads.Learnt,
+  judge-block-below t,
+  judge-block.Post,
+) (judge-block-at t) judge-block.Post judge-block-Inv-loop judge-block-μ-loop
+judge-block-judge-attribute-requires t c κs = (search needs, (search attribute-at, search needs)) 
+
+judge-block-enum-known-v : (t : ℕ) → judge-block-lts.Need-enum-known-v (
+  entry-at-reads.Asked,
+  entry-at-reads.Learnt,
+  type-suits-reads.Asked,
+  type-suits-reads.Learnt,
+  judge-attribute-reads.Asked,
+  judge-attribute-reads.Learnt,
+  judge-block-below t,
+  judge-block.Post,
+) (judge-block-at t) judge-block.Post judge-block-Inv-loop judge-block-μ-loop
+judge-block-enum-known-v t c = search needs 
+
+judge-block-enum-told : (t : ℕ) → judge-block-lts.Need-enum-told (
+  entry-at-reads.Asked,
+  entry-at-reads.Learnt,
+  type-suits-reads.Asked,
+  type-suits-reads.Learnt,
+  judge-attribute-reads.Asked,
+  judge-attribute-reads.Learnt,
+  judge-block-below t,
+  judge-block.Post,
+) (judge-block-at t) judge-block.Post judge-block-Inv-loop judge-block-μ-loop
+judge-block-enum-told t c = search needs 
+
+judge-block-loop-less : (t : ℕ) → judge-block-lts.Need-loop-less (
+  entry-at-reads.Asked,
+  entry-at-reads.Learnt,
+  type-suits-reads.Asked,
+  type-suits-reads.Learnt,
+  judge-attribute-reads.Asked,
+  judge-attribute-reads.Learnt,
+  judge-block-below t,
+  judge-block.Post,
+) (judge-block-at t) judge-block.Post judge-block-Inv-loop judge-block-μ-loop
+judge-block-loop-less t c = search attribute-less 
+
+judge-block-loop-again : (t : ℕ) → judge-block-lts.Need-loop-again (
+  entry-at-reads.Asked,
+  entry-at-reads.Learnt,
+  type-suits-reads.Asked,
+  type-suits-reads.Learnt,
+  judge-attribute-reads.Asked,
+  judge-attribute-reads.Learnt,
+  judge-block-below t,
+  judge-block.Post,
+) (judge-block-at t) judge-block.Post judge-block-Inv-loop judge-block-μ-loop
+judge-block-loop-again t c = search told-valid 
+
+judge-block-enum-known-v-2 : (t : ℕ) → judge-block-lts.Need-enum-known-v-2 (
+  entry-at-reads.Asked,
+  entry-at-reads.Learnt,
+  type-suits-reads.Asked,
+  type-suits-reads.Learnt,
+  judge-attribute-reads.Asked,
+  judge-attribute-reads.Learnt,
+  judge-block-below t,
+  judge-block.Post,
+) (judge-block-at t) judge-block.Post judge-block-Inv-loop judge-block-μ-loop
+judge-block-enum-known-v-2 t c = search needs 
+
+judge-block-returns-2 : (t : ℕ) → judge-block-lts.Need-returns-2 (
+  entry-at-reads.Asked,
+  entry-at-reads.Learnt,
+  type-suits-reads.Asked,
+  type-suits-reads.Learnt,
+  judge-attribute-reads.Asked,
+  judge-attribute-reads.Learnt,
+  judge-block-below t,
+  judge-block.Post,
+) (judge-block-at t) judge-block.Post judge-block-Inv-loop judge-block-μ-loop
+judge-block-returns-2 t c =  
+    let l = c .before .before .before .before .before .before .before .before .before in
+    type-suits _ _ _ _ _ _ _ _ (l .before .before .before .before .before .before .before .before .pre .1) _ (l .before .before .before .entry-at .ensures) _ (l .before .before .type-suits .ensures) (l .before .if1 .left) _
+    (told-fails _ _ _ _ _ _ _ _ _ (l .loop .inv) (c .before .before .before .before .before .before .before .before .loop-test .taken) _ (c .before .before .before .before .before .before .before .entry-at2 .ensures) _ (c .before .before .before .before .before .before .judge-attribute .ensures) _ _ _ _ (c .before .before .before .before .v .given .1) (c .before .v2 .given .1))
+
+judge-block-enum-known-inner : (t : ℕ) → judge-block-lts.Need-enum-known-inner (
+  entry-at-reads.Asked,
+  entry-at-reads.Learnt,
+  type-suits-reads.Asked,
+  type-suits-reads.Learnt,
+  judge-attribute-reads.Asked,
+  judge-attribute-reads.Learnt,
+  judge-block-below t,
+  judge-block.Post,
+) (judge-block-at t) judge-block.Post judge-block-Inv-loop judge-block-μ-loop
+judge-block-enum-known-inner t c = search needs 
+
+judge-block-sub-judge-block : (t : ℕ) → judge-block-lts.Need-sub-judge-block (
+  entry-at-reads.Asked,
+  entry-at-reads.Learnt,
+  type-suits-reads.Asked,
+  type-suits-reads.Learnt,
+  judge-attribute-reads.Asked,
+  judge-attribute-reads.Learnt,
+  judge-block-below t,
+  judge-block.Post,
+) (judge-block-at t) judge-block.Post judge-block-Inv-loop judge-block-μ-loop
+judge-block-sub-judge-block t c = search (levels-some, needs) 
+
+judge-block-judge-block-requires : (t : ℕ) → judge-block-lts.Need-judge-block-requires (
+  entry-at-reads.Asked,
+  entry-at-reads.Learnt,
+  type-suits-reads.Asked,
+  type-suits-reads.Learnt,
+  judge-attribute-reads.Asked,
+  judge-attribute-reads.Learnt,
+  judge-block-below t,
+  judge-block.Post,
+) (judge-block-at t) judge-block.Post judge-block-Inv-loop judge-block-μ-loop
+judge-block-judge-block-requires t c κs =  
+    let l = c .before .before .before .before .before .before in
+    (levels-fall _ _ _ _ _ _ _ _ _ (l .loop .inv) t (l .before .before .before .before .before .before .before .before .pre .0), nested-under _ _ _ _ _ _ _ _ _ (l .loop .inv) (c .before .before .before .before .before .loop-test .taken) _ (c .before .before .before .before .entry-at2 .ensures) _ (c .before .before .before .judge-attribute .ensures) _ _ (c .before .inner .given .1))
+
+judge-block-enum-told-2 : (t : ℕ) → judge-block-lts.Need-enum-told-2 (
+  entry-at-reads.Asked,
+  entry-at-reads.Learnt,
+  type-suits-reads.Asked,
+  type-suits-reads.Learnt,
+  judge-attribute-reads.Asked,
+  judge-attribute-reads.Learnt,
+  judge-block-below t,
+  judge-block.Post,
+) (judge-block-at t) judge-block.Post judge-block-Inv-loop judge-block-μ-loop
+judge-block-enum-told-2 t c = search needs 
+
+judge-block-loop-less-2 : (t : ℕ) → judge-block-lts.Need-loop-less-2 (
+  entry-at-reads.Asked,
+  entry-at-reads.Learnt,
+  type-suits-reads.Asked,
+  type-suits-reads.Learnt,
+  judge-attribute-reads.Asked,
+  judge-attribute-reads.Learnt,
+  judge-block-below t,
+  judge-block.Post,
+) (judge-block-at t) judge-block.Post judge-block-Inv-loop judge-block-μ-loop
+judge-block-loop-less-2 t c = search attribute-less 
+
+judge-block-loop-again-2 : (t : ℕ) → judge-block-lts.Need-loop-again-2 (
+  entry-at-reads.Asked,
+  entry-at-reads.Learnt,
+  type-suits-reads.Asked,
+  type-suits-reads.Learnt,
+  judge-attribute-reads.Asked,
+  judge-attribute-reads.Learnt,
+  judge-block-below t,
+  judge-block.Post,
+) (judge-block-at t) judge-block.Post judge-block-Inv-loop judge-block-μ-loop
+judge-block-loop-again-2 t c = search nested-valid 
+
+judge-block-enum-known-reason : (t : ℕ) → judge-block-lts.Need-enum-known-reason (
+  entry-at-reads.Asked,
+  entry-at-reads.Learnt,
+  type-suits-reads.Asked,
+  type-suits-reads.Learnt,
+  judge-attribute-reads.Asked,
+  judge-attribute-reads.Learnt,
+  judge-block-below t,
+  judge-block.Post,
+) (judge-block-at t) judge-block.Post judge-block-Inv-loop judge-block-μ-loop
+judge-block-enum-known-reason t c = search needs 
+
+judge-block-returns-3 : (t : ℕ) → judge-block-lts.Need-returns-3 (
+  entry-at-reads.Asked,
+  entry-at-reads.Learnt,
+  type-suits-reads.Asked,
+  type-suits-reads.Learnt,
+  judge-attribute-reads.Asked,
+  judge-attribute-reads.Learnt,
+  judge-block-below t,
+  judge-block.Post,
+) (judge-block-at t) judge-block.Post judge-block-Inv-loop judge-block-μ-loop
+judge-block-returns-3 t c =  
+    let l = c .before .before .before .before .before .before .before .before .before .before in
+    type-suits _ _ _ _ _ _ _ _ (l .before .before .before .before .before .before .before .before .pre .1) _ (l .before .before .before .entry-at .ensures) _ (l .before .before .type-suits .ensures) (l .before .if1 .left) _
+    (nested-fails _ _ _ _ _ _ _ _ _ (l .loop .inv) (c .before .before .before .before .before .before .before .before .before .loop-test .taken) _ (c .before .before .before .before .before .before .before .before .entry-at2 .ensures) _ (c .before .before .before .before .before .before .before .judge-attribute .ensures) _ _ (c .before .before .before .before .before .inner .given .1) _ (c .before .before .before .judge-block .ensures) _ _ _ (c .before .reason .given .1))
+
+judge-block-returns-4 : (t : ℕ) → judge-block-lts.Need-returns-4 (
+  entry-at-reads.Asked,
+  entry-at-reads.Learnt,
+  type-suits-reads.Asked,
+  type-suits-reads.Learnt,
+  judge-attribute-reads.Asked,
+  judge-attribute-reads.Learnt,
+  judge-block-below t,
+  judge-block.Post,
+) (judge-block-at t) judge-block.Post judge-block-Inv-loop judge-block-μ-loop
+judge-block-returns-4 t c = let l = c .before in type-suits _ _ _ _ _ _ _ _ (l .before .before .before .before .before .before .before .before .pre .1) _ (l .before .before .before .entry-at .ensures) _ (l .before .before .type-suits .ensures) (l .before .if1 .left) _ (search attributes-end) 
+
+pub +judge-block-spec : {M : Type 1} → statement M
++judge-block-spec = close μ-judge-block λ t. judge-block-lts.spec (
+  entry-at-reads.Asked,
+  entry-at-reads.Learnt,
+  type-suits-reads.Asked,
+  type-suits-reads.Learnt,
+  judge-attribute-reads.Asked,
+  judge-attribute-reads.Learnt,
+  judge-block-below t,
+  judge-block.Post,
+)
+    (judge-block-at t)
+    judge-block.Post
+    judge-block-Inv-loop
+    judge-block-μ-loop
+    (judge-block-entry-at-requires t)
+    (judge-block-type-suits-requires t)
+    (judge-block-returns t)
+    (judge-block-loop-holds t)
+    (judge-block-entry-at-requires-2 t)
+    (judge-block-judge-attribute-requires t)
+    (judge-block-enum-known-v t)
+    (judge-block-enum-told t)
+    (judge-block-loop-less t)
+    (judge-block-loop-again t)
+    (judge-block-enum-known-v-2 t)
+    (judge-block-returns-2 t)
+    (judge-block-enum-known-inner t)
+    (judge-block-sub-judge-block t)
+    (judge-block-judge-block-requires t)
+    (judge-block-enum-told-2 t)
+    (judge-block-loop-less-2 t)
+    (judge-block-loop-again-2 t)
+    (judge-block-enum-known-reason t)
+    (judge-block-returns-3 t)
+    (judge-block-returns-4 t)

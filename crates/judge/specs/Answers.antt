@@ -1,0 +1,49 @@
+-- What the answers of the functions stand for. Assumes nothing.
+use mathlib.Core.Bool.{Bool, true, false}
+use mathlib.Core.Option.{Option, none, some}
+use mathlib.Core.List.{List}
+use Prim.Native.Nat.{ℕ}
+use lib.Dec.{eqb}
+use Rattle.lexis.specs.Runs.{part}
+use Rattle.meaning.specs.Constraints.{Leaf}
+use Rattle.meaning.specs.Admission.{Finding, unsuited, refuted, admitted, wordUnder, stringUnder}
+use Rattle.meaning.specs.Verdicts.{valid, fails}
+use Rattle.meaning.specs.Verdicts
+use Rattle.meaning.specs.Judging.{verdictOf}
+use Rattle.data.specs.Tape.{isString, number}
+use Rattle.judge.specs.Items.{leafFrom}
+use Rattle.judge.specs.Answer.{JudgeAnswer, refused, judged}
+use Rattle.judge.specs.declared.admission.Admission.{Admission}
+use Rattle.judge.specs.declared.admission.Admission.the-variants.{Unsuited, Refuted, Admitted}
+use Rattle.judge.specs.declared.attributes.Verdict.{Verdict}
+use Rattle.judge.specs.declared.attributes.Verdict.the-variants as verdict
+use Rattle.judge.specs.declared.JudgeResult.{JudgeResult}
+use Rattle.judge.specs.declared.JudgeResult.the-variants.{Valid, Refused, Failed}
+
+-- how a value stands to a leaf
+abbrev pub findingOf : Admission → Finding
+findingOf Unsuited = unsuited
+findingOf Refuted = refuted
+findingOf Admitted = admitted
+
+-- a string or a word under a leaf; where there is none, it is unsuited
+abbrev pub under : Option Leaf → Bool → List ℕ → Finding
+under none isString w = unsuited
+under (some l) true w = stringUnder l w
+under (some l) false w = wordUnder l w
+
+-- a row's string or word by the leaf whose first item has a number
+abbrev pub leafVerdict : List ℕ → List ℕ → List ℕ → ℕ → List ℕ → Verdicts.Verdict
+leafVerdict records pool s first row =
+    verdictOf first (number row 3) (under (leafFrom records pool first) (eqb (number row 0) isString) (part s (number row 6) (number row 7)))
+
+-- a verdict of the walk
+abbrev pub verdictIn : Verdict → Verdicts.Verdict
+verdictIn verdict.Valid = valid
+verdictIn (verdict.Fails reason «record» place) = fails reason («record» .0) place
+
+-- what judging answers: valid; a refusal, whose cause gives document 01's number, with its place; or a reason of document 01, 20 to 24, with its record and its data place
+abbrev pub answerOf : JudgeResult → JudgeAnswer
+answerOf Valid = judged valid
+answerOf (Refused r) = refused r
+answerOf (Failed reason «record» place) = judged (fails reason («record» .0) place)

@@ -1,0 +1,102 @@
+// The walk: a block by an object, and the blocks inside it by the objects of its attributes.
+use crate::admission::entry_at;
+use crate::admission::name_of;
+use crate::attributes::Step;
+use crate::attributes::Verdict;
+use crate::attributes::judge_attribute;
+use crate::members::Block;
+use lexis::runs::same_bytes;
+use table::records::Entry;
+use table::records::RecordNumber;
+ghost use mathlib.Core.Path.{_≡_};
+ghost use Prim.Native.Nat.{_+_, _≤_};
+ghost use lib.ListN.{length};
+ghost use Rattle.meaning.specs.Judging.{typeSuits};
+ghost use Rattle.table.specs.Answers.{recordOf};
+ghost use Rattle.judge.specs.Items.{nameOf, tableOf};
+ghost use Rattle.judge.specs.Answers.{verdictIn};
+ghost use Rattle.judge.specs.Walking.{typeOn, BlockGood, Under, blockUnder};
+
+// Document 01's reason for a type that differs.
+const TYPE_DIFFERS: u8 = 21;
+
+// A block's type, if written, is the object's own.
+fn type_suits(pool: &[u8], s: &[u8], rows: usize, e: Entry, block: Block) -> bool
+    requires { ⌜ e .a + e .b ≤ length (now pool) ⌝ }
+    requires { ⌜ BlockGood (length (now s)) rows block ⌝ }
+    ensures { λ r. ⌜ r ≡ typeSuits (nameOf (now (pool .entry)) (recordOf e)) (typeOn (now (s .entry)) (block .«type_start») (block .«type_end»)) ⌝ }
+{
+    let start = block.type_start;
+    let end = block.type_end;
+    if end == 0 {
+        return true;
+    }
+    same_bytes(name_of(pool, e), &s[start..end])
+}
+
+// A block by the object with a number: its type, then each attribute in table order, up to the first failure; a block
+// inside it has a level less.
+pub fn judge_block(
+    records: &[u8],
+    pool: &[u8],
+    s: &[u8],
+    tape: &[u16],
+    rows: usize,
+    levels: usize,
+    object: RecordNumber,
+    block: Block,
+) -> Verdict
+    requires { ⌜ Under (now records) (now pool) (now s) (now tape) rows levels (object .0) block ⌝ }
+    ensures { λ r. ⌜ verdictIn r ≡ blockUnder (tableOf (now (records .entry)) (now (pool .entry))) (now (s .entry)) rows (now (tape .entry)) (object .0) block ⌝ }
+{
+    let e = entry_at(records, object);
+    if !type_suits(pool, s, rows, e, block) {
+        return Verdict::Fails {
+            reason: TYPE_DIFFERS,
+            record: object,
+            place: block.place,
+        };
+    }
+    let mut n = e.e;
+    while n != 0 {
+        let a = entry_at(records, RecordNumber(n));
+        match judge_attribute(records, pool, s, tape, rows, RecordNumber(n), a, block) {
+            Step::Told(v) => match v {
+                Verdict::Valid => {
+                    n = a.d;
+                }
+                Verdict::Fails {
+                    reason,
+                    record,
+                    place,
+                } => {
+                    return Verdict::Fails {
+                        reason,
+                        record,
+                        place,
+                    };
+                }
+            },
+            Step::Nested {
+                object: inner,
+                block: part,
+            } => match judge_block(records, pool, s, tape, rows, levels - 1, inner, part) {
+                Verdict::Valid => {
+                    n = a.d;
+                }
+                Verdict::Fails {
+                    reason,
+                    record,
+                    place,
+                } => {
+                    return Verdict::Fails {
+                        reason,
+                        record,
+                        place,
+                    };
+                }
+            },
+        }
+    }
+    Verdict::Valid
+}
