@@ -1,5 +1,4 @@
 // Leaves: Booleans, lists of integers, of strings and of dates, and patterns.
-use crate::limits::RECORD_LIMIT;
 use crate::ranges::RangesRead;
 use crate::ranges::read_ranges;
 use crate::strings::StringsRead;
@@ -17,6 +16,7 @@ use lexis::Token;
 use lexis::tokens::token_at;
 use refusals::Cause;
 use refusals::Refusal;
+use refusals::limits::RECORD_LIMIT;
 use refusals::steps::syntax_fault;
 ghost use mathlib.Core.Path.{_≡_};
 ghost use Prim.Native.Nat.{_≤_};

@@ -2,8 +2,6 @@
 use crate::intervals::IntervalRead;
 use crate::intervals::UNDECIDED;
 use crate::intervals::interval;
-use crate::limits::ITEM_LIMIT;
-use crate::limits::RECORD_LIMIT;
 use crate::literals::LiteralRead;
 use crate::literals::literal;
 use crate::spans::put;
@@ -14,6 +12,8 @@ use lexis::INTEGER;
 use lexis::tokens::token_at;
 use refusals::Cause;
 use refusals::Refusal;
+use refusals::limits::ITEM_LIMIT;
+use refusals::limits::RECORD_LIMIT;
 use refusals::steps::syntax_fault;
 ghost use mathlib.Core.Path.{_≡_};
 ghost use mathlib.Core.Bool.{not, _&&_};

@@ -1,8 +1,4 @@
 // Lists of strings.
-use crate::limits::ITEM_LIMIT;
-use crate::limits::POOL_LIMIT;
-use crate::limits::RECORD_LIMIT;
-use crate::limits::STRING_LIMIT;
 use crate::spans::put;
 use crate::spans::repeated;
 use lexis::COMMA;
@@ -11,6 +7,10 @@ use lexis::Token;
 use lexis::tokens::token_at;
 use refusals::Cause;
 use refusals::Refusal;
+use refusals::limits::ITEM_LIMIT;
+use refusals::limits::POOL_LIMIT;
+use refusals::limits::RECORD_LIMIT;
+use refusals::limits::STRING_LIMIT;
 use refusals::steps::Expected;
 use refusals::steps::expect;
 use refusals::steps::too_long;

@@ -163,9 +163,9 @@ module _ (records pool : List ℕ) (t : TableGood records pool) where
         let u : 0 < x → LinkRight (tableOf records pool) n (k ∷ []) x = link-there n k e (list-some k z) 4 (k ∷ []) (lit< tt) (list-link k z) in
         one n e
         ∙ ap (λ l. make n ∷ l)
-            (list-there fuel x
-            (λ p. by-kind (kindAt (tableOf records pool) x) k [] (u p .kind) (λ y. y) (λ y. absurd (false≢true y)))
-            (λ p. let q = u p .above in omega arith))
+        (list-there fuel x
+        (λ p. by-kind (kindAt (tableOf records pool) x) k [] (u p .kind) (λ y. y) (λ y. absurd (false≢true y)))
+        (λ p. let q = u p .above in omega arith))
         ∙ ap (map make) (sym (items-some records fuel n (λ q. omega arith))))
 
     -- from its first item on

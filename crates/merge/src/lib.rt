@@ -7,12 +7,12 @@ use crate::joining::open_table;
 use crate::joining::write_joined;
 use refusals::Cause;
 use refusals::Refusal;
-use refusals::limits::POOL_LIMIT;
-use refusals::limits::RECORD_LIMIT;
 use table::check::CheckAnswer;
 use table::check::check;
+use table::records::POOL_MOST;
 use table::records::PoolPlace;
 use table::records::PoolShift;
+use table::records::RECORD_MOST;
 use table::records::RecordShift;
 ghost use mathlib.Core.Path.{_≡_};
 ghost use mathlib.Core.Option.{none};
@@ -56,11 +56,11 @@ fn join_tables(first: &[u8], second: &[u8], little: bool, out: &mut [u8]) -> Mer
     let y = open_table(second);
     let records = x.count - 1;
     let count = records + y.count;
-    if RECORD_LIMIT < count {
+    if RECORD_MOST < count {
         return refuse(Cause::TooManyRecords, 0);
     }
     let pool = x.pool + y.pool;
-    if POOL_LIMIT < pool {
+    if POOL_MOST < pool {
         return refuse(Cause::PoolTooLarge, 0);
     }
     let length = PoolPlace(pool).start(count);

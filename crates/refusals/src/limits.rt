@@ -10,10 +10,10 @@ pub const LEVEL_LIMIT: usize = 16;
 pub const ITEM_LIMIT: usize = 16;
 
 // Records of a table, its header among them: no record has this number.
-pub const RECORD_LIMIT: u32 = 2_048;
+pub const RECORD_LIMIT: usize = 2_048;
 
 // Bytes of a table's pool.
-pub const POOL_LIMIT: u32 = 16_384;
+pub const POOL_LIMIT: usize = 16_384;
 
 // Bytes of a type or a name, of a code without its brackets, and of a string without its quotes.
 pub const NAME_LIMIT: usize = 63;

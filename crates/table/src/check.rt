@@ -1,6 +1,8 @@
 // The check of a table: its length, its header and its root, and then each record.
 use crate::records::Entry;
 use crate::records::Frame;
+use crate::records::POOL_MOST;
+use crate::records::RECORD_MOST;
 use crate::records::RecordNumber;
 use crate::records::frame_of;
 use crate::records::is_marked;
@@ -9,8 +11,6 @@ use crate::records::read;
 use crate::rules::rules_kept;
 use refusals::Cause;
 use refusals::Refusal;
-use refusals::limits::POOL_LIMIT;
-use refusals::limits::RECORD_LIMIT;
 ghost use mathlib.Core.Path.{_≡_};
 ghost use Prim.Native.Nat.{_*_, _<_};
 ghost use lib.ListN.{length, take, drop};
@@ -36,8 +36,8 @@ fn counts_right(h: Entry, length: usize) -> bool
     ensures { λ r. ⌜ r ≡ countsRight h length ⌝ }
 {
     2 <= h.a
-        && (h.a <= RECORD_LIMIT
-            && (h.b <= POOL_LIMIT && length == 24 * (h.a as usize) + (h.b as usize)))
+        && (h.a <= RECORD_MOST
+            && (h.b <= POOL_MOST && length == 24 * (h.a as usize) + (h.b as usize)))
 }
 
 // The table's length, header and root are right.

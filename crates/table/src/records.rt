@@ -1,12 +1,19 @@
 // Records, their numbers, and places in the pool.
 use crate::order::get16;
 use crate::order::get32;
+use refusals::limits::POOL_LIMIT;
+use refusals::limits::RECORD_LIMIT;
 ghost use mathlib.Core.Path.{_≡_};
 ghost use Prim.Native.Nat.{_+_, _*_, _<_, _≤_, _^_};
 ghost use lib.ListN.{length, take, drop};
 ghost use Rattle.table.specs.Records.{recordSize, isLittle, isMarked, decode, field, header, imageOf};
 ghost use Rattle.table.specs.Check.{kindAt};
 ghost use Rattle.table.specs.Answers.{recordOf, Opened};
+
+// The most records of a table and the most bytes of its pool, as the header holds them.
+pub const RECORD_MOST: u32 = RECORD_LIMIT as u32;
+
+pub const POOL_MOST: u32 = POOL_LIMIT as u32;
 
 // The number of a record, as a link holds it.
 pub struct RecordNumber(pub u32);

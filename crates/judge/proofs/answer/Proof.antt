@@ -11,10 +11,10 @@ enum-known-v : tie.Need-enum-known-v
 enum-known-v c = search needs
 
 returns : tie.Need-returns
-returns c = search answer-by 
+returns c = search answer-by
 
 returns-2 : tie.Need-returns-2
-returns-2 c = search answer-by 
+returns-2 c = search answer-by
 
 pub answer-spec : {M : Type 1} → statement M
 answer-spec = tie.close (tie.spec enum-told enum-known-v returns returns-2)

@@ -14,13 +14,13 @@ enum-told : tie.Need-enum-told
 enum-told c = search needs
 
 judge-checked-requires : tie.Need-judge-checked-requires
-judge-checked-requires c κs = search table-passed 
+judge-checked-requires c κs = search table-passed
 
 returns : tie.Need-returns
-returns c = search table-refused 
+returns c = search table-refused
 
 returns-2 : tie.Need-returns-2
-returns-2 c = search table-judged 
+returns-2 c = search table-judged
 
 pub judge-spec : {M : Type 1} → statement M
 judge-spec =

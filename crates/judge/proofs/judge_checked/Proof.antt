@@ -6,16 +6,16 @@ use Rattle.judge.proofs.judge_checked.Statement.{statement}
 use Rattle.judge.proofs.judge_checked.Tie as tie
 
 frame-of-requires : tie.Need-frame-of-requires
-frame-of-requires c κs = search sound-long 
+frame-of-requires c κs = search sound-long
 
 kind-at-requires : tie.Need-kind-at-requires
-kind-at-requires c κs = search sound-open 
+kind-at-requires c κs = search sound-open
 
 cast-t11 : tie.Need-cast-t11
 cast-t11 c = search needs
 
 returns : tie.Need-returns
-returns c = root-none _ _ _ (c .before .before .before .before .before .before .pre) _ (c .before .before .before .frame-of .ensures) _ (c .before .before .kind-at .ensures) (c .before .if1 .taken) 
+returns c = root-none _ _ _ (c .before .before .before .before .before .before .pre) _ (c .before .before .before .frame-of .ensures) _ (c .before .before .kind-at .ensures) (c .before .if1 .taken)
 
 start-requires : tie.Need-start-requires
 start-requires c κs = search needs
@@ -27,28 +27,28 @@ part-records-start : tie.Need-part-records-start
 part-records-start c = search needs
 
 part-records-end : tie.Need-part-records-end
-part-records-end c = search records-end 
+part-records-end c = search records-end
 
 sub-pool : tie.Need-sub-pool
-sub-pool c = search records-end 
+sub-pool c = search records-end
 
 part-pool-start : tie.Need-part-pool-start
-part-pool-start c = search records-end 
+part-pool-start c = search records-end
 
 part-pool-end : tie.Need-part-pool-end
 part-pool-end c = search needs
 
 judge-short-requires : tie.Need-judge-short-requires
-judge-short-requires c κs = (search parts-good, (search parts-kind, search needs)) 
+judge-short-requires c κs = (search parts-good, (search parts-kind, search needs))
 
 returns-2 : tie.Need-returns-2
-returns-2 c = search parts-judged 
+returns-2 c = search parts-judged
 
 judge-long-requires : tie.Need-judge-long-requires
-judge-long-requires c κs = (search parts-good, search parts-kind) 
+judge-long-requires c κs = (search parts-good, search parts-kind)
 
 returns-3 : tie.Need-returns-3
-returns-3 c = search parts-judged 
+returns-3 c = search parts-judged
 
 pub judge-checked-spec : {M : Type 1} → statement M
 judge-checked-spec =

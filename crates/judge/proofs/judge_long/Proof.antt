@@ -8,7 +8,7 @@ slice-aggregate-judge-on : tie.Need-slice-aggregate-judge-on
 slice-aggregate-judge-on c = search needs
 
 judge-on-requires : tie.Need-judge-on-requires
-judge-on-requires c κs = (search needs, (search needs, record { room = λ h. omega arith })) 
+judge-on-requires c κs = (search needs, (search needs, record { room = λ h. omega arith }))
 
 returns : tie.Need-returns
 returns c = search needs

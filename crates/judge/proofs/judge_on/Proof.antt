@@ -14,13 +14,13 @@ same-length : tie.Need-same-length
 same-length c = search needs
 
 returns : tie.Need-returns
-returns c = search text-refused 
+returns c = search text-refused
 
 enum-known-place : tie.Need-enum-known-place
 enum-known-place c = search needs
 
 judge-block-requires : tie.Need-judge-block-requires
-judge-block-requires c κs = search text-under 
+judge-block-requires c κs = search text-under
 
 answer-requires : tie.Need-answer-requires
 answer-requires c κs = search needs
@@ -29,7 +29,7 @@ same-length-2 : tie.Need-same-length-2
 same-length-2 c = search needs
 
 returns-2 : tie.Need-returns-2
-returns-2 c = search text-judged 
+returns-2 c = search text-judged
 
 pub judge-on-spec : {M : Type 1} → statement M
 judge-on-spec =

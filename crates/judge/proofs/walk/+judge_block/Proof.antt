@@ -17,7 +17,7 @@ use Rattle.judge.proofs.walk.+judge_block.{statement}
 use Rattle.judge.proofs.walk.+judge_block.Tie.{close}
 
 abbrev μ-judge-block : Measures 4 judge-block-kinds.ps ℕ
-μ-judge-block κs a = a .1 .1 .1 .1 .1 .0 
+μ-judge-block κs a = a .1 .1 .1 .1 .1 .0
 
 abbrev judge-block-at : ℕ → In 4 judge-block-kinds.ps
 judge-block-at t =
@@ -28,10 +28,10 @@ judge-block-below t =
     and 4 judge-block-kinds.ps (falls 4 judge-block-kinds.ps _<_ μ-judge-block t) judge-block.Pre
 
 abbrev judge-block-Inv-loop : judge-block-lts.InvT-loop
-judge-block-Inv-loop records pool s tape rows levels block n₀ n = InAttributes records pool s tape rows levels block n₀ n 
+judge-block-Inv-loop records pool s tape rows levels block n₀ n = InAttributes records pool s tape rows levels block n₀ n
 
 abbrev judge-block-μ-loop : judge-block-lts.MeasureT-loop
-judge-block-μ-loop records pool s tape rows levels block n₀ n = left records n 
+judge-block-μ-loop records pool s tape rows levels block n₀ n = left records n
 
 judge-block-entry-at-requires : (t : ℕ) → judge-block-lts.Need-entry-at-requires (
   entry-at-reads.Asked,
@@ -43,7 +43,7 @@ judge-block-entry-at-requires : (t : ℕ) → judge-block-lts.Need-entry-at-requ
   judge-block-below t,
   judge-block.Post,
 ) (judge-block-at t) judge-block.Post judge-block-Inv-loop judge-block-μ-loop
-judge-block-entry-at-requires t c κs = search object-lies 
+judge-block-entry-at-requires t c κs = search object-lies
 
 judge-block-type-suits-requires : (t : ℕ) → judge-block-lts.Need-type-suits-requires (
   entry-at-reads.Asked,
@@ -55,7 +55,7 @@ judge-block-type-suits-requires : (t : ℕ) → judge-block-lts.Need-type-suits-
   judge-block-below t,
   judge-block.Post,
 ) (judge-block-at t) judge-block.Post judge-block-Inv-loop judge-block-μ-loop
-judge-block-type-suits-requires t c κs = (search object-name, search needs) 
+judge-block-type-suits-requires t c κs = (search object-name, search needs)
 
 judge-block-returns : (t : ℕ) → judge-block-lts.Need-returns (
   entry-at-reads.Asked,
@@ -67,7 +67,7 @@ judge-block-returns : (t : ℕ) → judge-block-lts.Need-returns (
   judge-block-below t,
   judge-block.Post,
 ) (judge-block-at t) judge-block.Post judge-block-Inv-loop judge-block-μ-loop
-judge-block-returns t c = search type-differs 
+judge-block-returns t c = search type-differs
 
 judge-block-loop-holds : (t : ℕ) → judge-block-lts.Need-loop-holds (
   entry-at-reads.Asked,
@@ -79,7 +79,7 @@ judge-block-loop-holds : (t : ℕ) → judge-block-lts.Need-loop-holds (
   judge-block-below t,
   judge-block.Post,
 ) (judge-block-at t) judge-block.Post judge-block-Inv-loop judge-block-μ-loop
-judge-block-loop-holds t c = search attributes-start 
+judge-block-loop-holds t c = search attributes-start
 
 judge-block-entry-at-requires-2 : (t : ℕ) → judge-block-lts.Need-entry-at-requires-2 (
   entry-at-reads.Asked,
@@ -91,7 +91,7 @@ judge-block-entry-at-requires-2 : (t : ℕ) → judge-block-lts.Need-entry-at-re
   judge-block-below t,
   judge-block.Post,
 ) (judge-block-at t) judge-block.Post judge-block-Inv-loop judge-block-μ-loop
-judge-block-entry-at-requires-2 t c κs = search attribute-lies 
+judge-block-entry-at-requires-2 t c κs = search attribute-lies
 
 judge-block-judge-attribute-requires : (t : ℕ) → judge-block-lts.Need-judge-attribute-requires (
   entry-at-reads.Asked,
@@ -103,7 +103,7 @@ judge-block-judge-attribute-requires : (t : ℕ) → judge-block-lts.Need-judge-
   judge-block-below t,
   judge-block.Post,
 ) (judge-block-at t) judge-block.Post judge-block-Inv-loop judge-block-μ-loop
-judge-block-judge-attribute-requires t c κs = (search needs, (search attribute-at, search needs)) 
+judge-block-judge-attribute-requires t c κs = (search needs, (search attribute-at, search needs))
 
 judge-block-enum-known-v : (t : ℕ) → judge-block-lts.Need-enum-known-v (
   entry-at-reads.Asked,
@@ -115,7 +115,7 @@ judge-block-enum-known-v : (t : ℕ) → judge-block-lts.Need-enum-known-v (
   judge-block-below t,
   judge-block.Post,
 ) (judge-block-at t) judge-block.Post judge-block-Inv-loop judge-block-μ-loop
-judge-block-enum-known-v t c = search needs 
+judge-block-enum-known-v t c = search needs
 
 judge-block-enum-told : (t : ℕ) → judge-block-lts.Need-enum-told (
   entry-at-reads.Asked,
@@ -127,7 +127,7 @@ judge-block-enum-told : (t : ℕ) → judge-block-lts.Need-enum-told (
   judge-block-below t,
   judge-block.Post,
 ) (judge-block-at t) judge-block.Post judge-block-Inv-loop judge-block-μ-loop
-judge-block-enum-told t c = search needs 
+judge-block-enum-told t c = search needs
 
 judge-block-loop-less : (t : ℕ) → judge-block-lts.Need-loop-less (
   entry-at-reads.Asked,
@@ -139,7 +139,7 @@ judge-block-loop-less : (t : ℕ) → judge-block-lts.Need-loop-less (
   judge-block-below t,
   judge-block.Post,
 ) (judge-block-at t) judge-block.Post judge-block-Inv-loop judge-block-μ-loop
-judge-block-loop-less t c = search attribute-less 
+judge-block-loop-less t c = search attribute-less
 
 judge-block-loop-again : (t : ℕ) → judge-block-lts.Need-loop-again (
   entry-at-reads.Asked,
@@ -151,7 +151,7 @@ judge-block-loop-again : (t : ℕ) → judge-block-lts.Need-loop-again (
   judge-block-below t,
   judge-block.Post,
 ) (judge-block-at t) judge-block.Post judge-block-Inv-loop judge-block-μ-loop
-judge-block-loop-again t c = search told-valid 
+judge-block-loop-again t c = search told-valid
 
 judge-block-enum-known-v-2 : (t : ℕ) → judge-block-lts.Need-enum-known-v-2 (
   entry-at-reads.Asked,
@@ -163,7 +163,7 @@ judge-block-enum-known-v-2 : (t : ℕ) → judge-block-lts.Need-enum-known-v-2 (
   judge-block-below t,
   judge-block.Post,
 ) (judge-block-at t) judge-block.Post judge-block-Inv-loop judge-block-μ-loop
-judge-block-enum-known-v-2 t c = search needs 
+judge-block-enum-known-v-2 t c = search needs
 
 judge-block-returns-2 : (t : ℕ) → judge-block-lts.Need-returns-2 (
   entry-at-reads.Asked,
@@ -175,7 +175,7 @@ judge-block-returns-2 : (t : ℕ) → judge-block-lts.Need-returns-2 (
   judge-block-below t,
   judge-block.Post,
 ) (judge-block-at t) judge-block.Post judge-block-Inv-loop judge-block-μ-loop
-judge-block-returns-2 t c =  
+judge-block-returns-2 t c =
     let l = c .before .before .before .before .before .before .before .before .before in
     type-suits _ _ _ _ _ _ _ _ (l .before .before .before .before .before .before .before .before .pre .1) _ (l .before .before .before .entry-at .ensures) _ (l .before .before .type-suits .ensures) (l .before .if1 .left) _
     (told-fails _ _ _ _ _ _ _ _ _ (l .loop .inv) (c .before .before .before .before .before .before .before .before .loop-test .taken) _ (c .before .before .before .before .before .before .before .entry-at2 .ensures) _ (c .before .before .before .before .before .before .judge-attribute .ensures) _ _ _ _ (c .before .before .before .before .v .given .1) (c .before .v2 .given .1))
@@ -190,7 +190,7 @@ judge-block-enum-known-inner : (t : ℕ) → judge-block-lts.Need-enum-known-inn
   judge-block-below t,
   judge-block.Post,
 ) (judge-block-at t) judge-block.Post judge-block-Inv-loop judge-block-μ-loop
-judge-block-enum-known-inner t c = search needs 
+judge-block-enum-known-inner t c = search needs
 
 judge-block-sub-judge-block : (t : ℕ) → judge-block-lts.Need-sub-judge-block (
   entry-at-reads.Asked,
@@ -202,7 +202,7 @@ judge-block-sub-judge-block : (t : ℕ) → judge-block-lts.Need-sub-judge-block
   judge-block-below t,
   judge-block.Post,
 ) (judge-block-at t) judge-block.Post judge-block-Inv-loop judge-block-μ-loop
-judge-block-sub-judge-block t c = search (levels-some, needs) 
+judge-block-sub-judge-block t c = search (levels-some, needs)
 
 judge-block-judge-block-requires : (t : ℕ) → judge-block-lts.Need-judge-block-requires (
   entry-at-reads.Asked,
@@ -214,7 +214,7 @@ judge-block-judge-block-requires : (t : ℕ) → judge-block-lts.Need-judge-bloc
   judge-block-below t,
   judge-block.Post,
 ) (judge-block-at t) judge-block.Post judge-block-Inv-loop judge-block-μ-loop
-judge-block-judge-block-requires t c κs =  
+judge-block-judge-block-requires t c κs =
     let l = c .before .before .before .before .before .before in
     (levels-fall _ _ _ _ _ _ _ _ _ (l .loop .inv) t (l .before .before .before .before .before .before .before .before .pre .0), nested-under _ _ _ _ _ _ _ _ _ (l .loop .inv) (c .before .before .before .before .before .loop-test .taken) _ (c .before .before .before .before .entry-at2 .ensures) _ (c .before .before .before .judge-attribute .ensures) _ _ (c .before .inner .given .1))
 
@@ -228,7 +228,7 @@ judge-block-enum-told-2 : (t : ℕ) → judge-block-lts.Need-enum-told-2 (
   judge-block-below t,
   judge-block.Post,
 ) (judge-block-at t) judge-block.Post judge-block-Inv-loop judge-block-μ-loop
-judge-block-enum-told-2 t c = search needs 
+judge-block-enum-told-2 t c = search needs
 
 judge-block-loop-less-2 : (t : ℕ) → judge-block-lts.Need-loop-less-2 (
   entry-at-reads.Asked,
@@ -240,7 +240,7 @@ judge-block-loop-less-2 : (t : ℕ) → judge-block-lts.Need-loop-less-2 (
   judge-block-below t,
   judge-block.Post,
 ) (judge-block-at t) judge-block.Post judge-block-Inv-loop judge-block-μ-loop
-judge-block-loop-less-2 t c = search attribute-less 
+judge-block-loop-less-2 t c = search attribute-less
 
 judge-block-loop-again-2 : (t : ℕ) → judge-block-lts.Need-loop-again-2 (
   entry-at-reads.Asked,
@@ -252,7 +252,7 @@ judge-block-loop-again-2 : (t : ℕ) → judge-block-lts.Need-loop-again-2 (
   judge-block-below t,
   judge-block.Post,
 ) (judge-block-at t) judge-block.Post judge-block-Inv-loop judge-block-μ-loop
-judge-block-loop-again-2 t c = search nested-valid 
+judge-block-loop-again-2 t c = search nested-valid
 
 judge-block-enum-known-reason : (t : ℕ) → judge-block-lts.Need-enum-known-reason (
   entry-at-reads.Asked,
@@ -264,7 +264,7 @@ judge-block-enum-known-reason : (t : ℕ) → judge-block-lts.Need-enum-known-re
   judge-block-below t,
   judge-block.Post,
 ) (judge-block-at t) judge-block.Post judge-block-Inv-loop judge-block-μ-loop
-judge-block-enum-known-reason t c = search needs 
+judge-block-enum-known-reason t c = search needs
 
 judge-block-returns-3 : (t : ℕ) → judge-block-lts.Need-returns-3 (
   entry-at-reads.Asked,
@@ -276,7 +276,7 @@ judge-block-returns-3 : (t : ℕ) → judge-block-lts.Need-returns-3 (
   judge-block-below t,
   judge-block.Post,
 ) (judge-block-at t) judge-block.Post judge-block-Inv-loop judge-block-μ-loop
-judge-block-returns-3 t c =  
+judge-block-returns-3 t c =
     let l = c .before .before .before .before .before .before .before .before .before .before in
     type-suits _ _ _ _ _ _ _ _ (l .before .before .before .before .before .before .before .before .pre .1) _ (l .before .before .before .entry-at .ensures) _ (l .before .before .type-suits .ensures) (l .before .if1 .left) _
     (nested-fails _ _ _ _ _ _ _ _ _ (l .loop .inv) (c .before .before .before .before .before .before .before .before .before .loop-test .taken) _ (c .before .before .before .before .before .before .before .before .entry-at2 .ensures) _ (c .before .before .before .before .before .before .before .judge-attribute .ensures) _ _ (c .before .before .before .before .before .inner .given .1) _ (c .before .before .before .judge-block .ensures) _ _ _ (c .before .reason .given .1))
@@ -291,7 +291,7 @@ judge-block-returns-4 : (t : ℕ) → judge-block-lts.Need-returns-4 (
   judge-block-below t,
   judge-block.Post,
 ) (judge-block-at t) judge-block.Post judge-block-Inv-loop judge-block-μ-loop
-judge-block-returns-4 t c = let l = c .before in type-suits _ _ _ _ _ _ _ _ (l .before .before .before .before .before .before .before .before .pre .1) _ (l .before .before .before .entry-at .ensures) _ (l .before .before .type-suits .ensures) (l .before .if1 .left) _ (search attributes-end) 
+judge-block-returns-4 t c = let l = c .before in type-suits _ _ _ _ _ _ _ _ (l .before .before .before .before .before .before .before .before .pre .1) _ (l .before .before .before .entry-at .ensures) _ (l .before .before .type-suits .ensures) (l .before .if1 .left) _ (search attributes-end)
 
 pub +judge-block-spec : {M : Type 1} → statement M
 +judge-block-spec = close μ-judge-block λ t. judge-block-lts.spec (
