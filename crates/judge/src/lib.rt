@@ -11,6 +11,7 @@ use data::DataRead;
 use data::read_data;
 use refusals::Cause;
 use refusals::Refusal;
+use refusals::limits::LEVEL_LIMIT;
 use table::check::CheckAnswer;
 use table::check::check;
 use table::records::RecordNumber;
@@ -27,9 +28,6 @@ ghost use Rattle.table.specs.Trees.{objectAt};
 ghost use Rattle.judge.specs.Answer.{judged, underRoot, judgeAnswer};
 ghost use Rattle.judge.specs.Items.{tableOf, TableGood};
 ghost use Rattle.judge.specs.Answers.{verdictIn, answerOf};
-
-// The most levels of blocks.
-const LEVEL_LIMIT: usize = 16;
 
 // The longest text that the short tape has room for.
 const SHORT: usize = 1004;

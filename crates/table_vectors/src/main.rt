@@ -12,17 +12,10 @@ use vectors::read_head;
 use vectors::say;
 use vectors::say_number;
 use vectors::say_refusal;
+use vectors::say_title;
 
 // Room for the largest table and a record more.
 const ROOM: usize = 65_568;
-
-// The case's title.
-fn say_title() {
-    let mut title = [0u8; 256];
-    let n = read_bytes(&mut title);
-    say(&title[..n]);
-    say(b":");
-}
 
 // A case of the check: a table.
 fn check_case() {

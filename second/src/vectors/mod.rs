@@ -4,6 +4,7 @@
 //! `write` writes the files below a root, `check` compares them with what it would write. `stream` says how cases
 //! are spelled for a program, and the other modules hold the cases of one program each.
 
+mod forms;
 mod stream;
 mod tables;
 
@@ -25,6 +26,7 @@ fn files() -> Vec<File> {
         all.push(File { path: format!("crates/{program}/stdout"), bytes: stream.output.into_bytes() });
     };
     add("table_vectors", tables::cases());
+    add("judge_vectors", forms::cases());
     all
 }
 
