@@ -1,35 +1,34 @@
 -- Steps of the functions that tell what an attribute says of a block. Assumes nothing.
 use mathlib.Core.Path.{_≡_, refl, sym, ap, _∙_, subst}
 use mathlib.Core.Bool.{Bool, true, false, cond, false≢true}
-use mathlib.Core.Option.{Option, none, some}
-use mathlib.Core.List.{List, [], _∷_}
-use Prim.Native.Nat.{ℕ, zero, suc, _+_, _*_, _-_, _≤_, _<_}
+use mathlib.Core.Option.{some}
+use mathlib.Core.List.{List, _∷_}
+use Prim.Native.Nat.{ℕ, zero, suc, _+_, _-_, _≤_, _<_}
 use native.Mathlib.Omega.{arith}
 use lib.Dec.{eqb, lit<}
 use lib.ListN.{length, take, drop}
-use borrow.Author.Tests.{eq-eqb, ne-eqb}
+use borrow.Author.Tests.{ne-eqb}
 use Rattle.lexis.specs.Bytes.{among}
 use Rattle.lexis.specs.Runs.{part, same}
 use Rattle.lexis.proofs.Cases.{by-cond, either}
-use Rattle.meaning.specs.Constraints.{Leaf, leaf, nested, attribute}
-use Rattle.meaning.specs.Data.{Members, member, Content, string, word, datum}
+use Rattle.meaning.specs.Constraints.{Leaf, leaf}
+use Rattle.meaning.specs.Data.{Members, member, Content, string, word}
 use Rattle.meaning.specs.Data
-use Rattle.meaning.specs.Verdicts.{Verdict, valid, fails}
-use Rattle.meaning.specs.Admission.{Finding, unsuited, refuted, leafNumber}
+use Rattle.meaning.specs.Verdicts.{Verdict, fails}
+use Rattle.meaning.specs.Admission.{leafNumber}
 use Rattle.meaning.specs.Judging.{placeOf, verdictOf, memberOf, judgeMember, judgeLeaf, judgeContent, judgeValue}
 use Rattle.data.specs.Tape.{isBlock, isString, number}
-use Rattle.data.specs.Contracts.{rowAt, RowGood, TapeGood, linked}
-use Rattle.table.specs.Records.{Image, recordSize, field}
-use Rattle.table.specs.Rows.{items, link, rowOf}
+use Rattle.data.specs.Contracts.{rowAt, TapeGood}
+use Rattle.table.specs.Records.{Image, field}
+use Rattle.table.specs.Rows.{items, rowOf}
 use Rattle.table.specs.Check.{kindAt}
-use Rattle.table.specs.Trees.{attributesIn, valueIn, ofLeaf, treeAt}
+use Rattle.table.specs.Trees.{attributesIn, valueIn, treeAt}
 use Rattle.table.specs.Answers.{recordOf}
 use Rattle.table.specs.declared.records.Entry.{Entry}
 use Rattle.table.specs.declared.records.RecordNumber.{RecordNumber}
-use Rattle.table.proofs.UseLaws.{LinkRight}
-use Rattle.judge.specs.Items.{recordIn, nameOf, leafFrom, Lies, Items, tableOf, TableGood}
+use Rattle.judge.specs.Items.{recordIn, nameOf, leafFrom, Lies, Items, tableOf}
 use Rattle.judge.specs.Answers.{findingOf, under, leafVerdict, verdictIn}
-use Rattle.judge.specs.Walking.{contentOn, membersOn, datumOn, foundOn, FoundIs, Begins, BlockGood, LeafRow, blockOn, DatumWithin, MembersWithin, ContentWithin, judgeFirst, Walk, ValueLink, AttributeAt, stepVerdict, Leads, ValueIs, AttributeIs}
+use Rattle.judge.specs.Walking.{contentOn, membersOn, datumOn, foundOn, FoundIs, LeafRow, blockOn, MembersWithin, ContentWithin, judgeFirst, Walk, ValueLink, AttributeAt, Leads, ValueIs, AttributeIs}
 use Rattle.judge.specs.declared.admission.Admission.{Admission}
 use Rattle.judge.specs.declared.members.Found.{Found}
 use Rattle.judge.specs.declared.members.Found.the-variants.{At, Nothing}
@@ -38,7 +37,7 @@ use Rattle.judge.specs.declared.attributes.Verdict as declared
 use Rattle.judge.specs.declared.attributes.Verdict.the-variants as verdict
 use Rattle.judge.specs.declared.attributes.Step.{Step}
 use Rattle.judge.specs.declared.attributes.Step.the-variants.{Told, Nested}
-use Rattle.judge.proofs.TableLaws.{by-kind, number-lies, kind-there, kind-back, link-there, name-there, items-there, object-tree, attribute-tree, leaf-there}
+use Rattle.judge.proofs.TableLaws.{by-kind, number-lies, kind-there, link-there, name-there, items-there, object-tree, attribute-tree, leaf-there}
 
 -- what an admission tells
 module _ (a : Admission) (first place : ℕ) where

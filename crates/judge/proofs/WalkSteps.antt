@@ -4,12 +4,11 @@ use mathlib.Core.Bool.{Bool, true, false, not, cond, false≢true}
 use mathlib.Core.List.{List, [], _∷_}
 use Prim.Native.Nat.{ℕ, zero, suc, _+_, _-_, _≤_, _<_}
 use native.Mathlib.Omega.{arith}
-use lib.Dec.{eqb, lit<}
+use lib.Dec.{lit<}
 use lib.ListN.{length, take, drop}
-use borrow.Author.Tests.{not-true, not-false, eq-eqb, ne-eqb}
+use borrow.Author.Tests.{not-true, not-false, ne-eqb}
 use Rattle.lexis.specs.Runs.{part, same}
 use Rattle.values.proofs.Common.{by-order}
-use Rattle.meaning.specs.Constraints.{attribute}
 use Rattle.meaning.specs.Data.{Datum, datum, Members}
 use Rattle.meaning.specs.Verdicts.{valid, fails}
 use Rattle.meaning.specs.Verdicts
@@ -24,7 +23,7 @@ use Rattle.table.specs.declared.records.RecordNumber.{RecordNumber}
 use Rattle.table.proofs.UseLaws.{LinkRight}
 use Rattle.judge.specs.Items.{recordIn, nameOf, Lies, tableOf, TableGood}
 use Rattle.judge.specs.Answers.{verdictIn}
-use Rattle.judge.specs.Walking.{typeOn, membersOn, datumOn, Begins, BlockGood, DatumWithin, MembersWithin, judgeFirst, Walk, AttributeAt, blockUnder, stepVerdict, Leads, AttributeIs, Under}
+use Rattle.judge.specs.Walking.{typeOn, membersOn, datumOn, BlockGood, DatumWithin, MembersWithin, judgeFirst, Walk, AttributeAt, blockUnder, Leads, AttributeIs, Under}
 use Rattle.judge.specs.declared.members.Block.{Block}
 use Rattle.judge.specs.declared.attributes.Failure.{Failure}
 use Rattle.judge.specs.declared.attributes.Verdict.{Verdict}
