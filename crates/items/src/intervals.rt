@@ -102,10 +102,10 @@ fn after(kind: u8, a: u32) -> u64
     requires { ⌜ HasAfter kind a ⌝ }
     ensures { λ r. ⌜ r ≡ after kind a ⌝ }
 {
-    if kind == DATE {
-        return wide(day_after(a));
+    if kind != DATE {
+        return wide(a) + 1;
     }
-    wide(a) + 1
+    wide(day_after(a))
 }
 
 // The value before another.
@@ -347,10 +347,11 @@ fn close(s: &[u8], kind: u8, low: u64, high: u32, below: bool, from: usize) -> I
             return IntervalRead::Faulty(fault);
         }
         Expected::Taken(t) => {
+            let place = t.start;
             if empty(low, high, below) {
                 return IntervalRead::Faulty(Refusal {
                     cause: Cause::EmptyInterval,
-                    place: t.start,
+                    place,
                 });
             }
             return closed(kind, low, high, below, t.end);

@@ -125,17 +125,13 @@ fn single_leaf(s: &[u8], number: usize, t: Token) -> LeafRead
     let sort = t.sort;
     match sort {
         FIRST_DATE_PATTERN..=LAST_DATE_PATTERN => {
-            let leaf = LeafRead::DatePattern {
-                flag: sort - DATE_PATTERN,
-                next: t.end,
-            };
+            let flag = sort - DATE_PATTERN;
+            let leaf = LeafRead::DatePattern { flag, next: t.end };
             return roomed(number, t.start, leaf);
         }
         FIRST_TIME_PATTERN..=LAST_TIME_PATTERN => {
-            let leaf = LeafRead::TimePattern {
-                flag: sort - TIME_PATTERN,
-                next: t.end,
-            };
+            let flag = sort - TIME_PATTERN;
+            let leaf = LeafRead::TimePattern { flag, next: t.end };
             return roomed(number, t.start, leaf);
         }
         _ => {

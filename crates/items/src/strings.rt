@@ -107,19 +107,20 @@ fn keep_string(
     requires { ⌜ KeepString (now s) number count pool t (now scratch) ⌝ }
     ensures { λ r. ⌜ StringIs (now (s .entry)) number count pool (keptString (now (s .entry)) number count pool (earlier (now (s .entry)) (now (scratch .entry)) 0 count) t (t .end)) (now (scratch .entry)) (now (scratch .exit)) r ⌝ }
 {
+    let place = t.start;
     let start = t.start + 1;
     let stop = t.end - 1;
     if repeated(s, scratch, 0, count, start, stop) {
         return StringRead::Faulty(Refusal {
             cause: Cause::Overlap,
-            place: t.start,
+            place,
         });
     }
     let size = stop - start;
     if POOL_LIMIT < pool + size {
         return StringRead::Faulty(Refusal {
             cause: Cause::PoolTooLarge,
-            place: t.start,
+            place,
         });
     }
     put(scratch, count, narrow(start), narrow(stop));
