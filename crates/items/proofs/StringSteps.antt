@@ -28,8 +28,9 @@ use Rattle.refusals.proofs.StepLaws.{expected-fault, expected-token, expected-p
 use Rattle.meaning.specs.Constraints.{Text}
 use Rattle.meaning.specs.Counting.{textPool}
 use Rattle.items.specs.Strings.{startString, withText, strings}
-use Rattle.items.specs.Spans.{firstOf, secondOf, spanAt, latest, earlier, Within, SpansIn}
-use Rattle.items.specs.Answers.{Before, roomy, withItem, textAt, itemsFrom, stringReading, keptString, StringStartPast, StringStartIs, StringRoom, KeepString, StringKept, Kept, StringIs, StringsIs, LeafRoom}
+use Rattle.items.specs.Spans.{withItem, firstOf, secondOf, spanAt, latest, earlier, Within, SpansIn}
+use Rattle.items.specs.Answers.{textAt, itemsFrom, LeafRoom}
+use Rattle.items.specs.Parts.{Before, roomy, stringReading, keptString, StringStartPast, StringStartIs, StringRoom, KeepString, StringKept, Kept, StringIs, StringsIs}
 use Rattle.items.specs.declared.strings.StringRead.{StringRead}
 use Rattle.items.specs.declared.strings.StringRead.the-variants as stringRead
 use Rattle.items.specs.declared.strings.StringsRead.the-variants as stringsRead

@@ -25,7 +25,7 @@ ghost use mathlib.Core.Path.{_≡_};
 ghost use Prim.Native.Nat.{_≤_};
 ghost use lib.ListN.{length};
 ghost use Rattle.items.specs.Intervals.{undecided, kindBy, least, most, after, before, upTo, above, spread, from, withLiteral, between, interval, ends, empty, closed};
-ghost use Rattle.items.specs.Answers.{HasAfter, HasBefore, endsReading, highEnd, endsBy, opensEnds, At, Closable, NotEmpty, shut, intervalReading, IntervalIs, closing};
+ghost use Rattle.items.specs.Parts.{HasAfter, HasBefore, endsReading, highEnd, endsBy, opensEnds, At, Closable, NotEmpty, shut, intervalReading, IntervalIs, closing};
 ghost use Rattle.refusals.specs.Reading.{got};
 
 // The kind of a list before its first literal is read.

@@ -22,7 +22,8 @@ ghost use mathlib.Core.Path.{_≡_};
 ghost use Prim.Native.Nat.{_≤_};
 ghost use lib.ListN.{length};
 ghost use Rattle.items.specs.Leaves.{isBoolean, booleanFlag, leaf};
-ghost use Rattle.items.specs.Answers.{ListRoom, LeafRoom, LeafIs, secondBy, booleansBy, EveryIs, OneIs, RangeLeafIs, roomed, singleLeaf, stringLeaf};
+ghost use Rattle.items.specs.Answers.{LeafRoom, LeafIs};
+ghost use Rattle.items.specs.Parts.{ListRoom, secondBy, booleansBy, EveryIs, OneIs, RangeLeafIs, roomed, singleLeaf, stringLeaf};
 
 // The first and the last sort of date patterns and of time patterns.
 const FIRST_DATE_PATTERN: u8 = 31;

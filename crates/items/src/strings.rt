@@ -23,7 +23,8 @@ ghost use Rattle.refusals.specs.Limits.{textLimit, itemLimit};
 ghost use Rattle.refusals.specs.Answers.{ExpectIs};
 ghost use Rattle.items.specs.Spans.{earlier};
 ghost use Rattle.items.specs.Strings.{startString, strings};
-ghost use Rattle.items.specs.Answers.{Before, StringStartIs, keptString, StringRoom, KeepString, StringIs, LeafRoom, StringsIs};
+ghost use Rattle.items.specs.Answers.{LeafRoom};
+ghost use Rattle.items.specs.Parts.{Before, StringStartIs, keptString, StringRoom, KeepString, StringIs, StringsIs};
 
 // The bytes of a string's two quotes.
 const QUOTES: usize = 2;
