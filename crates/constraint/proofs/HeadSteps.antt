@@ -22,7 +22,7 @@ use Rattle.refusals.specs.declared.Refusal.{Refusal}
 use Rattle.refusals.specs.declared.steps.Expected.{Expected}
 use Rattle.refusals.specs.declared.steps.Expected.the-variants.{Fault, Taken}
 use Rattle.refusals.proofs.StepLaws.{expected-fault, expected-token, expected-past}
-use Rattle.items.proofs.SpanSteps.{part-length}
+use Rattle.lexis.proofs.Parts.{part-length}
 use Rattle.constraint.specs.Objects.{count, objectType, objectCode, attributeName}
 use Rattle.constraint.specs.Answers.{Counted, pooled, PooledIs, WordPast, WordIs, CodeRoom, CodeIs}
 use Rattle.constraint.specs.declared.heads.CodeRead.the-variants.{Faulty, Code}

@@ -21,20 +21,22 @@ use Rattle.refusals.proofs.Readings.{Holds}
 use Rattle.data.specs.Placed.{span, Block, Content, string, word, inside}
 use Rattle.data.specs.Data.{expect, typeFrom, leafFrom, typed, contentFrom, Down}
 use Rattle.lexis.specs.Postconditions.{TokenIs}
-use Rattle.data.specs.Answers.{Behind, ExpectIs, OpenPast, OpeningIs, typedFrom, leafOf, ContentPast, ContentIs, leafBy, lessFrom, typedContent, contentOf, LeafEnds}
+use Rattle.refusals.specs.Answers.{ExpectIs}
+use Rattle.data.specs.Answers.{Behind, OpenPast, OpeningIs, typedFrom, leafOf, ContentPast, ContentIs, leafBy, lessFrom, typedContent, contentOf, LeafEnds}
 use Rattle.data.specs.Tape.{isWord, contentRows}
-use Rattle.data.specs.declared.tokens.Expected.{Expected}
-use Rattle.data.specs.declared.tokens.Expected.the-variants.{Fault, Taken}
+use Rattle.refusals.specs.declared.steps.Expected.{Expected}
+use Rattle.refusals.specs.declared.steps.Expected.the-variants.{Fault, Taken}
 use Rattle.data.specs.declared.tokens.Opening.{Opening}
 use Rattle.data.specs.declared.tokens.Opening.the-variants.{Shut, Opens}
 use Rattle.data.specs.declared.contents.ContentStart.{ContentStart}
 use Rattle.data.specs.declared.contents.ContentStart.the-variants.{Faulty, Leaf}
 use Rattle.data.specs.declared.contents.ContentStart.the-variants as content
 use Rattle.data.proofs.TreeReading.{ContentRead, leaf-holds}
-use Rattle.data.proofs.TokenSteps.{part-length, expected-fault, expected-token, expected-past}
+use Rattle.refusals.proofs.StepLaws.{expected-fault, expected-token, expected-past}
+use Rattle.lexis.proofs.Parts.{part-length}
 
 -- a leaf's `>`
-module _ (s : List ℕ) (holds place start end from : ℕ) (r : Expected) (e : ExpectIs s greater from r) where
+module _ (s : List ℕ) (holds place start end from : ℕ) (r : Expected) (e : ExpectIs s greater from (expect s greater from) r) where
   pub leaf-unclosed : (x : Refusal) → r ≡ Fault x → LeafEnds s holds place start end from (Faulty x)
   leaf-unclosed x g = record { is = λ down. rw (expected-fault e x g); past = tt }
 
@@ -77,7 +79,7 @@ module _ (s : List ℕ) (place from : ℕ) (t : Token) (tok : TokenIs s from (da
     pub string-long : t .start + 1 + 255 < t .end - 1 → (x : Refusal) → x ≡ refusal TooLong (t .start) → ContentIs s place (leafBy s place t) (Faulty x)
     unfolding leafBy leafFrom
     string-long l x e =
-        let n = part-length s (t .start + 1) (t .end - 1) (omega arith) (omega arith) in
+        let n = part-length s (t .start + 1) (t .end - 1) (omega arith) in
         record { is = λ down. rw (eq-eqb (t .sort) 11 k, n, lt-ltb 255 (t .end - 1 - (t .start + 1)) (omega arith), e); past = tt }
 
     string-small : t .end - 1 ≤ t .start + 1 + 255 → length (inner s t) ≤ 255

@@ -18,20 +18,21 @@ use Rattle.refusals.specs.declared.Refusal.{Refusal}
 use Rattle.data.specs.Placed.{Span, Block, block, Entries}
 use Rattle.data.specs.Data.{expect, blockFrom, outermost, blockOf}
 use Rattle.data.specs.Tape.{entryRows, typeStart, typeEnd, entriesTape}
-use Rattle.data.specs.Answers.{ExpectIs, typeSpan, openReading, OpenPast, OutermostIs, Wrote, Room, RowsPast, RowsIs, entriesFrom, TapeRoom, endAnswer, dataWrote, dataWritten}
-use Rattle.data.specs.declared.tokens.Expected.{Expected}
-use Rattle.data.specs.declared.tokens.Expected.the-variants.{Fault, Taken}
+use Rattle.refusals.specs.Answers.{ExpectIs}
+use Rattle.data.specs.Answers.{typeSpan, openReading, OpenPast, OutermostIs, Wrote, Room, RowsPast, RowsIs, entriesFrom, TapeRoom, endAnswer, dataWrote, dataWritten}
+use Rattle.refusals.specs.declared.steps.Expected.{Expected}
+use Rattle.refusals.specs.declared.steps.Expected.the-variants.{Fault, Taken}
 use Rattle.data.specs.declared.tokens.Opening.{Opening}
 use Rattle.data.specs.declared.tokens.Opening.the-variants.{Shut, Opens}
 use Rattle.data.specs.declared.blocks.RowsRead.{RowsRead}
 use Rattle.data.specs.declared.blocks.RowsRead.the-variants as rows
 use Rattle.data.specs.declared.DataRead.{DataRead}
 use Rattle.data.specs.declared.DataRead.the-variants.{Refused, Read}
-use Rattle.data.proofs.TokenSteps.{expected-fault, expected-token}
+use Rattle.refusals.proofs.StepLaws.{expected-fault, expected-token}
 use Rattle.data.proofs.BlockSteps.{type-places, block-entries, IsRows, is-rows, is-refused}
 
 -- the text's end
-module _ (s : List ℕ) (place start end rows from : ℕ) (r : Expected) (e : ExpectIs s textEnd from r) where
+module _ (s : List ℕ) (place start end rows from : ℕ) (r : Expected) (e : ExpectIs s textEnd from (expect s textEnd from) r) where
   pub end-missing : (x : Refusal) → r ≡ Fault x → Refused x ≡ endAnswer place start end rows (expect s textEnd from)
   end-missing x g = rw (expected-fault e x g)
 

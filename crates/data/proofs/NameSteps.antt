@@ -20,14 +20,16 @@ use Rattle.refusals.specs.declared.Refusal.{Refusal}
 use Rattle.data.specs.Placed.{span}
 use Rattle.data.specs.Data.{expect, nameFrom, spanOf}
 use Rattle.data.specs.Tape.{rowSize}
-use Rattle.data.specs.Answers.{ExpectIs, spanReading, SpanPast, SpanIs, ContentIs, contentOf, Inside, letterAt, numberAt, earlier, Chain, Earlier, memberOf}
-use Rattle.data.specs.declared.tokens.Expected.{Expected}
-use Rattle.data.specs.declared.tokens.Expected.the-variants.{Fault, Taken}
+use Rattle.refusals.specs.Answers.{ExpectIs}
+use Rattle.data.specs.Answers.{spanReading, SpanPast, SpanIs, ContentIs, contentOf, Inside, letterAt, numberAt, earlier, Chain, Earlier, memberOf}
+use Rattle.refusals.specs.declared.steps.Expected.{Expected}
+use Rattle.refusals.specs.declared.steps.Expected.the-variants.{Fault, Taken}
 use Rattle.data.specs.declared.tokens.SpanRead.{SpanRead}
 use Rattle.data.specs.declared.tokens.SpanRead.the-variants.{Bad, Spans}
 use Rattle.data.specs.declared.contents.ContentStart.{ContentStart}
 use Rattle.data.specs.declared.contents.ContentStart.the-variants.{Faulty}
-use Rattle.data.proofs.TokenSteps.{part-length, expected-fault, expected-token, expected-past}
+use Rattle.refusals.proofs.StepLaws.{expected-fault, expected-token, expected-past}
+use Rattle.lexis.proofs.Parts.{part-length}
 use Rattle.data.proofs.ContentSteps.{content-lower}
 
 -- one more than a list's first number, 0 where it has none
@@ -45,7 +47,7 @@ letter-none s at end h = rw (le-ltb at end h)
 -- a letter of a name is the first number of what is left of it
 module _ (s : List ℕ) (start end i : ℕ) (inside : end ≤ length s) (le : start + i ≤ end) where
   long : length (part s start end) ≡ end - start
-  long = part-length s start end (omega arith) inside
+  long = part-length s start end inside
 
   letter-first : letterAt s (start + i) end ≡ first (drop i (part s start end))
   letter-first = by (ltb (start + i) end) refl
@@ -224,7 +226,7 @@ module _ (s tape : List ℕ) (low end start stop n from to i : ℕ) (again : Boo
 -- a name and its `=`
 module _ (s : List ℕ) (seen : List (List ℕ)) (t : Token) (inside : Inside s (t .start) (t .end)) where
   many : length (spelling s t) ≡ t .end - t .start
-  many = part-length s (t .start) (t .end) (omega arith) (omega arith)
+  many = part-length s (t .start) (t .end) (omega arith)
 
   pub name-long : nameLimit < t .end - t .start → (x : Refusal) → x ≡ refusal TooLong (t .start) → SpanIs s (t .start) (nameFrom s seen t) (Bad x)
   unfolding nameFrom
@@ -235,7 +237,7 @@ module _ (s : List ℕ) (seen : List (List ℕ)) (t : Token) (inside : Inside s 
     unfolding nameFrom
     name-again e = record { is = rw (many, le-ltb nameLimit (t .end - t .start) l, ← is, e); past = tt }
 
-    module _ (new : again ≡ false) (r : Expected) (d : ExpectIs s equals (t .end) r) where
+    module _ (new : again ≡ false) (r : Expected) (d : ExpectIs s equals (t .end) (expect s equals (t .end)) r) where
       named : andThen (expect s equals (t .end)) (λ u p. got (spanOf t) p) ≡ nameFrom s seen t
       unfolding nameFrom
       named = rw (many, le-ltb nameLimit (t .end - t .start) l, ← is, new)

@@ -4,9 +4,8 @@ use mathlib.Core.Option.{some}
 use mathlib.Core.List.{List}
 use Prim.Native.Nat.{ℕ, _-_, _≤_, _<_}
 use native.Mathlib.Omega.{arith}
-use lib.ListN.{length, length-take, length-drop}
+use lib.ListN.{length}
 use borrow.Author.Tests.{eq-eqb, ne-eqb, lt-ltb, le-ltb}
-use Rattle.lexis.specs.Runs.{part}
 use Rattle.lexis.specs.Spelling.{less}
 use Rattle.lexis.specs.Tokens.{typeName}
 use Rattle.lexis.specs.DataTokens.{dataTokenAt, typeTokenAt, openRound, closeRound}
@@ -15,61 +14,33 @@ use Rattle.refusals.specs.Limits.{nameLimit, levelLimit}
 use Rattle.refusals.specs.Reading.{refused, got, andThen}
 use Rattle.refusals.specs.Refusals.{refusal}
 use Rattle.refusals.specs.Steps.{syntaxCause}
-use Rattle.refusals.specs.declared.Cause.{Cause}
-use Rattle.refusals.specs.declared.Cause.the-variants.{Unreadable, CannotFollow, EndsEarly, TooLong}
+use Rattle.refusals.specs.declared.Cause.the-variants.{TooLong}
 use Rattle.refusals.specs.declared.Refusal.{Refusal}
 use Rattle.data.specs.Placed.{span}
 use Rattle.data.specs.Data.{expect, typeFrom, typed, spanOf, blockFrom, outermost}
 use Rattle.lexis.specs.Postconditions.{TokenIs}
-use Rattle.data.specs.Answers.{Before, causeOf, tokenReading, TokenPast, ExpectIs, spanReading, SpanPast, SpanIs, typeSpan, OpenPast, OpeningIs, OutermostIs, typedLess, typedFrom}
-use Rattle.data.specs.declared.tokens.Expected.{Expected}
-use Rattle.data.specs.declared.tokens.Expected.the-variants.{Fault, Taken}
+use Rattle.lexis.proofs.Parts.{part-length}
+use Rattle.refusals.proofs.StepLaws.{expected-fault, expected-token, expected-past}
+use Rattle.refusals.specs.Answers.{ExpectIs}
+use Rattle.data.specs.Answers.{Before, spanReading, SpanPast, SpanIs, typeSpan, OpenPast, OpeningIs, OutermostIs, typedLess, typedFrom}
+use Rattle.refusals.specs.declared.steps.Expected.{Expected}
+use Rattle.refusals.specs.declared.steps.Expected.the-variants.{Fault, Taken}
 use Rattle.data.specs.declared.tokens.SpanRead.{SpanRead}
 use Rattle.data.specs.declared.tokens.SpanRead.the-variants.{Bad, Spans}
 use Rattle.data.specs.declared.tokens.Opening.{Opening}
 use Rattle.data.specs.declared.tokens.Opening.the-variants.{Shut, Opens}
 
--- the cause of a fault, by the token's sort
-module _ (sort : ℕ) where
-  pub cause-end : sort ≡ 0 → EndsEarly ≡ causeOf sort
-  cause-end e = rw (eq-eqb sort 0 e)
-
-  pub cause-unreadable : (sort ≡ 0 → ⊥) → sort ≡ 1 → Unreadable ≡ causeOf sort
-  cause-unreadable n e = rw (ne-eqb sort 0 n, eq-eqb sort 1 e)
-
-  pub cause-follow : (sort ≡ 0 → ⊥) → (sort ≡ 1 → ⊥) → CannotFollow ≡ causeOf sort
-  cause-follow n m = rw (ne-eqb sort 0 n, ne-eqb sort 1 m)
-
--- the refusal of a token with that cause
-pub fault-is : (t : Token) (k : Cause) → k ≡ causeOf (t .sort) → refusal k (t .start) ≡ refusal (syntaxCause t) (t .start)
-fault-is t k e = ap (λ x. refusal x (t .start)) e
-
--- a token's bytes are as many as its places say
-pub part-length : (s : List ℕ) (start end : ℕ) → start ≤ end → end ≤ length s → length (part s start end) ≡ end - start
-part-length s start end o i = simp (length-take, length-drop) (omega arith)
-
 module _ (s : List ℕ) (sort from : ℕ) (t : Token) (tok : TokenIs s from (dataTokenAt s from) t) where
-  pub expect-taken : t .sort ≡ sort → ExpectIs s sort from (Taken t)
+  pub expect-taken : t .sort ≡ sort → ExpectIs s sort from (expect s sort from) (Taken t)
   unfolding expect
   expect-taken e = record {
     is = rw (← tok .is, eq-eqb (t .sort) sort e);
     past = (tok .start, tok .order, tok .inside, λ k. tok .strict (omega arith));
   }
 
-  pub expect-fault : (t .sort ≡ sort → ⊥) → (x : Refusal) → x ≡ refusal (syntaxCause t) (t .start) → ExpectIs s sort from (Fault x)
+  pub expect-fault : (t .sort ≡ sort → ⊥) → (x : Refusal) → x ≡ refusal (syntaxCause t) (t .start) → ExpectIs s sort from (expect s sort from) (Fault x)
   unfolding expect
   expect-fault n x e = record { is = rw (← tok .is, ne-eqb (t .sort) sort n, e); past = tt }
-
--- what an expected token's answer says of the definition
-module _ {s : List ℕ} {sort from : ℕ} {r : Expected} (e : ExpectIs s sort from r) where
-  pub expected-fault : (x : Refusal) → r ≡ Fault x → expect s sort from ≡ refused x
-  expected-fault x g = sym (e .is) ∙ ap tokenReading g
-
-  pub expected-token : (t : Token) → r ≡ Taken t → expect s sort from ≡ got t (t .end)
-  expected-token t g = sym (e .is) ∙ ap tokenReading g
-
-  pub expected-past : (t : Token) → r ≡ Taken t → TokenPast s sort from (Taken t)
-  expected-past t g = rw g at (e .past)
 
 -- a type
 module _ (s : List ℕ) (from : ℕ) (t : Token) (tok : TokenIs s from (typeTokenAt s from) t) where
@@ -81,14 +52,14 @@ module _ (s : List ℕ) (from : ℕ) (t : Token) (tok : TokenIs s from (typeToke
     pub type-long : nameLimit < t .end - t .start → (x : Refusal) → x ≡ refusal TooLong (t .start) → SpanIs s from (typeFrom s from) (Bad x)
     unfolding typeFrom
     type-long l x e =
-        let n = part-length s (t .start) (t .end) (tok .order) (tok .inside) in
+        let n = part-length s (t .start) (t .end) (tok .inside) in
         record { is = rw (← tok .is, eq-eqb (t .sort) typeName k, n, lt-ltb nameLimit (t .end - t .start) l, e); past = tt }
 
-    module _ (l : t .end - t .start ≤ nameLimit) (r : Expected) (e : ExpectIs s closeRound (t .end) r) where
+    module _ (l : t .end - t .start ≤ nameLimit) (r : Expected) (e : ExpectIs s closeRound (t .end) (expect s closeRound (t .end)) r) where
       short : andThen (expect s closeRound (t .end)) (λ u p. got (spanOf t) p) ≡ typeFrom s from
       unfolding typeFrom
       short =
-          let n = part-length s (t .start) (t .end) (tok .order) (tok .inside) in
+          let n = part-length s (t .start) (t .end) (tok .inside) in
           rw (← tok .is, eq-eqb (t .sort) typeName k, n, le-ltb nameLimit (t .end - t .start) l)
 
       pub type-unclosed : (x : Refusal) → r ≡ Fault x → SpanIs s from (typeFrom s from) (Bad x)
@@ -106,7 +77,7 @@ pub type-span : (start end : ℕ) → start < end → typeSpan start end ≡ som
 type-span start end h = rw (ne-eqb end 0 (λ e. omega arith))
 
 -- the `<` of a block with a type
-module _ (s : List ℕ) (start end from : ℕ) (r : Expected) (e : ExpectIs s less from r) where
+module _ (s : List ℕ) (start end from : ℕ) (r : Expected) (e : ExpectIs s less from (expect s less from) r) where
   pub less-missing : (x : Refusal) → r ≡ Fault x → OpeningIs s from (typedLess s start end from) (Shut x)
   unfolding typedLess typed
   less-missing x g = record { is = λ down. rw (expected-fault e x g); past = tt }

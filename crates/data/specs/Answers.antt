@@ -9,19 +9,16 @@ use lib.ListN.{length, getD}
 use lib.Seq.{sets}
 use Rattle.lexis.specs.Runs.{byteAt, part}
 use Rattle.lexis.specs.Spelling.{greater}
-use Rattle.lexis.specs.Tokens.{textEnd, unreadable, name}
+use Rattle.lexis.specs.Tokens.{name}
 use Rattle.lexis.specs.Tokens
 use Rattle.lexis.specs.DataTokens.{dataTokenAt, wordRun}
 use Rattle.lexis.specs.declared.Token.{Token}
 use Rattle.refusals.specs.Limits.{textLimit, levelLimit}
-use Rattle.refusals.specs.declared.Cause.{Cause}
-use Rattle.refusals.specs.declared.Cause.the-variants.{Unreadable, CannotFollow, EndsEarly, TooDeep}
+use Rattle.refusals.specs.declared.Cause.the-variants.{TooDeep}
 use Rattle.refusals.specs.Reading.{Reading, refused, got, refuse, andThen}
 use Rattle.data.specs.Placed.{Span, span, Block, block, Entries, Content, string, word, inside}
 use Rattle.data.specs.Data.{expect, typeFrom, leafFrom, Down, typed, contentFrom, nameFrom, members, blockFrom, outermost, spanOf}
 use Rattle.data.specs.Tape.{rowSize, isString, entryRows, contentRows, rowOf, entriesTape, contentTape, typeStart, typeEnd}
-use Rattle.data.specs.declared.tokens.Expected.{Expected}
-use Rattle.data.specs.declared.tokens.Expected.the-variants.{Fault, Taken}
 use Rattle.data.specs.declared.tokens.SpanRead.{SpanRead}
 use Rattle.data.specs.declared.tokens.SpanRead.the-variants.{Bad, Spans}
 use Rattle.data.specs.declared.tokens.Opening.{Opening}
@@ -35,23 +32,6 @@ use Rattle.data.specs.declared.blocks.MemberRead.{MemberRead}
 use Rattle.data.specs.declared.blocks.MemberRead.the-variants.{Not, Member}
 use Rattle.data.specs.declared.DataRead.{DataRead}
 use Rattle.data.specs.declared.DataRead.the-variants as read
-
--- why a token of a sort is a syntax fault
-abbrev pub causeOf : ℕ → Cause
-causeOf sort = cond (eqb sort textEnd) EndsEarly (cond (eqb sort unreadable) Unreadable CannotFollow)
-
--- an expected token as a reading
-abbrev pub tokenReading : Expected → Reading Token
-tokenReading (Fault x) = refused x
-tokenReading (Taken t) = got t (t .end)
-
-abbrev pub TokenPast : List ℕ → ℕ → ℕ → Expected → Type 0
-TokenPast s sort from (Fault x) = Unit {0}
-TokenPast s sort from (Taken t) = (from ≤ t .start) × (t .start ≤ t .end) × (t .end ≤ length s) × (1 < sort → t .start < t .end)
-
-pub record ExpectIs (s : List ℕ) (sort from : ℕ) (r : Expected) : Type 0 where
-  pub is : tokenReading r ≡ expect s sort from
-  pub past : TokenPast s sort from r
 
 -- a name or a type as a reading
 abbrev pub spanReading : SpanRead → Reading Span

@@ -1,9 +1,6 @@
 // What stands behind a member's `=`: a leaf, or the opening of a block.
-use crate::tokens::Expected;
 use crate::tokens::Opening;
 use crate::tokens::expect;
-use crate::tokens::syntax_fault;
-use crate::tokens::too_long;
 use crate::tokens::typed_opening;
 use lexis::GREATER;
 use lexis::LESS;
@@ -15,6 +12,9 @@ use lexis::data_tokens::data_token_at;
 use refusals::Cause;
 use refusals::Refusal;
 use refusals::limits::STRING_LIMIT;
+use refusals::steps::Expected;
+use refusals::steps::syntax_fault;
+use refusals::steps::too_long;
 use values::words::good;
 ghost use mathlib.Core.Path.{_≡_};
 ghost use Prim.Native.Nat.{_≤_};

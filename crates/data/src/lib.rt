@@ -7,7 +7,6 @@ mod tokens;
 
 use crate::blocks::RowsRead;
 use crate::blocks::read_block;
-use crate::tokens::Expected;
 use crate::tokens::Opening;
 use crate::tokens::expect;
 use crate::tokens::outermost_opening;
@@ -16,6 +15,7 @@ use refusals::Cause;
 use refusals::Refusal;
 use refusals::limits::LEVEL_LIMIT;
 use refusals::limits::TEXT_LIMIT;
+use refusals::steps::Expected;
 ghost use mathlib.Core.Path.{_≡_};
 ghost use Prim.Native.Nat.{_≤_};
 ghost use lib.ListN.{length};

@@ -2,15 +2,15 @@
 use crate::contents::ContentStart;
 use crate::contents::content_start;
 use crate::rows::number;
-use crate::tokens::Expected;
 use crate::tokens::SpanRead;
 use crate::tokens::expect;
-use crate::tokens::too_long;
 use lexis::EQUALS;
 use lexis::Token;
 use refusals::Cause;
 use refusals::Refusal;
 use refusals::limits::NAME_LIMIT;
+use refusals::steps::Expected;
+use refusals::steps::too_long;
 ghost use mathlib.Core.Path.{_≡_};
 ghost use Prim.Native.Nat.{_+_, _≤_};
 ghost use lib.ListN.{length};

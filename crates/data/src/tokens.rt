@@ -2,29 +2,19 @@
 use lexis::CLOSE_ROUND;
 use lexis::LESS;
 use lexis::OPEN_ROUND;
-use lexis::TEXT_END;
 use lexis::TYPE_NAME;
-use lexis::Token;
-use lexis::UNREADABLE;
 use lexis::data_tokens::data_token_at;
 use lexis::data_tokens::type_token_at;
-use refusals::Cause;
 use refusals::Refusal;
 use refusals::limits::NAME_LIMIT;
-ghost use mathlib.Core.Path.{_≡_};
+use refusals::steps::Expected;
+use refusals::steps::syntax_fault;
+use refusals::steps::too_long;
 ghost use Prim.Native.Nat.{_≤_};
 ghost use lib.ListN.{length};
-ghost use Rattle.refusals.specs.Steps.{syntaxCause};
-ghost use Rattle.refusals.specs.Refusals.{refusal};
-ghost use Rattle.refusals.specs.declared.Cause.the-variants.{TooLong};
-ghost use Rattle.data.specs.Data.{typeFrom};
-ghost use Rattle.data.specs.Answers.{causeOf, ExpectIs, SpanIs, Before, OpeningIs, typedLess, typedFrom, OutermostIs};
-
-// A token that must stand at a place, or the refusal where another does.
-pub enum Expected {
-    Fault(Refusal),
-    Taken(Token),
-}
+ghost use Rattle.refusals.specs.Answers.{ExpectIs};
+ghost use Rattle.data.specs.Data.{expect, typeFrom};
+ghost use Rattle.data.specs.Answers.{SpanIs, Before, OpeningIs, typedLess, typedFrom, OutermostIs};
 
 // A name or a type and the place behind the mark that ends it, or its refusal.
 pub enum SpanRead {
@@ -47,44 +37,10 @@ pub enum Opening {
     },
 }
 
-// Why a token is a syntax fault.
-fn syntax_cause(sort: u8) -> Cause
-    ensures { λ r. ⌜ r ≡ causeOf sort ⌝ }
-{
-    if sort == TEXT_END {
-        return Cause::EndsEarly;
-    }
-    if sort == UNREADABLE {
-        return Cause::Unreadable;
-    }
-    Cause::CannotFollow
-}
-
-// The refusal of a token that cannot follow.
-pub fn syntax_fault(t: Token) -> Refusal
-    ensures { λ r. ⌜ r ≡ refusal (syntaxCause t) (t .start) ⌝ }
-{
-    let cause = syntax_cause(t.sort);
-    Refusal {
-        cause,
-        place: t.start,
-    }
-}
-
-// The refusal of a type, a name or a string that is too long.
-pub fn too_long(t: Token) -> Refusal
-    ensures { λ r. ⌜ r ≡ refusal TooLong (t .start) ⌝ }
-{
-    Refusal {
-        cause: Cause::TooLong,
-        place: t.start,
-    }
-}
-
 // A token of the sort asked for.
 pub fn expect(s: &[u8], sort: u8, from: usize) -> Expected
     requires { ⌜ from ≤ length (now s) ⌝ }
-    ensures { λ r. ⌜ ExpectIs (now (s .entry)) sort from r ⌝ }
+    ensures { λ r. ⌜ ExpectIs (now (s .entry)) sort from (expect (now (s .entry)) sort from) r ⌝ }
 {
     let t = data_token_at(s, from);
     if t.sort == sort {

@@ -5,15 +5,12 @@ use mathlib.Core.List.{List, [], _∷_}
 use Prim.Native.Nat.{ℕ, suc, _+_, _*_, _-_, _≤_, _<_}
 use native.Mathlib.Omega.{arith}
 use lib.Dec.{ltb}
-use lib.ListN.{length, getD, drop, length-take, length-drop, drop-of-length-le}
+use lib.ListN.{length, getD, drop, drop-of-length-le}
 use lib.Seq.{drop-cons, drop-drop, getD-take, getD-drop}
 use borrow.Author.Tests.{eq-eqb, ne-eqb, lt-ltb, le-ltb, ltb-true, ltb-false}
 use Rattle.lexis.specs.Runs.{byteAt, part, same, listed}
+use Rattle.lexis.proofs.Parts.{part-length}
 use Rattle.items.specs.Spans.{firstOf, secondOf, spanAt, latest, earlier, SpansIn, letterAt}
-
--- the bytes of a part of the text are as many as its places say
-pub part-length : (s : List ℕ) (start end : ℕ) → end ≤ length s → length (part s start end) ≡ end - start
-part-length s start end h = simp (length-take, length-drop) (omega arith)
 
 -- one more than a list's first number, 0 where it has none
 abbrev head : List ℕ → ℕ

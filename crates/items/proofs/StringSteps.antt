@@ -34,7 +34,7 @@ use Rattle.items.specs.Parts.{Before, roomy, stringReading, keptString, 
 use Rattle.items.specs.declared.strings.StringRead.{StringRead}
 use Rattle.items.specs.declared.strings.StringRead.the-variants as stringRead
 use Rattle.items.specs.declared.strings.StringsRead.the-variants as stringsRead
-use Rattle.items.proofs.SpanSteps.{part-length}
+use Rattle.lexis.proofs.Parts.{part-length}
 use Rattle.items.proofs.ItemLaws.{item-first, item-second, item-kept, all-kept, first-kept, second-kept, latest-more, latest-same, items-last, items-same, roomy-none, roomy-some}
 
 -- a string that is not too long

@@ -3,11 +3,15 @@ use mathlib.Core.Path.{_≡_, subst}
 use mathlib.Core.List.{List, [], _∷_, _++_, append-nil}
 use Prim.Native.Nat.{ℕ, _+_, _-_, _≤_}
 use native.Mathlib.Omega.{arith}
-use lib.ListN.{length}
+use lib.ListN.{length, length-take, length-drop}
 use lib.Seq.{take-add, drop-drop}
 use native.Mathlib.Decide.{decLe}
 use Rattle.lexis.specs.Runs.{part}
 use Rattle.lexis.specs.Order.{Sub, none, keep, pass}
+
+-- the bytes of a part of the text are as many as its places say
+pub part-length : (s : List ℕ) (start end : ℕ) → end ≤ length s → length (part s start end) ≡ end - start
+part-length s start end h = simp (length-take, length-drop) (omega arith)
 
 pub sub-none : (ys : List ℕ) → Sub [] ys
 sub-none [] = none

@@ -20,7 +20,7 @@ use Rattle.data.proofs.blocks.finish.Reads as finish-reads
 use Rattle.data.proofs.blocks.leaf_row.Reads as leaf-row-reads
 use Rattle.lexis.proofs.data_tokens.data_token_at.Reads as data-token-at-reads
 use Rattle.data.proofs.names.member_start.Reads as member-start-reads
-use Rattle.data.proofs.tokens.syntax_fault.Reads as syntax-fault-reads
+use Rattle.refusals.proofs.steps.syntax_fault.Reads as syntax-fault-reads
 use Rattle.data.proofs.blocks.+read_block+read_member+read_members.{statement}
 use Rattle.data.proofs.blocks.+read_block+read_member+read_members.Tie.{close}
 
