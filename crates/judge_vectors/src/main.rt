@@ -1,38 +1,15 @@
 // Runs cases of judging from standard input, and prints a line for each.
-use judge::JudgeResult;
 use judge::judge;
 use vectors::read_bytes;
 use vectors::read_head;
 use vectors::say;
-use vectors::say_number;
-use vectors::say_refusal;
+use vectors::say_judge;
 use vectors::say_title;
 
 // Room for the largest table, and for a data text that is too long.
 const TABLE_ROOM: usize = 65_568;
 
 const TEXT_ROOM: usize = 16_400;
-
-// What judging answers.
-fn say_judge(answer: JudgeResult) {
-    match answer {
-        JudgeResult::Valid => {
-            say(b" valid");
-        }
-        JudgeResult::Refused(refusal) => {
-            say_refusal(refusal);
-        }
-        JudgeResult::Failed {
-            reason,
-            record,
-            place,
-        } => {
-            say_number(b" reason ", reason as u64);
-            say_number(b", record ", record.0 as u64);
-            say_number(b", place ", place as u64);
-        }
-    }
-}
 
 // A case of judging at a root: a table and a data text.
 fn judge_case(root: u32) {

@@ -1,5 +1,4 @@
 // Runs cases of check, name and merge from standard input, and prints a line for each.
-use merge::MergeResult;
 use merge::merge;
 use table::check::CheckAnswer;
 use table::check::check;
@@ -10,6 +9,7 @@ use vectors::digest;
 use vectors::read_bytes;
 use vectors::read_head;
 use vectors::say;
+use vectors::say_merge;
 use vectors::say_number;
 use vectors::say_refusal;
 use vectors::say_title;
@@ -50,25 +50,6 @@ fn name_case(record: u32) {
     let mut table = [0u8; ROOM];
     let n = read_bytes(&mut table);
     say_name(&table[..n], record);
-}
-
-// What a merge answers.
-fn say_merge(answer: MergeResult) {
-    match answer {
-        MergeResult::Done {
-            length,
-            records,
-            pool,
-        } => {
-            say_number(b" length ", length as u64);
-            say_number(b", shifts ", records.0 as u64);
-            say_number(b" and ", pool.0 as u64);
-        }
-        MergeResult::Refused { table, refusal } => {
-            say_refusal(refusal);
-            say_number(b", table ", table as u64);
-        }
-    }
 }
 
 // Two tables merged into an output.

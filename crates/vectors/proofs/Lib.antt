@@ -1,1 +1,2 @@
 mod DigestSteps
+mod Counting

@@ -89,3 +89,24 @@ pub fn read_bytes(buf: &mut [u8]) -> usize
         at = next;
     }
 }
+
+// So many bytes of a buffer, or all where it has fewer.
+pub fn within(n: usize, buf: &[u8]) -> usize
+    ensures { λ r. ⌜ Counts r (now (buf .entry)) ⌝ }
+{
+    if n < buf.len() { n } else { buf.len() }
+}
+
+// Copies the front of one buffer to the front of another, as far as both go.
+pub fn copy(from: &[u8], to: &mut [u8])
+    ensures { λ _. ⌜ length (now (to .exit)) ≡ length (now (to .entry)) ⌝ }
+{
+    let mut i = 0;
+    while i < to.len() {
+        if from.len() <= i {
+            return;
+        }
+        to[i] = from[i];
+        i += 1;
+    }
+}

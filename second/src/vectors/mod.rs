@@ -7,6 +7,7 @@
 mod forms;
 mod stream;
 mod tables;
+mod texts;
 
 use std::fs;
 use std::path::Path;
@@ -27,6 +28,7 @@ fn files() -> Vec<File> {
     };
     add("table_vectors", tables::cases());
     add("judge_vectors", forms::cases());
+    // add("compile_vectors", texts::cases());
     all
 }
 

@@ -1,18 +1,11 @@
 -- `vectors::reading::read_bytes` meets its contract. Assumes nothing.
-use mathlib.Core.Path.{_≡_, sym}
-use mathlib.Core.List.{List}
-use Prim.Native.Nat.{ℕ, _-_, _≤_}
-use native.Mathlib.Omega.{arith}
-use lib.ListN.{length, take}
-use lib.Seq.{length-take-le}
+use Prim.Native.Nat.{_-_}
+use lib.ListN.{length}
 use borrow.Author.Needs.{needs}
 use Rattle.vectors.specs.Reading.{Grown}
+use Rattle.vectors.proofs.Counting.{counts-read}
 use Rattle.vectors.proofs.reading.read_bytes.Statement.{statement}
 use Rattle.vectors.proofs.reading.read_bytes.Tie as tie
-
--- a place behind which nothing more was read counts the bytes before it
-counts : (after : List ℕ) (r next : ℕ) (before : List ℕ) → Grown r before after next → (r ≤ length after) × (r ≡ length (take r after))
-counts after r next before h = let k : r ≤ length after = omega arith in (k, sym (length-take-le r after k))
 
 abbrev Inv-loop : tie.InvT-loop
 Inv-loop buf₀ at₀ buf at = Grown 0 buf₀ buf at
@@ -30,7 +23,7 @@ same-length : tie.Need-same-length Inv-loop μ-loop
 same-length c = search needs
 
 returns : tie.Need-returns Inv-loop μ-loop
-returns c = search counts
+returns c = search counts-read
 
 loop-less : tie.Need-loop-less Inv-loop μ-loop
 loop-less c = search needs
