@@ -3,16 +3,19 @@ use mathlib.Core.Path.{_≡_, refl}
 use mathlib.Core.Bool.{Bool, true, false, cond}
 use mathlib.Core.Option.{Option, none, some}
 use mathlib.Core.List.{List}
-use Prim.Native.Nat.{ℕ, _+_}
+use Prim.Native.Nat.{ℕ, _+_, _≤_}
 use lib.Dec.{ltb}
 use lib.ListN.{length, drop}
 use lib.Seq.{take-append-seam, drop-append-seam}
 use native.Mathlib.Omega.{arith}
-use borrow.Author.Tests.{le-ltb}
+use borrow.Author.Tests.{lt-ltb, le-ltb}
 use Rattle.refusals.specs.Reading
 use Rattle.refusals.specs.Reading.{Reading, got}
 use Rattle.refusals.specs.Limits.{recordLimit, poolLimit}
 use Rattle.refusals.specs.declared.Refusal.{Refusal}
+use Rattle.refusals.specs.declared.Cause.{Cause}
+use Rattle.refusals.specs.declared.Cause.the-variants.{TextTooLong, Unreadable, CannotFollow, EndsEarly, TooDeep, TooLong, Impossible, OutOfRange, BadWord, EmptyInterval, TooManyItems, TooManyRecords, Overlap, RepeatedName, PoolTooLarge, OutputTooShort, NotATable, BrokenRecord, NotAnObject, NoName}
+use Rattle.refusals.specs.Refusals.{numberOf}
 use Rattle.meaning.specs.Constraints.{Object}
 use Rattle.constraint.specs.Texts.{constraintOf}
 use Rattle.table.specs.Records.{count, imageOf, bytesOf}
@@ -70,9 +73,33 @@ merge-kept first second little out =
     (kept-unless out (ltb (length out) (length bs)) _ _
     (kept-done out _ _ (λ table r e. let z : _≡_ {A = ℕ} 0 1 = cc in omega arith))))))
 
+-- the causes, by their numbers
+numbered : (c : Cause) → (1 ≤ numberOf c) × (numberOf c ≤ 14)
+unfolding numberOf
+numbered TextTooLong = (omega arith, omega arith)
+numbered Unreadable = (omega arith, omega arith)
+numbered CannotFollow = (omega arith, omega arith)
+numbered EndsEarly = (omega arith, omega arith)
+numbered TooDeep = (omega arith, omega arith)
+numbered TooLong = (omega arith, omega arith)
+numbered Impossible = (omega arith, omega arith)
+numbered OutOfRange = (omega arith, omega arith)
+numbered BadWord = (omega arith, omega arith)
+numbered EmptyInterval = (omega arith, omega arith)
+numbered TooManyItems = (omega arith, omega arith)
+numbered TooManyRecords = (omega arith, omega arith)
+numbered Overlap = (omega arith, omega arith)
+numbered RepeatedName = (omega arith, omega arith)
+numbered PoolTooLarge = (omega arith, omega arith)
+numbered OutputTooShort = (omega arith, omega arith)
+numbered NotATable = (omega arith, omega arith)
+numbered BrokenRecord = (omega arith, omega arith)
+numbered NotAnObject = (omega arith, omega arith)
+numbered NoName = (omega arith, omega arith)
+
 pub demand1 : Demand1
 unfolding Kept
-demand1 = record { compiling = compile-kept; merging = merge-kept }
+demand1 = record { numbered = numbered; compiling = compile-kept; merging = merge-kept }
 
 pub demand2 : Demand2
 unfolding compileAnswer judgeAnswer
@@ -81,6 +108,7 @@ demand2 = record {
       let b : ltb (length out) (length (tableOf little tree)) ≡ false = le-ltb (length out) (length (tableOf little tree)) h in
       rw (e, b) (refl, take-append-seam (tableOf little tree) (drop (length (tableOf little tree)) out), drop-append-seam (tableOf little tree) (drop (length (tableOf little tree)) out));
   refused = λ text r little out e. rw e;
+  too-short = λ text tree end little out e h. rw (e, lt-ltb (length out) (length (tableOf little tree)) h);
   verdict = λ table root form o d end a b c. rw (a, b, c);
   no-table = λ table root form r a. rw a;
   no-object = λ table root form a b. rw (a, b);
