@@ -28,7 +28,7 @@ fn files() -> Vec<File> {
     };
     add("table_vectors", tables::cases());
     add("judge_vectors", forms::cases());
-    // add("compile_vectors", texts::cases());
+    add("compile_vectors", texts::cases());
     all
 }
 
