@@ -1,6 +1,7 @@
 -- The laws and examples of the definitions.
 pub mod Placed
 pub mod FlattenLaws
+pub mod WritingSteps
 pub mod CheckedCompiled
 pub mod Computes
 pub mod RefusalTable

@@ -1,1 +1,6 @@
-// A constraint tree as a table. The definitions stand in specs/.
+// Compiling a constraint text into a table. The definitions stand in specs/.
+mod leaves;
+mod lists;
+mod pool;
+mod rows;
+mod spots;

@@ -1,0 +1,15 @@
+// How far reading and writing have come.
+use refusals::Refusal;
+
+// A place of the text, the number of the next record and the bytes in the pool.
+pub struct Spot {
+    pub place: usize,
+    pub next: usize,
+    pub pool: usize,
+}
+
+// The spot behind a part of the text whose records and bytes are written, or its refusal.
+pub enum TreeRead {
+    Refused(Refusal),
+    Read(Spot),
+}
