@@ -7,3 +7,6 @@ pub mod LeafTable
 pub mod FaultTable
 pub mod CountTable
 pub mod MadeTable
+pub mod ExistenceSteps
+pub mod HeadSteps
+pub mod OpeningSteps

@@ -1,3 +1,4 @@
 pub mod Existence
 pub mod Objects
 pub mod Texts
+pub mod Answers

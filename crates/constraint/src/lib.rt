@@ -1,1 +1,3 @@
-// Constraint text. The definitions stand in specs/.
+// Constraint text: existence, and what objects and attributes begin with. The definitions stand in specs/.
+pub mod existence;
+pub mod heads;

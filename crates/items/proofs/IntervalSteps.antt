@@ -33,7 +33,7 @@ use Rattle.refusals.specs.declared.steps.Expected.the-variants.{Fault, Taken}
 use Rattle.refusals.proofs.Readings.{Holds}
 use Rattle.refusals.proofs.StepLaws.{expected-fault, expected-token, expected-past}
 use Rattle.items.specs.Intervals.{undecided, kindBy, least, most, after, before, valueOf, literal, Ends, ends, empty, closed, upTo, above, spread, from, withLiteral, between, interval}
-use Rattle.items.specs.Answers.{literalReading, LiteralPast, LiteralIs, endsReading, highEnd, HasAfter, HasBefore, endsBy, opensEnds, At, shut, intervalReading, IntervalPast, IntervalIs, closing, Closable, NotEmpty}
+use Rattle.items.specs.Parts.{literalReading, LiteralPast, LiteralIs, endsReading, highEnd, HasAfter, HasBefore, endsBy, opensEnds, At, shut, intervalReading, IntervalPast, IntervalIs, closing, Closable, NotEmpty}
 use Rattle.items.specs.declared.literals.LiteralRead.{LiteralRead}
 use Rattle.items.specs.declared.literals.LiteralRead.the-variants as literalRead
 use Rattle.items.specs.declared.intervals.EndsRead.{EndsRead}

@@ -11,8 +11,9 @@ use lib.Seq.{getD-set-same, getD-set-other}
 use Rattle.refusals.specs.Limits.{itemLimit, recordLimit}
 use Rattle.refusals.specs.Reading.{Reading, refused, got, refuse, andThen, unless}
 use Rattle.refusals.specs.declared.Cause.the-variants.{TooManyItems, TooManyRecords}
-use Rattle.items.specs.Spans.{firstOf, secondOf, latest}
-use Rattle.items.specs.Answers.{withItem, itemsFrom, Kept, roomy}
+use Rattle.items.specs.Spans.{withItem, firstOf, secondOf, latest}
+use Rattle.items.specs.Answers.{itemsFrom}
+use Rattle.items.specs.Parts.{Kept, roomy}
 
 -- a store puts both numbers of an item, and no item before it changes
 module _ (scratch : List ℕ) (i a b : ℕ) (room : 2 * i + 1 < length scratch) where

@@ -23,7 +23,8 @@ use Rattle.items.specs.Intervals.{undecided}
 use Rattle.items.specs.Ranges.{Ranges, ranges}
 use Rattle.items.specs.Strings.{strings}
 use Rattle.items.specs.Leaves.{isBoolean, booleanFlag, secondBoolean, booleanList, leaf}
-use Rattle.items.specs.Answers.{rangeAt, textAt, itemsFrom, rangesReading, RangesPast, RangesIs, ListRoom, stringsReading, StringsPast, StringsIs, leafReading, LeafRoom, LeafPast, LeafIs, OneRecord, secondBy, booleansBy, EveryIs, OneIs, roomed, singleLeaf, rangesLeaf, RangeLeafIs, stringLeaf}
+use Rattle.items.specs.Answers.{rangeAt, textAt, itemsFrom, leafReading, LeafRoom, LeafPast, LeafIs}
+use Rattle.items.specs.Parts.{rangesReading, RangesPast, RangesIs, ListRoom, stringsReading, StringsPast, StringsIs, OneRecord, secondBy, booleansBy, EveryIs, OneIs, roomed, singleLeaf, rangesLeaf, RangeLeafIs, stringLeaf}
 use Rattle.items.specs.declared.ranges.RangesRead.{RangesRead}
 use Rattle.items.specs.declared.ranges.RangesRead.the-variants as rangesRead
 use Rattle.items.specs.declared.strings.StringsRead.{StringsRead}

@@ -22,8 +22,9 @@ use Rattle.refusals.proofs.Readings.{Holds}
 use Rattle.meaning.specs.Constraints.{Range}
 use Rattle.items.specs.Intervals.{undecided, Interval, interval}
 use Rattle.items.specs.Ranges.{Start, start, item, meet, overlaps, Ranges, range, withFirst, ranges}
-use Rattle.items.specs.Spans.{firstOf, secondOf, latest}
-use Rattle.items.specs.Answers.{LiteralIs, Asked, At, shut, intervalReading, IntervalPast, IntervalIs, startReading, started, Before, StartPast, StartIs, roomy, pairAt, pairsOf, withItem, rangeAt, itemsFrom, rangeReading, keptRange, ItemRoom, KeepRoom, RangePast, Kept, RangeIs, RangesIs, ListRoom}
+use Rattle.items.specs.Spans.{withItem, firstOf, secondOf, latest}
+use Rattle.items.specs.Answers.{pairAt, rangeAt, itemsFrom}
+use Rattle.items.specs.Parts.{LiteralIs, Asked, At, shut, intervalReading, IntervalPast, IntervalIs, startReading, started, Before, StartPast, StartIs, roomy, pairsOf, rangeReading, keptRange, ItemRoom, KeepRoom, RangePast, Kept, RangeIs, RangesIs, ListRoom}
 use Rattle.items.specs.declared.literals.LiteralRead.{LiteralRead}
 use Rattle.items.specs.declared.literals.LiteralRead.the-variants as literalRead
 use Rattle.items.specs.declared.intervals.IntervalRead.{IntervalRead}

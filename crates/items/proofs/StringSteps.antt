@@ -1,24 +1,20 @@
 -- What a step of the readers of strings shows: a law for each way out. Assumes nothing.
 use mathlib.Core.Path.{_≡_, refl, sym, ap, _∙_}
-use mathlib.Core.Logic.{_≢_}
-use mathlib.Core.Bool.{Bool, true, false, cond, not, _&&_}
+use mathlib.Core.Bool.{Bool, true, false, cond}
 use mathlib.Core.List.{List, [], _∷_, _++_, append-assoc}
 use Prim.Native.Nat.{ℕ, zero, suc, _+_, _*_, _-_, _≤_, _<_}
 use native.Mathlib.Omega.{arith}
-use lib.Dec.{eqb, leb, ltb}
-use lib.ListN.{length, drop, length-append, length-set}
-use borrow.Author.Tests.{eq-eqb, ne-eqb, eqb-true, eqb-false, not-true, lt-ltb, le-ltb}
-use Rattle.lexis.specs.Bytes.{is, digit, small, capital, mark, stringByte}
-use Rattle.lexis.specs.Text.{byte}
-use Rattle.lexis.specs.Runs.{past, byteAt, part, same, listed, shaped, startsWith}
-use Rattle.lexis.specs.Blanks.{tokenStart}
-use Rattle.lexis.specs.Spelling.{Literal, wordSort, marks, keywords, elementSign, booleans, datePatterns, timePatterns, codeStart, dateShape, comma}
-use Rattle.lexis.specs.Tokens.{token, noToken, spelled, number, quoted, codeEnd, tokenOn, tokenAt, typeName, name, string, inner}
+use lib.Dec.{eqb, ltb}
+use lib.ListN.{length, length-append, length-set}
+use borrow.Author.Tests.{eq-eqb, ne-eqb, eqb-true, eqb-false, lt-ltb, le-ltb}
+use Rattle.lexis.specs.Bytes.{is}
+use Rattle.lexis.specs.Runs.{past, part, listed}
+use Rattle.lexis.specs.Spelling.{comma}
+use Rattle.lexis.specs.Tokens.{number, quoted, tokenAt, string, inner}
 use Rattle.lexis.specs.Postconditions.{TokenIs}
 use Rattle.lexis.specs.declared.Token.{Token}
 use native.Mathlib.Decide.{decLt}
-use Rattle.lexis.proofs.Cases.{either, and-left, and-right}
-use Rattle.lexis.proofs.Places.{past-between}
+use Rattle.lexis.proofs.Enclosed.{token-two}
 use Rattle.refusals.specs.Limits.{itemLimit, recordLimit, stringLimit, poolLimit, textLimit}
 use Rattle.refusals.specs.Reading.{Reading, refused, got, refuse, andThen, unless}
 use Rattle.refusals.specs.Refusals.{refusal}
@@ -32,61 +28,14 @@ use Rattle.refusals.proofs.StepLaws.{expected-fault, expected-token, expected-p
 use Rattle.meaning.specs.Constraints.{Text}
 use Rattle.meaning.specs.Counting.{textPool}
 use Rattle.items.specs.Strings.{startString, withText, strings}
-use Rattle.items.specs.Spans.{firstOf, secondOf, spanAt, latest, earlier, Within, SpansIn}
-use Rattle.items.specs.Answers.{Before, roomy, withItem, textAt, itemsFrom, stringReading, keptString, StringStartPast, StringStartIs, StringRoom, KeepString, StringKept, Kept, StringIs, StringsIs, LeafRoom}
+use Rattle.items.specs.Spans.{withItem, firstOf, secondOf, spanAt, latest, earlier, Within, SpansIn}
+use Rattle.items.specs.Answers.{textAt, itemsFrom, LeafRoom}
+use Rattle.items.specs.Parts.{Before, roomy, stringReading, keptString, StringStartPast, StringStartIs, StringRoom, KeepString, StringKept, Kept, StringIs, StringsIs}
 use Rattle.items.specs.declared.strings.StringRead.{StringRead}
 use Rattle.items.specs.declared.strings.StringRead.the-variants as stringRead
 use Rattle.items.specs.declared.strings.StringsRead.the-variants as stringsRead
 use Rattle.items.proofs.SpanSteps.{part-length}
 use Rattle.items.proofs.ItemLaws.{item-first, item-second, item-kept, all-kept, first-kept, second-kept, latest-more, latest-same, items-last, items-same, roomy-none, roomy-some}
-
--- a token that is a string has at least two bytes
-abbrev Quotes : Token → Type 0
-Quotes t = t .sort ≡ string → t .start + 2 ≤ t .end
-
--- no spelling of a list is a string's sort
-unfoldable others : List Literal → Bool
-others [] = true
-others (l ∷ ls) = not (eqb (l .sort) string) && others ls
-
-other-first : (l : Literal) (ls : List Literal) → others (l ∷ ls) ≡ true → l .sort ≢ string
-unfolding others
-other-first l ls o = eqb-false (l .sort) string (not-true (eqb (l .sort) string) (and-left _ _ o))
-
-other-rest : (l : Literal) (ls : List Literal) → others (l ∷ ls) ≡ true → others ls ≡ true
-unfolding others
-other-rest l ls o = and-right (not (eqb (l .sort) string)) _ o
-
-spelled-quotes : (ls : List Literal) (at : ℕ) (bs : List ℕ) (t : Token) → others ls ≡ true → Quotes t → Quotes (spelled ls at bs t)
-unfolding spelled
-spelled-quotes [] at bs t o h = h
-spelled-quotes (l ∷ ls) at bs t o h = either Quotes (startsWith (l .spelling) bs) (λ e. absurd (other-first l ls o e)) (spelled-quotes ls at bs t (other-rest l ls o) h)
-
-word-other : (ls : List Literal) (w : List ℕ) (sort : ℕ) → others ls ≡ true → sort ≢ string → wordSort ls w sort ≢ string
-unfolding wordSort
-word-other [] w sort o h = h
-word-other (l ∷ ls) w sort o h = either (λ x. x ≢ string) (same (l .spelling) w) (other-first l ls o) (word-other ls w sort (other-rest l ls o) h)
-
--- a string at any place has both its quotes
-on-quotes : (s : List ℕ) (at : ℕ) → Quotes (tokenOn s at)
-unfolding tokenOn others
-on-quotes s at =
-    let b = past-between stringByte (at + 1) (drop (at + 1) s) in
-    let none : Quotes (noToken at) = λ e. absurd (omega arith) in
-    either Quotes (leb (length s) at) (λ e. absurd (omega arith))
-    (either Quotes (is capital (byteAt s at)) (spelled-quotes timePatterns at (drop at s) _ refl (λ e. absurd (word-other booleans _ typeName refl (λ d. omega arith) e)))
-    (either Quotes (is small (byteAt s at)) (spelled-quotes datePatterns at (drop at s) _ refl (λ e. absurd (word-other keywords _ name refl (λ d. omega arith) e)))
-    (either Quotes (is digit (byteAt s at)) (either Quotes (shaped dateShape (drop at s)) (λ e. absurd (omega arith)) (λ e. absurd (omega arith)))
-    (either Quotes (is mark (byteAt s at))
-    (either Quotes (eqb (byteAt s at) (byte "-") && is digit (byteAt s (at + 1))) (λ e. absurd (omega arith)) (spelled-quotes marks at (drop at s) (noToken at) refl none))
-    (either Quotes (eqb (byteAt s at) (byte "\"")) (either Quotes (eqb (byteAt s (past stringByte (at + 1) (drop (at + 1) s))) (byte "\"")) (λ e. omega arith) none)
-    (either Quotes (eqb (byteAt s at) (byte "["))
-    (either Quotes (startsWith codeStart (drop at s)) (either Quotes (eqb (codeEnd false (at + 3) (drop (at + 3) s)) 0) none (λ e. absurd (omega arith))) none)
-    (spelled-quotes elementSign at (drop at s) (noToken at) refl none)))))))
-
-token-quotes : (s : List ℕ) (from : ℕ) → Quotes (tokenAt s from)
-unfolding tokenAt
-token-quotes s from = on-quotes s (tokenStart s from)
 
 -- a string that is not too long
 module _ (s : List ℕ) (at : ℕ) (r : Expected) (e : ExpectIs s string at (expect s string at) r) where
@@ -124,7 +73,7 @@ unfolding expect
 expect-quoted s at t p h = by (eqb (tokenAt s at .sort) string) refl h
   where
     by : (b : Bool) → eqb (tokenAt s at .sort) string ≡ b → cond b (got (tokenAt s at) (tokenAt s at .end)) (syntaxFault (tokenAt s at)) ≡ got t p → t .start + 2 ≤ t .end
-    by true e h = let z : tokenAt s at ≡ t = cc in rw z at (token-quotes s at (eqb-true _ _ e))
+    by true e h = let z : tokenAt s at ≡ t = cc in rw z at (token-two s at (rw e))
     by false e h = let z : _≡_ {A = ℕ} 0 1 = cc in absurd (omega arith)
 
 start-quoted : (s : List ℕ) (at : ℕ) (t : Token) (p : ℕ) → startString s at ≡ got t p → t .start + 2 ≤ t .end

@@ -4,3 +4,4 @@ pub mod Strings
 pub mod Leaves
 pub mod Spans
 pub mod Answers
+pub mod Parts

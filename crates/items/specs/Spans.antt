@@ -1,10 +1,10 @@
 -- Items by twos in a list of numbers, item i at 2i and 2i + 1: a pair, or a span of the text by its two places. Assumes nothing.
+use mathlib.Core.Bool.{cond}
 use mathlib.Core.List.{List, [], _∷_}
 use Prim.Native.Nat.{ℕ, zero, suc, _+_, _*_, _-_, _≤_, _<_}
-use lib.ListN.{length, getD}
-use Rattle.lexis.specs.Runs.{byteAt, part}
-use mathlib.Core.Bool.{cond}
 use lib.Dec.{ltb}
+use lib.ListN.{length, getD, set}
+use Rattle.lexis.specs.Runs.{byteAt, part}
 
 -- the two numbers of item i
 abbrev pub firstOf : List ℕ → ℕ → ℕ
@@ -12,6 +12,10 @@ firstOf numbers i = getD numbers (2 * i) 0
 
 abbrev pub secondOf : List ℕ → ℕ → ℕ
 secondOf numbers i = getD numbers (2 * i + 1) 0
+
+-- the numbers with item i
+abbrev pub withItem : List ℕ → ℕ → ℕ → ℕ → List ℕ
+withItem numbers i a b = set (set numbers (2 * i) a) (2 * i + 1) b
 
 -- the bytes of span i
 abbrev pub spanAt : List ℕ → List ℕ → ℕ → List ℕ

@@ -25,7 +25,7 @@ ghost use mathlib.Core.Path.{_≡_};
 ghost use Prim.Native.Nat.{_≤_};
 ghost use lib.ListN.{length};
 ghost use Rattle.items.specs.Intervals.{undecided, kindBy, least, most, after, before, upTo, above, spread, from, withLiteral, between, interval, ends, empty, closed};
-ghost use Rattle.items.specs.Answers.{HasAfter, HasBefore, endsReading, highEnd, endsBy, opensEnds, At, Closable, NotEmpty, shut, intervalReading, IntervalIs, closing};
+ghost use Rattle.items.specs.Parts.{HasAfter, HasBefore, endsReading, highEnd, endsBy, opensEnds, At, Closable, NotEmpty, shut, intervalReading, IntervalIs, closing};
 ghost use Rattle.refusals.specs.Reading.{got};
 
 // The kind of a list before its first literal is read.
@@ -102,10 +102,10 @@ fn after(kind: u8, a: u32) -> u64
     requires { ⌜ HasAfter kind a ⌝ }
     ensures { λ r. ⌜ r ≡ after kind a ⌝ }
 {
-    if kind == DATE {
-        return wide(day_after(a));
+    if kind != DATE {
+        return wide(a) + 1;
     }
-    wide(a) + 1
+    wide(day_after(a))
 }
 
 // The value before another.
@@ -347,10 +347,11 @@ fn close(s: &[u8], kind: u8, low: u64, high: u32, below: bool, from: usize) -> I
             return IntervalRead::Faulty(fault);
         }
         Expected::Taken(t) => {
+            let place = t.start;
             if empty(low, high, below) {
                 return IntervalRead::Faulty(Refusal {
                     cause: Cause::EmptyInterval,
-                    place: t.start,
+                    place,
                 });
             }
             return closed(kind, low, high, below, t.end);

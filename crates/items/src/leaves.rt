@@ -22,7 +22,8 @@ ghost use mathlib.Core.Path.{_≡_};
 ghost use Prim.Native.Nat.{_≤_};
 ghost use lib.ListN.{length};
 ghost use Rattle.items.specs.Leaves.{isBoolean, booleanFlag, leaf};
-ghost use Rattle.items.specs.Answers.{ListRoom, LeafRoom, LeafIs, secondBy, booleansBy, EveryIs, OneIs, RangeLeafIs, roomed, singleLeaf, stringLeaf};
+ghost use Rattle.items.specs.Answers.{LeafRoom, LeafIs};
+ghost use Rattle.items.specs.Parts.{ListRoom, secondBy, booleansBy, EveryIs, OneIs, RangeLeafIs, roomed, singleLeaf, stringLeaf};
 
 // The first and the last sort of date patterns and of time patterns.
 const FIRST_DATE_PATTERN: u8 = 31;
@@ -125,17 +126,13 @@ fn single_leaf(s: &[u8], number: usize, t: Token) -> LeafRead
     let sort = t.sort;
     match sort {
         FIRST_DATE_PATTERN..=LAST_DATE_PATTERN => {
-            let leaf = LeafRead::DatePattern {
-                flag: sort - DATE_PATTERN,
-                next: t.end,
-            };
+            let flag = sort - DATE_PATTERN;
+            let leaf = LeafRead::DatePattern { flag, next: t.end };
             return roomed(number, t.start, leaf);
         }
         FIRST_TIME_PATTERN..=LAST_TIME_PATTERN => {
-            let leaf = LeafRead::TimePattern {
-                flag: sort - TIME_PATTERN,
-                next: t.end,
-            };
+            let flag = sort - TIME_PATTERN;
+            let leaf = LeafRead::TimePattern { flag, next: t.end };
             return roomed(number, t.start, leaf);
         }
         _ => {

@@ -13,7 +13,7 @@ ghost use Prim.Native.Nat.{_≤_};
 ghost use lib.ListN.{length};
 ghost use Rattle.values.specs.Answers.{integerAnswer};
 ghost use Rattle.items.specs.Intervals.{valueOf};
-ghost use Rattle.items.specs.Answers.{LiteralIs};
+ghost use Rattle.items.specs.Parts.{LiteralIs};
 
 // A literal's value, an integer as a distance or a day packed, and the place behind it, or its refusal.
 pub enum LiteralRead {

@@ -24,7 +24,7 @@ ghost use Rattle.lexis.specs.Tokens.{integer, date};
 ghost use Rattle.values.specs.Integers.{pair};
 ghost use Rattle.refusals.specs.Limits.{itemLimit};
 ghost use Rattle.items.specs.Ranges.{start, item, meet, overlaps, ranges};
-ghost use Rattle.items.specs.Answers.{startReading, Before, StartIs, started, At, shut, IntervalIs, pairsOf, keptRange, ItemRoom, KeepRoom, RangeIs, ListRoom, RangesIs};
+ghost use Rattle.items.specs.Parts.{startReading, Before, StartIs, started, At, shut, IntervalIs, pairsOf, keptRange, ItemRoom, KeepRoom, RangeIs, ListRoom, RangesIs};
 
 // An item's first token: its place, whether it is a value, with the value, and the place behind it, or its refusal.
 pub enum StartRead {

@@ -4,8 +4,7 @@ ghost use Prim.Native.Nat.{_+_, _*_, _≤_, _<_};
 ghost use lib.ListN.{length, getD};
 ghost use Rattle.lexis.specs.Runs.{part, listed};
 ghost use Rattle.refusals.specs.Limits.{itemLimit};
-ghost use Rattle.items.specs.Spans.{letterAt, earlier, SpansIn};
-ghost use Rattle.items.specs.Answers.{withItem};
+ghost use Rattle.items.specs.Spans.{withItem, letterAt, earlier, SpansIn};
 
 // A byte of the text, as a number.
 fn wide(b: u8) -> usize

@@ -1,35 +1,34 @@
 -- Steps of the functions that tell what an attribute says of a block. Assumes nothing.
 use mathlib.Core.Path.{_≡_, refl, sym, ap, _∙_, subst}
 use mathlib.Core.Bool.{Bool, true, false, cond, false≢true}
-use mathlib.Core.Option.{Option, none, some}
-use mathlib.Core.List.{List, [], _∷_}
-use Prim.Native.Nat.{ℕ, zero, suc, _+_, _*_, _-_, _≤_, _<_}
+use mathlib.Core.Option.{some}
+use mathlib.Core.List.{List, _∷_}
+use Prim.Native.Nat.{ℕ, zero, suc, _+_, _-_, _≤_, _<_}
 use native.Mathlib.Omega.{arith}
 use lib.Dec.{eqb, lit<}
 use lib.ListN.{length, take, drop}
-use borrow.Author.Tests.{eq-eqb, ne-eqb}
+use borrow.Author.Tests.{ne-eqb}
 use Rattle.lexis.specs.Bytes.{among}
 use Rattle.lexis.specs.Runs.{part, same}
 use Rattle.lexis.proofs.Cases.{by-cond, either}
-use Rattle.meaning.specs.Constraints.{Leaf, leaf, nested, attribute}
-use Rattle.meaning.specs.Data.{Members, member, Content, string, word, datum}
+use Rattle.meaning.specs.Constraints.{Leaf, leaf}
+use Rattle.meaning.specs.Data.{Members, member, Content, string, word}
 use Rattle.meaning.specs.Data
-use Rattle.meaning.specs.Verdicts.{Verdict, valid, fails}
-use Rattle.meaning.specs.Admission.{Finding, unsuited, refuted, leafNumber}
+use Rattle.meaning.specs.Verdicts.{Verdict, fails}
+use Rattle.meaning.specs.Admission.{leafNumber}
 use Rattle.meaning.specs.Judging.{placeOf, verdictOf, memberOf, judgeMember, judgeLeaf, judgeContent, judgeValue}
 use Rattle.data.specs.Tape.{isBlock, isString, number}
-use Rattle.data.specs.Contracts.{rowAt, RowGood, TapeGood, linked}
-use Rattle.table.specs.Records.{Image, recordSize, field}
-use Rattle.table.specs.Rows.{items, link, rowOf}
+use Rattle.data.specs.Contracts.{rowAt, TapeGood}
+use Rattle.table.specs.Records.{Image, field}
+use Rattle.table.specs.Rows.{items, rowOf}
 use Rattle.table.specs.Check.{kindAt}
-use Rattle.table.specs.Trees.{attributesIn, valueIn, ofLeaf, treeAt}
+use Rattle.table.specs.Trees.{attributesIn, valueIn, treeAt}
 use Rattle.table.specs.Answers.{recordOf}
 use Rattle.table.specs.declared.records.Entry.{Entry}
 use Rattle.table.specs.declared.records.RecordNumber.{RecordNumber}
-use Rattle.table.proofs.UseLaws.{LinkRight}
-use Rattle.judge.specs.Items.{recordIn, nameOf, leafFrom, Lies, Items, tableOf, TableGood}
+use Rattle.judge.specs.Items.{recordIn, nameOf, leafFrom, Lies, Items, tableOf}
 use Rattle.judge.specs.Answers.{findingOf, under, leafVerdict, verdictIn}
-use Rattle.judge.specs.Walking.{contentOn, membersOn, datumOn, foundOn, FoundIs, Begins, BlockGood, LeafRow, blockOn, DatumWithin, MembersWithin, ContentWithin, judgeFirst, Walk, ValueLink, AttributeAt, stepVerdict, Leads, ValueIs, AttributeIs}
+use Rattle.judge.specs.Walking.{contentOn, membersOn, datumOn, foundOn, FoundIs, LeafRow, blockOn, MembersWithin, ContentWithin, judgeFirst, Walk, ValueLink, AttributeAt, Leads, ValueIs, AttributeIs}
 use Rattle.judge.specs.declared.admission.Admission.{Admission}
 use Rattle.judge.specs.declared.members.Found.{Found}
 use Rattle.judge.specs.declared.members.Found.the-variants.{At, Nothing}
@@ -38,7 +37,7 @@ use Rattle.judge.specs.declared.attributes.Verdict as declared
 use Rattle.judge.specs.declared.attributes.Verdict.the-variants as verdict
 use Rattle.judge.specs.declared.attributes.Step.{Step}
 use Rattle.judge.specs.declared.attributes.Step.the-variants.{Told, Nested}
-use Rattle.judge.proofs.TableLaws.{by-kind, number-lies, kind-there, kind-back, link-there, name-there, items-there, object-tree, attribute-tree, leaf-there}
+use Rattle.judge.proofs.TableLaws.{by-kind, number-lies, kind-there, link-there, name-there, items-there, object-tree, attribute-tree, leaf-there}
 
 -- what an admission tells
 module _ (a : Admission) (first place : ℕ) where
@@ -127,19 +126,19 @@ module _ (records pool s tape : List ℕ) (rows : ℕ) (value : RecordNumber) (r
               );
             }
 
-        module _ (r : Step) (place : ℕ) (er : r ≡ Told (verdict.Fails 20 value place)) (ep : place ≡ number (rowAt tape row) 3) where
-          told-20 : fails 20 (value .0) (number (rowAt tape row) 3) ≡ judgeValue (valueIn (treeAt (tableOf records pool) (value .0))) (contentOn s rows tape row) → ValueIs (tableOf records pool) s rows tape (value .0) row r
-          told-20 f = rw er (record { is = ap (fails 20 (value .0)) ep ∙ f; leads = tt })
+        module _ (v : declared.Verdict) (place : ℕ) (er : verdictIn v ≡ fails 20 (value .0) place) (ep : place ≡ number (rowAt tape row) 3) where
+          told-20 : fails 20 (value .0) (number (rowAt tape row) 3) ≡ judgeValue (valueIn (treeAt (tableOf records pool) (value .0))) (contentOn s rows tape row) → ValueIs (tableOf records pool) s rows tape (value .0) row (Told v)
+          told-20 f = record { is = er ∙ ap (fails 20 (value .0)) ep ∙ f; leads = tt }
 
           -- a leaf under an object
-          pub value-leaf : e .kind ≡ 1 → (holds ≡ 0 → ⊥) → ValueIs (tableOf records pool) s rows tape (value .0) row r
+          pub value-leaf : e .kind ≡ 1 → (holds ≡ 0 → ⊥) → ValueIs (tableOf records pool) s rows tape (value .0) row (Told v)
           unfolding judgeValue
           value-leaf ek ez =
               told-20 (rw (object-tree records pool (w .checked) (value .0) (kind-read ∙ ek))
               (sym (leaf-under-object s rows tape row (value .0) _ (λ f. ez (eh ∙ f)))))
 
           -- a block under items
-          pub value-block : (e .kind ≡ 1 → ⊥) → holds ≡ 0 → ValueIs (tableOf records pool) s rows tape (value .0) row r
+          pub value-block : (e .kind ≡ 1 → ⊥) → holds ≡ 0 → ValueIs (tableOf records pool) s rows tape (value .0) row (Told v)
           unfolding judgeValue
           value-block ek ez =
               let i = leaf-there records pool (w .checked) (value .0) (items-kind ek) in
@@ -200,8 +199,8 @@ module _ (records pool s tape : List ℕ) (rows : ℕ) (n : RecordNumber) (e : E
     first-is = rw (attribute-tree records pool (w .checked) (n .0) (a .kind), ← (a .is), f .is, en)
 
     module _ (h : r ≡ Nothing) where
-      pub member-missing : (v : Step) → v ≡ Told (verdict.Fails 22 n (b .place)) → e .flag ≡ 2 → AttributeIs (tableOf records pool) s rows tape (n .0) b v
-      member-missing v ev z = rw ev (record { is = rw (h, z) at first-is; leads = tt })
+      pub member-missing : (v : declared.Verdict) → verdictIn v ≡ fails 22 (n .0) (b .place) → e .flag ≡ 2 → AttributeIs (tableOf records pool) s rows tape (n .0) b (Told v)
+      member-missing v ev z = record { is = ev ∙ (rw (h, z) at first-is); leads = tt }
 
       pub member-absent : (e .flag ≡ 2 → ⊥) → AttributeIs (tableOf records pool) s rows tape (n .0) b (Told verdict.Valid)
       member-absent z = record { is = rw (h, ne-eqb (e .flag) 2 z) at first-is; leads = tt }
@@ -210,10 +209,10 @@ module _ (records pool s tape : List ℕ) (rows : ℕ) (n : RecordNumber) (e : E
       pub member-row : row < rows
       member-row = rw h at (f .there)
 
-      pub member-present : (v : Step) (place : ℕ) → v ≡ Told (verdict.Fails 23 n place) → place ≡ number (rowAt tape row) 3 → e .flag ≡ 0 → AttributeIs (tableOf records pool) s rows tape (n .0) b v
+      pub member-present : (v : declared.Verdict) (place : ℕ) → verdictIn v ≡ fails 23 (n .0) place → place ≡ number (rowAt tape row) 3 → e .flag ≡ 0 → AttributeIs (tableOf records pool) s rows tape (n .0) b (Told v)
       member-present v place ev ep z =
           let k : fails 23 (n .0) (placeOf (contentOn s rows tape row)) ≡ judgeFirst (attributesIn (treeAt (tableOf records pool) (n .0))) (b .place) (membersOn s rows tape b) = rw (h, z) at first-is in
-          rw ev (record { is = ap (fails 23 (n .0)) (ep ∙ sym (content-place s rows tape row)) ∙ k; leads = tt })
+          record { is = ev ∙ ap (fails 23 (n .0)) (ep ∙ sym (content-place s rows tape row)) ∙ k; leads = tt }
 
       pub member-judged : (v : Step) → ValueIs (tableOf records pool) s rows tape (e .c) row v → (e .flag ≡ 0 → ⊥) → AttributeIs (tableOf records pool) s rows tape (n .0) b v
       member-judged v i z =

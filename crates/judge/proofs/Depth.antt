@@ -6,17 +6,16 @@ use mathlib.Core.List.{List, [], _∷_}
 use Prim.Native.Nat.{ℕ, zero, suc, _+_}
 use lib.Dec.{eqb, ltb}
 use lib.ListN.{length}
-use Rattle.lexis.specs.Runs.{listed}
 use Rattle.lexis.specs.Spelling.{less, greater}
-use Rattle.lexis.specs.Tokens.{textEnd, typeName, name, spelling, inner}
+use Rattle.lexis.specs.Tokens.{textEnd, name, spelling, inner}
 use Rattle.lexis.specs.Tokens
-use Rattle.lexis.specs.DataTokens.{dataTokenAt, typeTokenAt, openRound, wordRun}
+use Rattle.lexis.specs.DataTokens.{dataTokenAt, openRound, wordRun}
 use Rattle.lexis.specs.declared.Token.{Token}
 use Rattle.lexis.proofs.Cases.{either}
 use Rattle.values.specs.Words.{good}
-use Rattle.refusals.specs.Limits.{textLimit, levelLimit, nameLimit, stringLimit}
+use Rattle.refusals.specs.Limits.{textLimit, levelLimit, stringLimit}
 use Rattle.refusals.specs.Reading.{Reading, refused, got, andThen}
-use Rattle.data.specs.Placed.{Span, Block, block, Entries, noMore, entry, Content, string, word, inside, spelledBlock, spelledEntries, spelledContent}
+use Rattle.data.specs.Placed.{Span, Block, Entries, Content, string, inside, spelledBlock, spelledEntries, spelledContent}
 use Rattle.data.specs.Data.{expect, typeFrom, leafFrom, Down, typed, contentFrom, nameFrom, members, blockFrom, outermost, blockOf}
 use Rattle.judge.specs.Walking.{DatumWithin, MembersWithin, ContentWithin}
 

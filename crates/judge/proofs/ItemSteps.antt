@@ -1,6 +1,6 @@
 -- Steps of the functions that try a value: the walk over items, and a value of each kind. Assumes nothing.
 use mathlib.Core.Path.{_≡_, refl, sym, ap, _∙_}
-use mathlib.Core.Bool.{Bool, true, false, cond, _&&_, _||_, or-true, or-false}
+use mathlib.Core.Bool.{Bool, true, false, cond, _||_, or-true, or-false}
 use mathlib.Core.Option.{Option, none, some}
 use mathlib.Core.List.{List, [], _∷_, map}
 use Prim.Native.Nat.{ℕ, zero, suc, _+_, _*_, _-_, _≤_, _<_}
@@ -14,7 +14,7 @@ use Rattle.lexis.specs.Runs.{same}
 use Rattle.lexis.proofs.Cases.{by-cond, either}
 use Rattle.values.proofs.Common.{by-order}
 use Rattle.values.specs.Integers.{integerOf}
-use Rattle.values.specs.Dates.{Date, dateOf}
+use Rattle.values.specs.Dates.{dateOf}
 use Rattle.values.specs.Times.{timeOf}
 use Rattle.values.specs.Patterns.{fitsDate, fitsTime}
 use Rattle.values.specs.Words.{booleanOf}

@@ -1,30 +1,26 @@
 -- Steps of the functions that check the table, find the root and read the text, and of the answer that they give. Assumes nothing.
 use mathlib.Core.Path.{_≡_, refl, sym, ap, _∙_, subst}
-use mathlib.Core.Bool.{Bool, true, false, cond}
 use mathlib.Core.Option.{Option, none, some, Option·map}
-use mathlib.Core.List.{List, [], _∷_, _++_}
-use Prim.Native.Nat.{ℕ, zero, suc, _+_, _*_, _-_, _≤_, _<_}
+use mathlib.Core.List.{List, _∷_, _++_}
+use Prim.Native.Nat.{ℕ, zero, suc, _+_, _*_, _-_, _≤_}
 use native.Mathlib.Nat.{zero-add}
 use native.Mathlib.Omega.{arith}
 use lib.Dec.{eqb}
-use lib.ListN.{length, getD, take, drop, length-take, length-drop, take-append-drop, List·getD-eq-default}
-use lib.Seq.{sets, sets-eq, take-all}
+use lib.ListN.{length, take, drop, length-take, length-drop, take-append-drop, List·getD-eq-default}
+use lib.Seq.{sets-eq, take-all}
 use borrow.Author.Tests.{ne-eqb}
-use Rattle.lexis.specs.Runs.{part}
 use Rattle.lexis.proofs.Cases.{either}
 use Rattle.values.proofs.Common.{by-order}
-use Rattle.refusals.specs.Limits.{textLimit, levelLimit}
+use Rattle.refusals.specs.Limits.{levelLimit}
 use Rattle.refusals.specs.Refusals.{refusal}
 use Rattle.refusals.specs.declared.Refusal.{Refusal}
 use Rattle.refusals.specs.declared.Cause.the-variants.{NotAnObject}
-use Rattle.refusals.specs.Reading.{got}
-use Rattle.meaning.specs.Data.{Datum, datum}
+use Rattle.meaning.specs.Data.{datum}
 use Rattle.meaning.specs.Data
-use Rattle.meaning.specs.Verdicts
-use Rattle.meaning.specs.Judging.{judge, judgeValue}
-use Rattle.data.specs.Placed.{Span, Block, block, Entries, spelled, spelledBlock, spelledEntries}
-use Rattle.data.specs.Data.{blockOf, datumOf}
-use Rattle.data.specs.Tape.{rowSize, entryRows, entriesTape, typeStart, typeEnd}
+use Rattle.meaning.specs.Judging.{judgeValue}
+use Rattle.data.specs.Placed.{Span, Block, block, spelled, spelledBlock, spelledEntries}
+use Rattle.data.specs.Data.{blockOf}
+use Rattle.data.specs.Tape.{entryRows, entriesTape, typeStart, typeEnd}
 use Rattle.data.specs.Contracts.{TapeGood, linked}
 use Rattle.data.specs.Answers.{TapeRoom, dataWrote, dataWritten}
 use Rattle.data.specs.declared.DataRead.{DataRead}
@@ -38,7 +34,7 @@ use Rattle.table.specs.Records.{Record, Image, recordSize, field, count, header
 use Rattle.table.specs.Check.{kindAt, tableFault}
 use Rattle.table.specs.Names.{recordAt}
 use Rattle.table.specs.Trees.{Tree, nothing, valueIn, treesOf, treeAt, objectIn, objectAt}
-use Rattle.table.specs.Answers.{Opened, faultOf}
+use Rattle.table.specs.Answers.{faultOf}
 use Rattle.table.specs.declared.records.Frame.{Frame}
 use Rattle.table.specs.declared.records.RecordNumber.{RecordNumber}
 use Rattle.table.specs.declared.check.CheckAnswer.{CheckAnswer}
@@ -48,13 +44,12 @@ use Rattle.table.proofs.CheckLaws.{check-sound, kind-record}
 use Rattle.table.proofs.TreeLaws.{length-trees-of}
 use Rattle.table.proofs.NameSteps.{sound-open}
 use Rattle.table.proofs.WalkLaws.{nodeOf, tree-node}
-use Rattle.judge.specs.Answer.{JudgeAnswer, refused, judged, judgeText, underRoot, judgeAnswer}
+use Rattle.judge.specs.Answer.{JudgeAnswer, refused, judged, underRoot, judgeAnswer}
 use Rattle.judge.specs.Items.{tableOf, TableGood}
-use Rattle.judge.specs.Answers.{verdictIn, answerOf}
-use Rattle.judge.specs.Walking.{typeOn, datumOn, BlockGood, DatumWithin, Walk, blockUnder, Under}
+use Rattle.judge.specs.Answers.{verdictIn}
+use Rattle.judge.specs.Walking.{typeOn, datumOn, BlockGood, DatumWithin, blockUnder, Under}
 use Rattle.judge.specs.declared.members.Block as members
 use Rattle.judge.specs.declared.attributes.Verdict.{Verdict}
-use Rattle.judge.specs.declared.JudgeResult.{JudgeResult}
 use Rattle.judge.specs.declared.JudgeResult.the-variants.{Refused}
 use Rattle.judge.proofs.TableLaws.{object-tree}
 use Rattle.judge.proofs.Depth.{text-within}

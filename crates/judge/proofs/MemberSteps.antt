@@ -1,18 +1,16 @@
 -- Steps of the functions that read the tape and seek a member. Assumes nothing.
-use mathlib.Core.Path.{_≡_, refl, sym, ap, _∙_}
+use mathlib.Core.Path.{_≡_, sym, ap, _∙_}
 use mathlib.Core.Bool.{Bool, true, false, cond}
-use mathlib.Core.Option.{Option, none, some}
+use mathlib.Core.Option.{some}
 use mathlib.Core.List.{List}
 use Prim.Native.Nat.{ℕ, _+_, _*_, _-_, _≤_, _<_}
 use native.Mathlib.Omega.{arith}
-use lib.Dec.{eqb}
 use lib.ListN.{length, getD, take, drop}
-use borrow.Author.Tests.{eq-eqb, ne-eqb}
+use borrow.Author.Tests.{ne-eqb}
 use Rattle.lexis.specs.Runs.{part, same}
-use Rattle.meaning.specs.Data.{Members}
 use Rattle.meaning.specs.Judging.{memberOf}
 use Rattle.data.specs.Tape.{rowSize, number, membersAt}
-use Rattle.data.specs.Contracts.{rowAt, RowGood, TapeGood, linked, walked}
+use Rattle.data.specs.Contracts.{rowAt, TapeGood, linked}
 use Rattle.data.proofs.TapeLaws.{number-at}
 use Rattle.data.proofs.GoodTapes.{good-step}
 use Rattle.judge.specs.declared.members.Found.the-variants.{At, Nothing}

@@ -13,21 +13,20 @@ use Rattle.lexis.specs.Bytes.{among}
 use Rattle.values.proofs.Common.{by-order}
 use Rattle.meaning.specs.Constraints.{Leaf, booleans, integers, strings, datePattern, dates, timePattern, object, attribute}
 use Rattle.meaning.specs.Admission.{leafNumber}
-use Rattle.table.specs.Records.{Record, Image, recordSize, fieldCount, decode, field, count, header, imageOf}
+use Rattle.table.specs.Records.{Image, recordSize, fieldCount, field, count, header, imageOf}
 use Rattle.table.specs.Rows.{unnamed, link, items, rowOf}
 use Rattle.table.specs.Check.{kindAt, fieldRight}
 use Rattle.table.specs.Names.{recordAt}
 use Rattle.table.specs.Trees.{Tree, nothing, ofObject, ofAttributes, ofLeaf, attributesIn, valueIn, integersOf, datesOf, stringsOf, itemsIn, treeAt}
 use Rattle.table.specs.Answers.{Opened}
-use Rattle.table.specs.declared.records.Frame.{Frame}
 use Rattle.table.proofs.Checked.{Checked}
 use Rattle.table.proofs.CheckLaws.{check-sound, record-good, field-at, kind-record, kind-inside}
 use Rattle.table.proofs.UseLaws.{by-or, LinkRight, by-link}
 use Rattle.table.proofs.FrameLaws.{count-opened, record-opened}
 use Rattle.table.proofs.NameSteps.{sound-open, name-in-pool}
 use Rattle.table.proofs.WalkLaws.{nodeOf, tree-node}
-use Rattle.judge.specs.Items.{recordIn, nameOf, itemsFrom, rangeIn, textIn, rangesFrom, textsFrom, leafOfKind, leafFrom, Lies, OfKind, Chained, Spelled, rangeKind, Items, tableOf, TableGood}
-use Rattle.judge.proofs.ItemSteps.{items-none, items-some}
+use Rattle.judge.specs.Items.{recordIn, nameOf, itemsFrom, rangeIn, textIn, rangesFrom, textsFrom, leafOfKind, leafFrom, Lies, OfKind, Items, tableOf, TableGood}
+use Rattle.judge.proofs.ItemSteps.{items-some}
 
 -- a kind among others is one of them
 pub by-kind : {P : Type 0} (k x : ℕ) (xs : List ℕ) → among k (x ∷ xs) ≡ true → (k ≡ x → P) → (among k xs ≡ true → P) → P

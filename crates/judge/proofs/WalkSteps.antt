@@ -4,12 +4,11 @@ use mathlib.Core.Bool.{Bool, true, false, not, cond, false≢true}
 use mathlib.Core.List.{List, [], _∷_}
 use Prim.Native.Nat.{ℕ, zero, suc, _+_, _-_, _≤_, _<_}
 use native.Mathlib.Omega.{arith}
-use lib.Dec.{eqb, lit<}
+use lib.Dec.{lit<}
 use lib.ListN.{length, take, drop}
-use borrow.Author.Tests.{not-true, not-false, eq-eqb, ne-eqb}
+use borrow.Author.Tests.{not-true, not-false, ne-eqb}
 use Rattle.lexis.specs.Runs.{part, same}
 use Rattle.values.proofs.Common.{by-order}
-use Rattle.meaning.specs.Constraints.{attribute}
 use Rattle.meaning.specs.Data.{Datum, datum, Members}
 use Rattle.meaning.specs.Verdicts.{valid, fails}
 use Rattle.meaning.specs.Verdicts
@@ -24,8 +23,9 @@ use Rattle.table.specs.declared.records.RecordNumber.{RecordNumber}
 use Rattle.table.proofs.UseLaws.{LinkRight}
 use Rattle.judge.specs.Items.{recordIn, nameOf, Lies, tableOf, TableGood}
 use Rattle.judge.specs.Answers.{verdictIn}
-use Rattle.judge.specs.Walking.{typeOn, membersOn, datumOn, Begins, BlockGood, DatumWithin, MembersWithin, judgeFirst, Walk, AttributeAt, blockUnder, stepVerdict, Leads, AttributeIs, Under}
+use Rattle.judge.specs.Walking.{typeOn, membersOn, datumOn, BlockGood, DatumWithin, MembersWithin, judgeFirst, Walk, AttributeAt, blockUnder, Leads, AttributeIs, Under}
 use Rattle.judge.specs.declared.members.Block.{Block}
+use Rattle.judge.specs.declared.attributes.Failure.{Failure}
 use Rattle.judge.specs.declared.attributes.Verdict.{Verdict}
 use Rattle.judge.specs.declared.attributes.Verdict.the-variants.{Valid, Fails}
 use Rattle.judge.specs.declared.attributes.Step.{Step}
@@ -77,8 +77,8 @@ module _ (records pool s tape : List ℕ) (rows levels : ℕ) (object : RecordNu
       unfolding judgeValue judge
       block-is = rw (object-tree records pool (u .walk .checked) (object .0) (u .kind), ← q, er)
 
-      pub type-differs : not r ≡ true → fails 21 (object .0) (b .place) ≡ blockUnder (tableOf records pool) s rows tape (object .0) b
-      type-differs h = rw (not-true r h) at block-is
+      pub type-differs : not r ≡ true → (v : Verdict) → verdictIn v ≡ fails 21 (object .0) (b .place) → verdictIn v ≡ blockUnder (tableOf records pool) s rows tape (object .0) b
+      type-differs h v ev = ev ∙ (rw (not-true r h) at block-is)
 
       -- a type that suits leaves the attributes
       pub type-suits : not r ≡ false → (v : Verdicts.Verdict) → v ≡ judgeAttributes (attributesIn (treeAt (tableOf records pool) (e .e))) (b .place) (membersOn s rows tape b) → v ≡ blockUnder (tableOf records pool) s rows tape (object .0) b
@@ -112,10 +112,10 @@ module _ (records pool s tape : List ℕ) (rows levels : ℕ) (b : Block) (first
     attribute-lies = number-lies records pool (i .walk .checked) n 2 (i .kind (omega arith)) (omega arith)
 
     -- one that fails is told
-    first-fails : (v : Verdict) (reason place : ℕ) («record» : RecordNumber) → v ≡ Fails reason «record» place → verdictIn v ≡ judgeFirst (attributesIn (treeAt (tableOf records pool) n)) (b .place) (membersOn s rows tape b)
+    first-fails : (v : Verdict) (f : Failure) → v ≡ Fails f → verdictIn v ≡ judgeFirst (attributesIn (treeAt (tableOf records pool) n)) (b .place) (membersOn s rows tape b)
         → verdictIn v ≡ judgeAttributes (attributesIn (treeAt (tableOf records pool) first)) (b .place) (membersOn s rows tape b)
     unfolding judgeAttributes
-    first-fails v reason place «record» ev ef =
+    first-fails v f ev ef =
         let t = attribute-tree records pool (i .walk .checked) n (i .kind (omega arith)) in
         fails-first _ _ (rw t at ef) ∙ (rw t at (i .is))
       where
@@ -158,8 +158,8 @@ module _ (records pool s tape : List ℕ) (rows levels : ℕ) (b : Block) (first
         pub told-valid : (v : Verdict) → step ≡ Told v → v ≡ Valid → InAttributes records pool s tape rows levels b first (a .d)
         told-valid v h k = first-holds (ap verdictIn (sym k) ∙ (rw h at (ar .is)))
 
-        pub told-fails : (v : Verdict) (reason place : ℕ) («record» : RecordNumber) → step ≡ Told v → v ≡ Fails reason «record» place → fails reason («record» .0) place ≡ judgeAttributes (attributesIn (treeAt (tableOf records pool) first)) (b .place) (membersOn s rows tape b)
-        told-fails v reason place «record» h k = ap verdictIn (sym k) ∙ first-fails v reason place «record» k (rw h at (ar .is))
+        pub told-fails : (v : Verdict) (f : Failure) → step ≡ Told v → v ≡ Fails f → verdictIn (Fails f) ≡ judgeAttributes (attributesIn (treeAt (tableOf records pool) first)) (b .place) (membersOn s rows tape b)
+        told-fails v f h k = ap verdictIn (sym k) ∙ first-fails v f k (rw h at (ar .is))
 
         module _ (inner : RecordNumber) (part : Block) (h : step ≡ Nested inner part) where
           leads : Leads (tableOf records pool) s rows tape (λ l. MembersWithin (membersOn s rows tape b) l) (Nested inner part)
@@ -172,5 +172,5 @@ module _ (records pool s tape : List ℕ) (rows levels : ℕ) (b : Block) (first
             pub nested-valid : v ≡ Valid → InAttributes records pool s tape rows levels b first (a .d)
             nested-valid k = first-holds (ap verdictIn (sym k) ∙ ev ∙ (rw h at (ar .is)))
 
-            pub nested-fails : (reason place : ℕ) («record» : RecordNumber) → v ≡ Fails reason «record» place → fails reason («record» .0) place ≡ judgeAttributes (attributesIn (treeAt (tableOf records pool) first)) (b .place) (membersOn s rows tape b)
-            nested-fails reason place «record» k = ap verdictIn (sym k) ∙ first-fails v reason place «record» k (ev ∙ (rw h at (ar .is)))
+            pub nested-fails : (f : Failure) → v ≡ Fails f → verdictIn (Fails f) ≡ judgeAttributes (attributesIn (treeAt (tableOf records pool) first)) (b .place) (membersOn s rows tape b)
+            nested-fails f k = ap verdictIn (sym k) ∙ first-fails v f k (ev ∙ (rw h at (ar .is)))

@@ -40,7 +40,7 @@ leafVerdict records pool s first row =
 -- a verdict of the walk
 abbrev pub verdictIn : Verdict → Verdicts.Verdict
 verdictIn verdict.Valid = valid
-verdictIn (verdict.Fails reason «record» place) = fails reason («record» .0) place
+verdictIn (verdict.Fails f) = fails (f .reason) (f .«record» .0) (f .place)
 
 -- what judging answers: valid; a refusal, whose cause gives document 01's number, with its place; or a reason of document 01, 20 to 24, with its record and its data place
 abbrev pub answerOf : JudgeResult → JudgeAnswer

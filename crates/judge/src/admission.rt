@@ -77,11 +77,11 @@ fn in_some(records: &[u8], first: RecordNumber, signed: bool, value: u32) -> boo
 {
     let mut n = first.0;
     while n != 0 {
-        let e = entry_at(records, RecordNumber(n));
-        if in_range(signed, e, value) {
+        let range = entry_at(records, RecordNumber(n));
+        if in_range(signed, range, value) {
             return true;
         }
-        n = e.e;
+        n = range.e;
     }
     false
 }
@@ -104,11 +104,11 @@ fn is_some(records: &[u8], pool: &[u8], first: RecordNumber, value: &[u8]) -> bo
 {
     let mut n = first.0;
     while n != 0 {
-        let e = entry_at(records, RecordNumber(n));
-        if same_bytes(value, name_of(pool, e)) {
+        let text = entry_at(records, RecordNumber(n));
+        if same_bytes(value, name_of(pool, text)) {
             return true;
         }
-        n = e.e;
+        n = text.e;
     }
     false
 }

@@ -12,14 +12,13 @@ use table::records::RecordNumber;
 ghost use mathlib.Core.Path.{_≡_};
 ghost use Prim.Native.Nat.{_+_, _*_, _≤_, _<_};
 ghost use lib.ListN.{length};
+ghost use Rattle.meaning.specs.Verdicts as definitions;
 ghost use Rattle.meaning.specs.Judging.{verdictOf};
 ghost use Rattle.data.specs.Tape.{rowSize};
 ghost use Rattle.data.specs.Contracts.{rowAt, TapeGood};
 ghost use Rattle.judge.specs.Items.{tableOf, Items};
 ghost use Rattle.judge.specs.Answers.{findingOf, verdictIn, leafVerdict};
 ghost use Rattle.judge.specs.Walking.{LeafRow, blockOn, Walk, ValueLink, ValueIs, AttributeAt, Begins, AttributeIs};
-ghost use Rattle.judge.specs.declared.attributes.Step.the-variants.{Told};
-ghost use Rattle.judge.specs.declared.attributes.Verdict.the-variants.{Fails};
 
 // Document 01's reasons.
 const UNSUITED: u8 = 20;
@@ -35,14 +34,17 @@ const PROHIBITED: u8 = 0;
 
 const REQUIRED: u8 = 2;
 
-// A verdict: valid, or a reason with the record and the data place that fail.
+// A failure: a reason, with the record and the data place that fail.
+pub struct Failure {
+    pub reason: u8,
+    pub record: RecordNumber,
+    pub place: usize,
+}
+
+// A verdict: valid, or the first failure.
 pub enum Verdict {
     Valid,
-    Fails {
-        reason: u8,
-        record: RecordNumber,
-        place: usize,
-    },
+    Fails(Failure),
 }
 
 // What an attribute tells of a block: a verdict, or a block inside it that is still to be judged by an object.
@@ -51,16 +53,15 @@ pub enum Step {
     Nested { object: RecordNumber, block: Block },
 }
 
-// A failure.
-fn fails(reason: u8, record: RecordNumber, place: usize) -> Step
-    ensures { λ r. ⌜ r ≡ Told (Fails reason «record» place) ⌝ }
+// The verdict of a failure.
+pub fn fails(reason: u8, record: RecordNumber, place: usize) -> Verdict
+    ensures { λ r. ⌜ verdictIn r ≡ definitions.fails reason («record» .0) place ⌝ }
 {
-    let v = Verdict::Fails {
+    Verdict::Fails(Failure {
         reason,
         record,
         place,
-    };
-    Step::Told(v)
+    })
 }
 
 // What an admission tells, at the first item's record.
@@ -68,16 +69,8 @@ fn told(a: Admission, first: RecordNumber, place: usize) -> Verdict
     ensures { λ r. ⌜ verdictIn r ≡ verdictOf (first .0) place (findingOf a) ⌝ }
 {
     match a {
-        Admission::Unsuited => Verdict::Fails {
-            reason: UNSUITED,
-            record: first,
-            place,
-        },
-        Admission::Refuted => Verdict::Fails {
-            reason: NOT_ADMITTED,
-            record: first,
-            place,
-        },
+        Admission::Unsuited => fails(UNSUITED, first, place),
+        Admission::Refuted => fails(NOT_ADMITTED, first, place),
         Admission::Admitted => Verdict::Valid,
     }
 }
@@ -146,10 +139,12 @@ fn judge_value(
                 block,
             };
         }
-        return fails(UNSUITED, value, number(tape, row, 3));
+        let v = fails(UNSUITED, value, number(tape, row, 3));
+        return Step::Told(v);
     }
     if holds == 0 {
-        return fails(UNSUITED, value, number(tape, row, 3));
+        let v = fails(UNSUITED, value, number(tape, row, 3));
+        return Step::Told(v);
     }
     let v = judge_leaf(records, pool, s, tape, rows, value, row);
     Step::Told(v)
@@ -175,13 +170,15 @@ pub fn judge_attribute(
     match find_member(s, tape, rows, block.first, block.inside, name_of(pool, e)) {
         Found::Nothing => {
             if flag == REQUIRED {
-                return fails(MISSING, n, block.place);
+                let v = fails(MISSING, n, block.place);
+                return Step::Told(v);
             }
             return Step::Told(Verdict::Valid);
         }
         Found::At(row) => {
             if flag == PROHIBITED {
-                return fails(PRESENT, n, number(tape, row, 3));
+                let v = fails(PRESENT, n, number(tape, row, 3));
+                return Step::Told(v);
             }
             return judge_value(records, pool, s, tape, rows, RecordNumber(e.c), row);
         }

@@ -50,15 +50,14 @@ fn answer(v: Verdict) -> JudgeResult
 {
     match v {
         Verdict::Valid => JudgeResult::Valid,
-        Verdict::Fails {
-            reason,
-            record,
-            place,
-        } => JudgeResult::Failed {
-            reason,
-            record,
-            place,
-        },
+        Verdict::Fails(failure) => {
+            let record = failure.record;
+            JudgeResult::Failed {
+                reason: failure.reason,
+                record,
+                place: failure.place,
+            }
+        }
     }
 }
 

@@ -8,7 +8,8 @@ ghost use Rattle.data.specs.Tape.{rowSize, number};
 ghost use Rattle.data.specs.Contracts.{rowAt, TapeGood};
 ghost use Rattle.judge.specs.Walking.{FoundIs, Begins};
 
-// The numbers of a row.
+// The numbers of a row: 0 what the member holds (0 a block, 1 a string, 2 a word), 1 and 2 its name, 3 the place of its
+// `<`, 4 and 5 its type, 6 and 7 its string or word, or 0 and the number of rows inside it, 8 the row of the next member.
 const ROW_SIZE: usize = 9;
 
 // The row of the member that was sought, or that there is none.

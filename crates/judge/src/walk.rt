@@ -3,6 +3,7 @@ use crate::admission::entry_at;
 use crate::admission::name_of;
 use crate::attributes::Step;
 use crate::attributes::Verdict;
+use crate::attributes::fails;
 use crate::attributes::judge_attribute;
 use crate::members::Block;
 use lexis::runs::same_bytes;
@@ -51,11 +52,7 @@ pub fn judge_block(
 {
     let e = entry_at(records, object);
     if !type_suits(pool, s, rows, e, block) {
-        return Verdict::Fails {
-            reason: TYPE_DIFFERS,
-            record: object,
-            place: block.place,
-        };
+        return fails(TYPE_DIFFERS, object, block.place);
     }
     let mut n = e.e;
     while n != 0 {
@@ -65,16 +62,8 @@ pub fn judge_block(
                 Verdict::Valid => {
                     n = a.d;
                 }
-                Verdict::Fails {
-                    reason,
-                    record,
-                    place,
-                } => {
-                    return Verdict::Fails {
-                        reason,
-                        record,
-                        place,
-                    };
+                Verdict::Fails(failure) => {
+                    return Verdict::Fails(failure);
                 }
             },
             Step::Nested {
@@ -84,16 +73,8 @@ pub fn judge_block(
                 Verdict::Valid => {
                     n = a.d;
                 }
-                Verdict::Fails {
-                    reason,
-                    record,
-                    place,
-                } => {
-                    return Verdict::Fails {
-                        reason,
-                        record,
-                        place,
-                    };
+                Verdict::Fails(failure) => {
+                    return Verdict::Fails(failure);
                 }
             },
         }

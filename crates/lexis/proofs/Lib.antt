@@ -22,3 +22,4 @@ pub mod WordSteps
 pub mod TokenSteps
 pub mod DataTokenSteps
 pub mod Stores
+pub mod Enclosed

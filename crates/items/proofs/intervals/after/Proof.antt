@@ -1,28 +1,28 @@
 -- `items::intervals::after` meets its contract. Assumes nothing.
 use borrow.Author.Needs.{needs}
-use Rattle.items.proofs.IntervalSteps.{after-day, after-number}
+use Rattle.items.proofs.IntervalSteps.{after-number, after-day}
 use Rattle.items.proofs.intervals.after.Statement.{statement}
 use Rattle.items.proofs.intervals.after.Tie as tie
-
-day-after-requires : tie.Need-day-after-requires
-day-after-requires c κs = c .before .pre (c .if1 .taken)
 
 wide-requires : tie.Need-wide-requires
 wide-requires c κs = search needs
 
+add-result : tie.Need-add-result
+add-result c = search needs
+
 returns : tie.Need-returns
-returns c = search after-day
+returns c = search after-number
+
+day-after-requires : tie.Need-day-after-requires
+day-after-requires c κs = c .before .pre (c .if1 .left)
 
 wide-requires-2 : tie.Need-wide-requires-2
 wide-requires-2 c κs = search needs
 
-add-result : tie.Need-add-result
-add-result c = search needs
-
 returns-2 : tie.Need-returns-2
-returns-2 c = search after-number
+returns-2 c = search after-day
 
 pub after-spec : {M : Type 1} → statement M
 after-spec =
     tie.close
-    (tie.spec day-after-requires wide-requires returns wide-requires-2 add-result returns-2)
+    (tie.spec wide-requires add-result returns day-after-requires wide-requires-2 returns-2)

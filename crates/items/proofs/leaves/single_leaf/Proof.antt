@@ -2,7 +2,7 @@
 use native.Mathlib.Omega.{arith}
 use borrow.Author.Needs.{needs}
 use mathlib.Core.Logic.{⊎-elim}
-use Rattle.items.proofs.LeafSteps.{single-boolean, single-date, single-time, single-other}
+use Rattle.items.proofs.LeafSteps.{single-other, single-boolean, single-date, single-time}
 use Rattle.items.proofs.leaves.single_leaf.Statement.{statement}
 use Rattle.items.proofs.leaves.single_leaf.Tie as tie
 
@@ -18,8 +18,8 @@ roomed-requires c κs = search needs
 returns : tie.Need-returns
 returns c = search single-boolean
 
-sub-t11 : tie.Need-sub-t11
-sub-t11 c = search needs
+sub-flag : tie.Need-sub-flag
+sub-flag c = search needs
 
 roomed-requires-2 : tie.Need-roomed-requires-2
 roomed-requires-2 c κs = search needs
@@ -27,8 +27,8 @@ roomed-requires-2 c κs = search needs
 returns-2 : tie.Need-returns-2
 returns-2 c = search single-date
 
-sub-t12 : tie.Need-sub-t12
-sub-t12 c = search needs
+sub-flag-2 : tie.Need-sub-flag-2
+sub-flag-2 c = search needs
 
 roomed-requires-3 : tie.Need-roomed-requires-3
 roomed-requires-3 c κs = search needs
@@ -50,10 +50,10 @@ single-leaf-spec =
     boolean-list-requires
     roomed-requires
     returns
-    sub-t11
+    sub-flag
     roomed-requires-2
     returns-2
-    sub-t12
+    sub-flag-2
     roomed-requires-3
     returns-3
     syntax-fault-requires

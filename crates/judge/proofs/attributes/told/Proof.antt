@@ -7,8 +7,14 @@ use Rattle.judge.proofs.attributes.told.Tie as tie
 enum-told : tie.Need-enum-told
 enum-told c = search needs
 
+fails-requires : tie.Need-fails-requires
+fails-requires c κs = search needs
+
 enum-told-2 : tie.Need-enum-told-2
 enum-told-2 c = search needs
+
+fails-requires-2 : tie.Need-fails-requires-2
+fails-requires-2 c κs = search needs
 
 enum-told-3 : tie.Need-enum-told-3
 enum-told-3 c = search needs
@@ -23,4 +29,14 @@ returns-3 : tie.Need-returns-3
 returns-3 c = search needs
 
 pub told-spec : {M : Type 1} → statement M
-told-spec = tie.close (tie.spec enum-told enum-told-2 enum-told-3 returns returns-2 returns-3)
+told-spec =
+    tie.close
+    (tie.spec
+    enum-told
+    fails-requires
+    enum-told-2
+    fails-requires-2
+    enum-told-3
+    returns
+    returns-2
+    returns-3)

@@ -1,6 +1,6 @@
 -- `judge::members::member_name` meets its contract. Assumes nothing.
 use borrow.Author.Needs.{needs}
-use Rattle.judge.proofs.MemberSteps.{row-lies, name-order, name-ends, name-is}
+use Rattle.judge.proofs.MemberSteps.{name-order, name-ends, name-is}
 use Rattle.judge.proofs.members.member_name.Statement.{statement}
 use Rattle.judge.proofs.members.member_name.Tie as tie
 

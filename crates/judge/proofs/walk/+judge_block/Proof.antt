@@ -1,9 +1,7 @@
--- `judge::walk::+judge_block` meets its contract. Assumes nothing.
+-- `judge::walk::judge_block`, which calls itself, meets its contract: the levels left fall. Assumes nothing.
 use borrow.Author.Needs.{needs}
 use Rattle.judge.proofs.WalkSteps.{InAttributes, object-lies, object-name, type-differs, type-suits, attributes-start, attributes-end, attribute-lies, attribute-at, attribute-less, told-valid, told-fails, levels-some, levels-fall, nested-under, nested-valid, nested-fails}
 use Rattle.judge.proofs.ItemSteps.{left}
-use Rattle.judge.proofs.WalkSteps.{InAttributes, object-lies, object-name, type-differs, attributes-start, attributes-end, attribute-lies, attribute-at, attribute-less, told-valid, told-fails, levels-some, levels-fall, nested-under, nested-valid, nested-fails}
-use Rattle.judge.proofs.WalkSteps.{InAttributes, object-lies, object-name, type-differs, attributes-start, attributes-end, attribute-lies, attribute-at, attribute-less, told-valid, told-fails, levels-some, nested-under, nested-valid, nested-fails}
 use Prim.Native.Nat.{ℕ, _<_}
 use borrow.Fn.Kinds.{In}
 use borrow.Fn.PlainCycle.{Measures, is, falls, and}
@@ -11,6 +9,7 @@ use Rattle.judge.proofs.walk.judge_block.Reads as judge-block
 use Rattle.judge.proofs.walk.judge_block.Kinds as judge-block-kinds
 use Rattle.judge.proofs.walk.+judge_block.Lts-judge_block as judge-block-lts
 use Rattle.judge.proofs.admission.entry_at.Reads as entry-at-reads
+use Rattle.judge.proofs.attributes.fails.Reads as fails-reads
 use Rattle.judge.proofs.attributes.judge_attribute.Reads as judge-attribute-reads
 use Rattle.judge.proofs.walk.type_suits.Reads as type-suits-reads
 use Rattle.judge.proofs.walk.+judge_block.{statement}
@@ -38,6 +37,8 @@ judge-block-entry-at-requires : (t : ℕ) → judge-block-lts.Need-entry-at-requ
   entry-at-reads.Learnt,
   type-suits-reads.Asked,
   type-suits-reads.Learnt,
+  fails-reads.Asked,
+  fails-reads.Learnt,
   judge-attribute-reads.Asked,
   judge-attribute-reads.Learnt,
   judge-block-below t,
@@ -50,6 +51,8 @@ judge-block-type-suits-requires : (t : ℕ) → judge-block-lts.Need-type-suits-
   entry-at-reads.Learnt,
   type-suits-reads.Asked,
   type-suits-reads.Learnt,
+  fails-reads.Asked,
+  fails-reads.Learnt,
   judge-attribute-reads.Asked,
   judge-attribute-reads.Learnt,
   judge-block-below t,
@@ -57,11 +60,27 @@ judge-block-type-suits-requires : (t : ℕ) → judge-block-lts.Need-type-suits-
 ) (judge-block-at t) judge-block.Post judge-block-Inv-loop judge-block-μ-loop
 judge-block-type-suits-requires t c κs = (search object-name, search needs)
 
+judge-block-fails-requires : (t : ℕ) → judge-block-lts.Need-fails-requires (
+  entry-at-reads.Asked,
+  entry-at-reads.Learnt,
+  type-suits-reads.Asked,
+  type-suits-reads.Learnt,
+  fails-reads.Asked,
+  fails-reads.Learnt,
+  judge-attribute-reads.Asked,
+  judge-attribute-reads.Learnt,
+  judge-block-below t,
+  judge-block.Post,
+) (judge-block-at t) judge-block.Post judge-block-Inv-loop judge-block-μ-loop
+judge-block-fails-requires t c κs = search needs
+
 judge-block-returns : (t : ℕ) → judge-block-lts.Need-returns (
   entry-at-reads.Asked,
   entry-at-reads.Learnt,
   type-suits-reads.Asked,
   type-suits-reads.Learnt,
+  fails-reads.Asked,
+  fails-reads.Learnt,
   judge-attribute-reads.Asked,
   judge-attribute-reads.Learnt,
   judge-block-below t,
@@ -74,6 +93,8 @@ judge-block-loop-holds : (t : ℕ) → judge-block-lts.Need-loop-holds (
   entry-at-reads.Learnt,
   type-suits-reads.Asked,
   type-suits-reads.Learnt,
+  fails-reads.Asked,
+  fails-reads.Learnt,
   judge-attribute-reads.Asked,
   judge-attribute-reads.Learnt,
   judge-block-below t,
@@ -86,6 +107,8 @@ judge-block-entry-at-requires-2 : (t : ℕ) → judge-block-lts.Need-entry-at-re
   entry-at-reads.Learnt,
   type-suits-reads.Asked,
   type-suits-reads.Learnt,
+  fails-reads.Asked,
+  fails-reads.Learnt,
   judge-attribute-reads.Asked,
   judge-attribute-reads.Learnt,
   judge-block-below t,
@@ -98,6 +121,8 @@ judge-block-judge-attribute-requires : (t : ℕ) → judge-block-lts.Need-judge-
   entry-at-reads.Learnt,
   type-suits-reads.Asked,
   type-suits-reads.Learnt,
+  fails-reads.Asked,
+  fails-reads.Learnt,
   judge-attribute-reads.Asked,
   judge-attribute-reads.Learnt,
   judge-block-below t,
@@ -110,6 +135,8 @@ judge-block-enum-known-v : (t : ℕ) → judge-block-lts.Need-enum-known-v (
   entry-at-reads.Learnt,
   type-suits-reads.Asked,
   type-suits-reads.Learnt,
+  fails-reads.Asked,
+  fails-reads.Learnt,
   judge-attribute-reads.Asked,
   judge-attribute-reads.Learnt,
   judge-block-below t,
@@ -122,6 +149,8 @@ judge-block-enum-told : (t : ℕ) → judge-block-lts.Need-enum-told (
   entry-at-reads.Learnt,
   type-suits-reads.Asked,
   type-suits-reads.Learnt,
+  fails-reads.Asked,
+  fails-reads.Learnt,
   judge-attribute-reads.Asked,
   judge-attribute-reads.Learnt,
   judge-block-below t,
@@ -134,6 +163,8 @@ judge-block-loop-less : (t : ℕ) → judge-block-lts.Need-loop-less (
   entry-at-reads.Learnt,
   type-suits-reads.Asked,
   type-suits-reads.Learnt,
+  fails-reads.Asked,
+  fails-reads.Learnt,
   judge-attribute-reads.Asked,
   judge-attribute-reads.Learnt,
   judge-block-below t,
@@ -146,6 +177,8 @@ judge-block-loop-again : (t : ℕ) → judge-block-lts.Need-loop-again (
   entry-at-reads.Learnt,
   type-suits-reads.Asked,
   type-suits-reads.Learnt,
+  fails-reads.Asked,
+  fails-reads.Learnt,
   judge-attribute-reads.Asked,
   judge-attribute-reads.Learnt,
   judge-block-below t,
@@ -158,6 +191,8 @@ judge-block-enum-known-v-2 : (t : ℕ) → judge-block-lts.Need-enum-known-v-2 (
   entry-at-reads.Learnt,
   type-suits-reads.Asked,
   type-suits-reads.Learnt,
+  fails-reads.Asked,
+  fails-reads.Learnt,
   judge-attribute-reads.Asked,
   judge-attribute-reads.Learnt,
   judge-block-below t,
@@ -170,6 +205,8 @@ judge-block-returns-2 : (t : ℕ) → judge-block-lts.Need-returns-2 (
   entry-at-reads.Learnt,
   type-suits-reads.Asked,
   type-suits-reads.Learnt,
+  fails-reads.Asked,
+  fails-reads.Learnt,
   judge-attribute-reads.Asked,
   judge-attribute-reads.Learnt,
   judge-block-below t,
@@ -178,13 +215,15 @@ judge-block-returns-2 : (t : ℕ) → judge-block-lts.Need-returns-2 (
 judge-block-returns-2 t c =
     let l = c .before .before .before .before .before .before .before .before .before in
     type-suits _ _ _ _ _ _ _ _ (l .before .before .before .before .before .before .before .before .pre .1) _ (l .before .before .before .entry-at .ensures) _ (l .before .before .type-suits .ensures) (l .before .if1 .left) _
-    (told-fails _ _ _ _ _ _ _ _ _ (l .loop .inv) (c .before .before .before .before .before .before .before .before .loop-test .taken) _ (c .before .before .before .before .before .before .before .entry-at2 .ensures) _ (c .before .before .before .before .before .before .judge-attribute .ensures) _ _ _ _ (c .before .before .before .before .v .given .1) (c .before .v2 .given .1))
+    (told-fails _ _ _ _ _ _ _ _ _ (l .loop .inv) (c .before .before .before .before .before .before .before .before .loop-test .taken) _ (c .before .before .before .before .before .before .before .entry-at2 .ensures) _ (c .before .before .before .before .before .before .judge-attribute .ensures) _ _ (c .before .before .before .before .v .given .1) (c .before .v2 .given .1))
 
 judge-block-enum-known-inner : (t : ℕ) → judge-block-lts.Need-enum-known-inner (
   entry-at-reads.Asked,
   entry-at-reads.Learnt,
   type-suits-reads.Asked,
   type-suits-reads.Learnt,
+  fails-reads.Asked,
+  fails-reads.Learnt,
   judge-attribute-reads.Asked,
   judge-attribute-reads.Learnt,
   judge-block-below t,
@@ -197,6 +236,8 @@ judge-block-sub-judge-block : (t : ℕ) → judge-block-lts.Need-sub-judge-block
   entry-at-reads.Learnt,
   type-suits-reads.Asked,
   type-suits-reads.Learnt,
+  fails-reads.Asked,
+  fails-reads.Learnt,
   judge-attribute-reads.Asked,
   judge-attribute-reads.Learnt,
   judge-block-below t,
@@ -209,6 +250,8 @@ judge-block-judge-block-requires : (t : ℕ) → judge-block-lts.Need-judge-bloc
   entry-at-reads.Learnt,
   type-suits-reads.Asked,
   type-suits-reads.Learnt,
+  fails-reads.Asked,
+  fails-reads.Learnt,
   judge-attribute-reads.Asked,
   judge-attribute-reads.Learnt,
   judge-block-below t,
@@ -223,6 +266,8 @@ judge-block-enum-told-2 : (t : ℕ) → judge-block-lts.Need-enum-told-2 (
   entry-at-reads.Learnt,
   type-suits-reads.Asked,
   type-suits-reads.Learnt,
+  fails-reads.Asked,
+  fails-reads.Learnt,
   judge-attribute-reads.Asked,
   judge-attribute-reads.Learnt,
   judge-block-below t,
@@ -235,6 +280,8 @@ judge-block-loop-less-2 : (t : ℕ) → judge-block-lts.Need-loop-less-2 (
   entry-at-reads.Learnt,
   type-suits-reads.Asked,
   type-suits-reads.Learnt,
+  fails-reads.Asked,
+  fails-reads.Learnt,
   judge-attribute-reads.Asked,
   judge-attribute-reads.Learnt,
   judge-block-below t,
@@ -247,6 +294,8 @@ judge-block-loop-again-2 : (t : ℕ) → judge-block-lts.Need-loop-again-2 (
   entry-at-reads.Learnt,
   type-suits-reads.Asked,
   type-suits-reads.Learnt,
+  fails-reads.Asked,
+  fails-reads.Learnt,
   judge-attribute-reads.Asked,
   judge-attribute-reads.Learnt,
   judge-block-below t,
@@ -254,23 +303,27 @@ judge-block-loop-again-2 : (t : ℕ) → judge-block-lts.Need-loop-again-2 (
 ) (judge-block-at t) judge-block.Post judge-block-Inv-loop judge-block-μ-loop
 judge-block-loop-again-2 t c = search nested-valid
 
-judge-block-enum-known-reason : (t : ℕ) → judge-block-lts.Need-enum-known-reason (
+judge-block-enum-known-failure : (t : ℕ) → judge-block-lts.Need-enum-known-failure (
   entry-at-reads.Asked,
   entry-at-reads.Learnt,
   type-suits-reads.Asked,
   type-suits-reads.Learnt,
+  fails-reads.Asked,
+  fails-reads.Learnt,
   judge-attribute-reads.Asked,
   judge-attribute-reads.Learnt,
   judge-block-below t,
   judge-block.Post,
 ) (judge-block-at t) judge-block.Post judge-block-Inv-loop judge-block-μ-loop
-judge-block-enum-known-reason t c = search needs
+judge-block-enum-known-failure t c = search needs
 
 judge-block-returns-3 : (t : ℕ) → judge-block-lts.Need-returns-3 (
   entry-at-reads.Asked,
   entry-at-reads.Learnt,
   type-suits-reads.Asked,
   type-suits-reads.Learnt,
+  fails-reads.Asked,
+  fails-reads.Learnt,
   judge-attribute-reads.Asked,
   judge-attribute-reads.Learnt,
   judge-block-below t,
@@ -279,13 +332,15 @@ judge-block-returns-3 : (t : ℕ) → judge-block-lts.Need-returns-3 (
 judge-block-returns-3 t c =
     let l = c .before .before .before .before .before .before .before .before .before .before in
     type-suits _ _ _ _ _ _ _ _ (l .before .before .before .before .before .before .before .before .pre .1) _ (l .before .before .before .entry-at .ensures) _ (l .before .before .type-suits .ensures) (l .before .if1 .left) _
-    (nested-fails _ _ _ _ _ _ _ _ _ (l .loop .inv) (c .before .before .before .before .before .before .before .before .before .loop-test .taken) _ (c .before .before .before .before .before .before .before .before .entry-at2 .ensures) _ (c .before .before .before .before .before .before .before .judge-attribute .ensures) _ _ (c .before .before .before .before .before .inner .given .1) _ (c .before .before .before .judge-block .ensures) _ _ _ (c .before .reason .given .1))
+    (nested-fails _ _ _ _ _ _ _ _ _ (l .loop .inv) (c .before .before .before .before .before .before .before .before .before .loop-test .taken) _ (c .before .before .before .before .before .before .before .before .entry-at2 .ensures) _ (c .before .before .before .before .before .before .before .judge-attribute .ensures) _ _ (c .before .before .before .before .before .inner .given .1) _ (c .before .before .before .judge-block .ensures) _ (c .before .failure .given .1))
 
 judge-block-returns-4 : (t : ℕ) → judge-block-lts.Need-returns-4 (
   entry-at-reads.Asked,
   entry-at-reads.Learnt,
   type-suits-reads.Asked,
   type-suits-reads.Learnt,
+  fails-reads.Asked,
+  fails-reads.Learnt,
   judge-attribute-reads.Asked,
   judge-attribute-reads.Learnt,
   judge-block-below t,
@@ -299,6 +354,8 @@ pub +judge-block-spec : {M : Type 1} → statement M
   entry-at-reads.Learnt,
   type-suits-reads.Asked,
   type-suits-reads.Learnt,
+  fails-reads.Asked,
+  fails-reads.Learnt,
   judge-attribute-reads.Asked,
   judge-attribute-reads.Learnt,
   judge-block-below t,
@@ -310,6 +367,7 @@ pub +judge-block-spec : {M : Type 1} → statement M
     judge-block-μ-loop
     (judge-block-entry-at-requires t)
     (judge-block-type-suits-requires t)
+    (judge-block-fails-requires t)
     (judge-block-returns t)
     (judge-block-loop-holds t)
     (judge-block-entry-at-requires-2 t)
@@ -326,6 +384,6 @@ pub +judge-block-spec : {M : Type 1} → statement M
     (judge-block-enum-told-2 t)
     (judge-block-loop-less-2 t)
     (judge-block-loop-again-2 t)
-    (judge-block-enum-known-reason t)
+    (judge-block-enum-known-failure t)
     (judge-block-returns-3 t)
     (judge-block-returns-4 t)

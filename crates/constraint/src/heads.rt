@@ -1,0 +1,271 @@
+// What objects and attributes begin with: a TYPE, a code or a NAME, up to the opening brace.
+use crate::existence::ExistenceRead;
+use crate::existence::existence_from;
+use crate::existence::opening;
+use items::spans::repeated;
+use lexis::CODE;
+use lexis::NAME;
+use lexis::TYPE_NAME;
+use lexis::Token;
+use lexis::tokens::token_at;
+use refusals::Cause;
+use refusals::Refusal;
+use refusals::limits::CODE_LIMIT;
+use refusals::limits::NAME_LIMIT;
+use refusals::limits::POOL_LIMIT;
+use refusals::limits::RECORD_LIMIT;
+use refusals::steps::Expected;
+use refusals::steps::expect;
+use refusals::steps::too_long;
+ghost use Prim.Native.Nat.{_≤_};
+ghost use lib.ListN.{length};
+ghost use Rattle.refusals.specs.Limits.{textLimit, poolLimit};
+ghost use Rattle.items.specs.Spans.{earlier, SpansIn};
+ghost use Rattle.constraint.specs.Objects.{count, objectType, attributeName};
+ghost use Rattle.constraint.specs.Answers.{Counted, PooledIs, WordIs, CodeRoom, CodeIs, OpenedIs, ObjectHeadIs, NamedIs, AttributeHeadIs};
+
+// The place of a code and the place behind it, 0 and 0 where there is none; or its refusal.
+pub enum CodeRead {
+    Faulty(Refusal),
+    Code {
+        start: usize,
+        end: usize,
+        next: usize,
+    },
+}
+
+// An object's type and code and the place behind its opening brace, or its refusal.
+pub enum ObjectHead {
+    Faulty(Refusal),
+    Head {
+        type_start: usize,
+        type_end: usize,
+        code_start: usize,
+        code_end: usize,
+        next: usize,
+    },
+}
+
+// An attribute's name and existence and the place behind its opening brace, or its refusal.
+pub enum AttributeHead {
+    Faulty(Refusal),
+    Head {
+        name_start: usize,
+        name_end: usize,
+        existence: u8,
+        next: usize,
+    },
+}
+
+// The bytes of a code's two brackets.
+const BRACKETS: usize = 2;
+
+// The token, if the pool has room for so many bytes.
+fn pooled(t: Token, size: usize, pool: usize) -> Expected
+    requires { ⌜ (size ≤ textLimit) × (pool ≤ poolLimit) ⌝ }
+    ensures { λ r. ⌜ PooledIs t size pool r ⌝ }
+{
+    if POOL_LIMIT < pool + size {
+        return Expected::Fault(Refusal {
+            cause: Cause::PoolTooLarge,
+            place: t.start,
+        });
+    }
+    Expected::Taken(t)
+}
+
+// A TYPE that starts an object, where so many levels are left.
+fn object_type(s: &[u8], levels: usize, next: usize, pool: usize, from: usize) -> Expected
+    requires { ⌜ Counted (now s) next pool from ⌝ }
+    ensures { λ r. ⌜ WordIs (now (s .entry)) next pool from (objectType (now (s .entry)) levels (count next pool) from) r ⌝ }
+{
+    match expect(s, TYPE_NAME, from) {
+        Expected::Fault(fault) => {
+            return Expected::Fault(fault);
+        }
+        Expected::Taken(t) => {
+            if levels == 0 {
+                return Expected::Fault(Refusal {
+                    cause: Cause::TooDeep,
+                    place: t.start,
+                });
+            }
+            if NAME_LIMIT < t.end - t.start {
+                let fault = too_long(t);
+                return Expected::Fault(fault);
+            }
+            if next == RECORD_LIMIT {
+                return Expected::Fault(Refusal {
+                    cause: Cause::TooManyRecords,
+                    place: t.start,
+                });
+            }
+            return pooled(t, t.end - t.start, pool);
+        }
+    }
+}
+
+// A code without its brackets, where there is one.
+fn object_code(s: &[u8], pool: usize, from: usize) -> CodeRead
+    requires { ⌜ CodeRoom (now s) pool from ⌝ }
+    ensures { λ r. ⌜ CodeIs (now (s .entry)) pool from r ⌝ }
+{
+    let t = token_at(s, from);
+    if t.sort != CODE {
+        return CodeRead::Code {
+            start: 0,
+            end: 0,
+            next: from,
+        };
+    }
+    if CODE_LIMIT + BRACKETS < t.end - t.start {
+        let fault = too_long(t);
+        return CodeRead::Faulty(fault);
+    }
+    match pooled(t, t.end - t.start - BRACKETS, pool) {
+        Expected::Fault(fault) => {
+            return CodeRead::Faulty(fault);
+        }
+        Expected::Taken(_) => {
+            return CodeRead::Code {
+                start: t.start + 1,
+                end: t.end - 1,
+                next: t.end,
+            };
+        }
+    }
+}
+
+// A NAME that starts an attribute; the names before it in its object are the spans from `first` on, up to `top`.
+fn attribute_name(
+    s: &[u8],
+    names: &[u32],
+    first: usize,
+    top: usize,
+    next: usize,
+    pool: usize,
+    from: usize,
+) -> Expected
+    requires { ⌜ Counted (now s) next pool from ⌝ }
+    requires { ⌜ SpansIn (now s) (now names) first top ⌝ }
+    ensures { λ r. ⌜ WordIs (now (s .entry)) next pool from (attributeName (now (s .entry)) (earlier (now (s .entry)) (now (names .entry)) first top) (count next pool) from) r ⌝ }
+{
+    match expect(s, NAME, from) {
+        Expected::Fault(fault) => {
+            return Expected::Fault(fault);
+        }
+        Expected::Taken(t) => {
+            if NAME_LIMIT < t.end - t.start {
+                let fault = too_long(t);
+                return Expected::Fault(fault);
+            }
+            if next == RECORD_LIMIT {
+                return Expected::Fault(Refusal {
+                    cause: Cause::TooManyRecords,
+                    place: t.start,
+                });
+            }
+            if repeated(s, names, first, top, t.start, t.end) {
+                return Expected::Fault(Refusal {
+                    cause: Cause::RepeatedName,
+                    place: t.start,
+                });
+            }
+            return pooled(t, t.end - t.start, pool);
+        }
+    }
+}
+
+// The opening brace of an object whose type and code are read.
+fn object_opening(s: &[u8], t: Token, start: usize, end: usize, from: usize) -> ObjectHead
+    requires { ⌜ from ≤ length (now s) ⌝ }
+    ensures { λ r. ⌜ OpenedIs (now (s .entry)) t start end from r ⌝ }
+{
+    match opening(s, from) {
+        Expected::Fault(fault) => {
+            return ObjectHead::Faulty(fault);
+        }
+        Expected::Taken(brace) => {
+            return ObjectHead::Head {
+                type_start: t.start,
+                type_end: t.end,
+                code_start: start,
+                code_end: end,
+                next: brace.end,
+            };
+        }
+    }
+}
+
+// What an object begins with: a TYPE, a code where there is one, and `matches {`.
+pub fn object_head(s: &[u8], levels: usize, next: usize, pool: usize, from: usize) -> ObjectHead
+    requires { ⌜ Counted (now s) next pool from ⌝ }
+    ensures { λ r. ⌜ ObjectHeadIs (now (s .entry)) levels next pool from r ⌝ }
+{
+    match object_type(s, levels, next, pool, from) {
+        Expected::Fault(fault) => {
+            return ObjectHead::Faulty(fault);
+        }
+        Expected::Taken(t) => match object_code(s, pool + (t.end - t.start), t.end) {
+            CodeRead::Faulty(fault) => {
+                return ObjectHead::Faulty(fault);
+            }
+            CodeRead::Code {
+                start,
+                end,
+                next: behind,
+            } => {
+                return object_opening(s, t, start, end, behind);
+            }
+        },
+    }
+}
+
+// The opening brace of an attribute whose name and existence are read.
+fn attribute_opening(s: &[u8], t: Token, flag: u8, from: usize) -> AttributeHead
+    requires { ⌜ from ≤ length (now s) ⌝ }
+    ensures { λ r. ⌜ NamedIs (now (s .entry)) t flag from r ⌝ }
+{
+    match opening(s, from) {
+        Expected::Fault(fault) => {
+            return AttributeHead::Faulty(fault);
+        }
+        Expected::Taken(brace) => {
+            return AttributeHead::Head {
+                name_start: t.start,
+                name_end: t.end,
+                existence: flag,
+                next: brace.end,
+            };
+        }
+    }
+}
+
+// What an attribute begins with: a NAME, an existence where there is one, and `matches {`.
+pub fn attribute_head(
+    s: &[u8],
+    names: &[u32],
+    first: usize,
+    top: usize,
+    next: usize,
+    pool: usize,
+    from: usize,
+) -> AttributeHead
+    requires { ⌜ Counted (now s) next pool from ⌝ }
+    requires { ⌜ SpansIn (now s) (now names) first top ⌝ }
+    ensures { λ r. ⌜ AttributeHeadIs (now (s .entry)) (earlier (now (s .entry)) (now (names .entry)) first top) next pool from r ⌝ }
+{
+    match attribute_name(s, names, first, top, next, pool, from) {
+        Expected::Fault(fault) => {
+            return AttributeHead::Faulty(fault);
+        }
+        Expected::Taken(t) => match existence_from(s, t.end) {
+            ExistenceRead::Faulty(fault) => {
+                return AttributeHead::Faulty(fault);
+            }
+            ExistenceRead::Existence { flag, next: behind } => {
+                return attribute_opening(s, t, flag, behind);
+            }
+        },
+    }
+}

@@ -1,0 +1,353 @@
+-- What the functions under the reader of leaves promise of their answers: each answer as the reading of the definitions, and bounds. Assumes nothing.
+use mathlib.Core.Path.{_≡_}
+use mathlib.Core.Logic.{_≢_}
+use mathlib.Core.Bool.{Bool, false, true, cond, _||_}
+use mathlib.Core.List.{List, [], _∷_}
+use Prim.Native.Nat.{ℕ, _+_, _*_, _-_, _≤_, _<_}
+use lib.Dec.{eqb, ltb}
+use lib.ListN.{length, getD}
+use Rattle.lexis.specs.Bytes.{within}
+use Rattle.lexis.specs.Runs.{listed}
+use Rattle.lexis.specs.Spelling.{bar, less, greater, atMost, atLeast}
+use Rattle.lexis.specs.Spelling
+use Rattle.lexis.specs.Tokens.{integer, date, inner}
+use Rattle.lexis.specs.declared.Token.{Token}
+use Rattle.values.specs.Integers.{Pair, pair}
+use Rattle.values.specs.Calendar.{firstDay, lastDay}
+use Rattle.refusals.specs.Limits.{textLimit, recordLimit, poolLimit, itemLimit}
+use Rattle.refusals.specs.declared.Cause.the-variants.{EmptyInterval, TooManyItems, TooManyRecords, Overlap, PoolTooLarge}
+use Rattle.refusals.specs.Reading.{Reading, refused, got, andThen, unless}
+use Rattle.refusals.specs.Refusals.{refusal}
+use Rattle.refusals.specs.Steps.{expect, syntaxFault}
+use Rattle.refusals.specs.Answers.{tokenReading}
+use Rattle.refusals.specs.declared.steps.Expected.{Expected}
+use Rattle.refusals.specs.declared.steps.Expected.the-variants.{Fault, Taken}
+use Rattle.meaning.specs.Constraints.{Text, Leaf, datePattern, timePattern}
+use Rattle.meaning.specs.Constraints
+use Rattle.items.specs.Intervals.{undecided, literal, Ends, ends, least, most, empty, closed, Interval, above, from}
+use Rattle.items.specs.Ranges.{Start, start, overlaps, Ranges, withFirst, goOn, ranges}
+use Rattle.items.specs.Strings.{withText, goOnStrings, strings, startString}
+use Rattle.items.specs.Leaves.{isBoolean, secondBoolean, booleanList, rangeLeaf, patternFlag}
+use Rattle.items.specs.Spans.{spanAt, latest, earlier, SpansIn}
+use Rattle.items.specs.declared.literals.LiteralRead.{LiteralRead}
+use Rattle.items.specs.declared.literals.LiteralRead.the-variants as literalRead
+use Rattle.items.specs.declared.intervals.EndsRead.{EndsRead}
+use Rattle.items.specs.declared.intervals.EndsRead.the-variants as endsRead
+use Rattle.items.specs.declared.intervals.IntervalRead.{IntervalRead}
+use Rattle.items.specs.declared.intervals.IntervalRead.the-variants as intervalRead
+use Rattle.items.specs.declared.ranges.StartRead.{StartRead}
+use Rattle.items.specs.declared.ranges.StartRead.the-variants as startRead
+use Rattle.items.specs.declared.ranges.RangeRead.{RangeRead}
+use Rattle.items.specs.declared.ranges.RangeRead.the-variants as rangeRead
+use Rattle.items.specs.declared.ranges.RangesRead.{RangesRead}
+use Rattle.items.specs.declared.ranges.RangesRead.the-variants as rangesRead
+use Rattle.items.specs.declared.strings.StringRead.{StringRead}
+use Rattle.items.specs.declared.strings.StringRead.the-variants as stringRead
+use Rattle.items.specs.declared.strings.StringsRead.{StringsRead}
+use Rattle.items.specs.declared.strings.StringsRead.the-variants as stringsRead
+use Rattle.items.specs.declared.leaves.LeafRead.{LeafRead}
+use Rattle.items.specs.declared.leaves.LeafRead.the-variants as leafRead
+use Rattle.items.specs.Answers.{pairAt, rangeAt, textAt, itemsFrom, Texts, leafReading, LeafPast}
+
+-- a literal
+abbrev pub literalReading : LiteralRead → Reading ℕ
+literalReading (literalRead.Faulty x) = refused x
+literalReading (literalRead.Literal value next) = got value next
+
+abbrev pub LiteralPast : List ℕ → ℕ → LiteralRead → Type 0
+LiteralPast s kind (literalRead.Faulty x) = Unit {0}
+LiteralPast s kind (literalRead.Literal value next) = (kind ≡ date → value ≤ lastDay) × (next ≤ length s)
+
+pub record LiteralIs (s : List ℕ) (kind from : ℕ) (r : LiteralRead) : Type 0 where
+  pub is : literalReading r ≡ literal s kind from
+  pub past : LiteralPast s kind r
+
+-- the ends of an interval
+abbrev pub endsReading : EndsRead → Reading Ends
+endsReading (endsRead.Faulty x) = refused x
+endsReading (endsRead.Ends kind low high below next) = got (ends kind low high below) next
+
+-- a literal as the high end
+unfoldable pub highEnd : List ℕ → ℕ → ℕ → Bool → ℕ → Reading Ends
+highEnd s kind low below from = andThen (literal s kind from) (λ b p. got (ends kind low b below) p)
+
+-- a value that has a next one: a day up to the last
+abbrev pub HasAfter : ℕ → ℕ → Type 0
+HasAfter kind a = kind ≡ date → a ≤ lastDay
+
+-- a value that has one before it
+pub record HasBefore (kind b : ℕ) : Type 0 where
+  pub some : 0 < b
+  pub day : kind ≡ date → firstDay < b
+
+-- what a literal behind a mark, or behind none, makes
+unfoldable pub endsBy : List ℕ → ℕ → ℕ → ℕ → ℕ → Reading Ends
+endsBy s mark kind a p =
+    cond (eqb mark greater) (above s kind a p)
+    (cond (eqb mark less) (got (ends kind (least kind) a true) p)
+    (cond (eqb mark atMost) (got (ends kind (least kind) a false) p)
+    (cond (eqb mark atLeast) (got (ends kind a (most kind) false) p)
+    (from s kind a p))))
+
+-- a mark with which an interval may begin
+abbrev pub opensEnds : ℕ → Bool
+opensEnds mark = eqb mark greater || eqb mark less || eqb mark atMost || eqb mark atLeast
+
+-- a list's kind: integers or dates, or open
+abbrev pub Asked : ℕ → Type 0
+Asked kind = kind ≢ undecided → kind ≢ date → kind ≡ integer
+
+-- a place of the text, and the kind of the list that is read there
+pub record At (s : List ℕ) (kind from : ℕ) : Type 0 where
+  pub inside : from ≤ length s
+  pub asked : Asked kind
+
+-- an interval by its kind and its pair
+abbrev pub shut : ℕ → Pair → Interval
+shut kind p = record { kind = kind; pair = p }
+
+abbrev pub intervalReading : IntervalRead → Reading Interval
+intervalReading (intervalRead.Faulty x) = refused x
+intervalReading (intervalRead.Interval kind low high next) = got (shut kind (pair low high)) next
+
+abbrev pub IntervalPast : List ℕ → IntervalRead → Type 0
+IntervalPast s (intervalRead.Faulty x) = Unit {0}
+IntervalPast s (intervalRead.Interval kind low high next) = (next ≤ length s) × Asked kind
+
+pub record IntervalIs (s : List ℕ) (reading : Reading Interval) (r : IntervalRead) : Type 0 where
+  pub is : intervalReading r ≡ reading
+  pub past : IntervalPast s r
+
+-- the ends up to the closing bar
+unfoldable pub closing : List ℕ → Ends → ℕ → Reading Interval
+closing s e p =
+    andThen (expect s bar p) (λ t q.
+    unless (empty e) EmptyInterval (t .start)
+    (got (shut (e .kind) (closed e)) q))
+
+-- ends that may be closed: where the low end lies below the high end, a day stands before the high end
+pub record Closable (s : List ℕ) (kind low high from : ℕ) : Type 0 where
+  pub inside : from ≤ length s
+  pub day : kind ≡ date → low < high → firstDay < high
+
+-- ends between which a value lies, and before whose high end a day stands
+pub record NotEmpty (kind low high : ℕ) (below : Bool) : Type 0 where
+  pub some : empty (ends kind low high below) ≡ false
+  pub day : kind ≡ date → low < high → firstDay < high
+
+-- an item's first token
+abbrev pub startReading : StartRead → Reading Start
+startReading (startRead.Faulty x) = refused x
+startReading (startRead.Start place single value next) = got (record { place = place; single = single; value = value }) next
+
+-- what the whole item is made of, from behind its first token on
+abbrev pub started : Bool → ℕ → Start
+started single value = record { place = 0; single = single; value = value }
+
+-- an item's first token, if there is room for one more item and one more record
+unfoldable pub roomy : {A : Type 0} → (A → ℕ) → ℕ → ℕ → Reading A → Reading A
+roomy place number count r =
+    andThen r (λ x p.
+    unless (eqb count itemLimit) TooManyItems (place x)
+    (unless (eqb number recordLimit) TooManyRecords (place x) (got x p)))
+
+-- where an item is read, behind so many others
+pub record Before (s : List ℕ) (number count from : ℕ) : Type 0 where
+  pub inside : from ≤ length s
+  pub few : count ≤ itemLimit
+  pub records : number ≤ recordLimit
+
+abbrev pub StartPast : List ℕ → ℕ → ℕ → ℕ → StartRead → Type 0
+StartPast s kind number count (startRead.Faulty x) = Unit {0}
+StartPast s kind number count (startRead.Start place single value next) = (next ≤ length s) × (count < itemLimit) × (number < recordLimit)
+
+pub record StartIs (s : List ℕ) (kind number count from : ℕ) (r : StartRead) : Type 0 where
+  pub is : startReading r ≡ roomy (λ x. x .place) number count (start s kind from)
+  pub past : StartPast s kind number count r
+
+-- the pairs of the first items, the latest first
+abbrev pub pairsOf : List ℕ → ℕ → List Pair
+pairsOf scratch count = latest (pairAt scratch) 0 count
+
+-- an item that was read behind so many, and the items that are read behind it
+abbrev pub rangeReading : List ℕ → ℕ → ℕ → List ℕ → RangeRead → Reading Ranges
+rangeReading s number count scratch (rangeRead.Faulty x) = refused x
+rangeReading s number count scratch (rangeRead.Last kind next) = got (record { kind = kind; items = rangeAt scratch number count ∷ [] }) next
+rangeReading s number count scratch (rangeRead.More kind next) =
+    withFirst (rangeAt scratch number count) (ranges s (itemLimit - (count + 1)) kind (number + 1) (pairsOf scratch (count + 1)) next)
+
+-- an item, from behind its last token on
+unfoldable pub keptRange : List ℕ → ℕ → ℕ → List Pair → ℕ → Interval → ℕ → Reading Ranges
+keptRange s number count seen place i q =
+    unless (overlaps (i .pair) seen) Overlap place
+    (goOn s number i (ranges s (itemLimit - (count + 1)) (i .kind) (number + 1) (i .pair ∷ seen)) q)
+
+-- the same with the list's kind, and where an item that was read is kept
+pub record ItemRoom (s : List ℕ) (kind number count from : ℕ) : Type 0 where
+  pub before : Before s number count from
+  pub asked : Asked kind
+
+pub record KeepRoom (s : List ℕ) (kind number count from : ℕ) : Type 0 where
+  pub inside : from ≤ length s
+  pub asked : Asked kind
+  pub few : count < itemLimit
+  pub records : number < recordLimit
+
+abbrev pub RangePast : List ℕ → ℕ → ℕ → RangeRead → Type 0
+RangePast s number count (rangeRead.Faulty x) = Unit {0}
+RangePast s number count (rangeRead.Last kind next) = (count < itemLimit) × (number < recordLimit) × (next ≤ length s)
+RangePast s number count (rangeRead.More kind next) = (count < itemLimit) × (number < recordLimit) × (next ≤ length s) × Asked kind
+
+-- the first items stay as they were
+pub record Kept (count : ℕ) (before after : List ℕ) : Type 0 where
+  pub same : (j : ℕ) → j < 2 * count → getD after j 0 ≡ getD before j 0
+
+pub record RangeIs (s : List ℕ) (number count : ℕ) (reading : Reading Ranges) (before after : List ℕ) (r : RangeRead) : Type 0 where
+  pub is : rangeReading s number count after r ≡ reading
+  pub kept : Kept count before after
+  pub past : RangePast s number count r
+
+-- a list of ranges
+abbrev pub rangesReading : ℕ → List ℕ → RangesRead → Reading Ranges
+rangesReading number scratch (rangesRead.Faulty x) = refused x
+rangesReading number scratch (rangesRead.Ranges kind count next) = got (record { kind = kind; items = itemsFrom (rangeAt scratch) number 0 count }) next
+
+abbrev pub RangesPast : List ℕ → ℕ → RangesRead → Type 0
+RangesPast s number (rangesRead.Faulty x) = Unit {0}
+RangesPast s number (rangesRead.Ranges kind count next) = (1 ≤ count) × (count ≤ itemLimit) × (number + count ≤ recordLimit)
+
+pub record RangesIs (s : List ℕ) (number from : ℕ) (scratch : List ℕ) (r : RangesRead) : Type 0 where
+  pub is : rangesReading number scratch r ≡ ranges s itemLimit undecided number [] from
+  pub past : RangesPast s number r
+
+-- a string that was read behind so many, and the strings that are read behind it
+abbrev pub stringReading : List ℕ → ℕ → ℕ → ℕ → List ℕ → StringRead → Reading (List Text)
+stringReading s number count pool scratch (stringRead.Faulty x) = refused x
+stringReading s number count pool scratch (stringRead.Last size next) = got (textAt s scratch number count ∷ []) next
+stringReading s number count pool scratch (stringRead.More size next) =
+    withText (textAt s scratch number count) (strings s (itemLimit - (count + 1)) (number + 1) (pool + size) (earlier s scratch 0 (count + 1)) next)
+
+-- a string, from behind it on
+unfoldable pub keptString : List ℕ → ℕ → ℕ → ℕ → List (List ℕ) → Token → ℕ → Reading (List Text)
+keptString s number count pool seen t p =
+    unless (listed (inner s t) seen) Overlap (t .start)
+    (unless (ltb poolLimit (pool + length (inner s t))) PoolTooLarge (t .start)
+    (goOnStrings s (record { number = number; text = inner s t }) (strings s (itemLimit - (count + 1)) (number + 1) (pool + length (inner s t)) (inner s t ∷ seen)) p))
+
+-- a string's token, in quotes
+pub record Quoted (s : List ℕ) (t : Token) : Type 0 where
+  pub order : t .start + 2 ≤ t .end
+  pub inside : t .end ≤ length s
+
+-- a string's token, if there is room for one more item and one more record
+abbrev pub StringStartPast : List ℕ → ℕ → ℕ → Expected → Type 0
+StringStartPast s number count (Fault x) = Unit {0}
+StringStartPast s number count (Taken t) = Quoted s t × (count < itemLimit) × (number < recordLimit)
+
+pub record StringStartIs (s : List ℕ) (number count from : ℕ) (r : Expected) : Type 0 where
+  pub is : tokenReading r ≡ roomy (λ t. t .start) number count (startString s from)
+  pub past : StringStartPast s number count r
+
+-- where a string is read, behind so many others whose bytes are in the pool, and where one that was read is kept
+pub record StringRoom (s : List ℕ) (number count pool from : ℕ) (scratch : List ℕ) : Type 0 where
+  pub before : Before s number count from
+  pub short : length s ≤ textLimit
+  pub bytes : pool ≤ poolLimit
+  pub spans : SpansIn s scratch 0 count
+
+pub record KeepString (s : List ℕ) (number count pool : ℕ) (t : Token) (scratch : List ℕ) : Type 0 where
+  pub quoted : Quoted s t
+  pub few : count < itemLimit
+  pub records : number < recordLimit
+  pub short : length s ≤ textLimit
+  pub bytes : pool ≤ poolLimit
+  pub spans : SpansIn s scratch 0 count
+
+-- a string that is kept is span `count` of the scratch, of so many bytes, for which the pool has room
+pub record StringKept (s : List ℕ) (number count pool : ℕ) (scratch : List ℕ) (size next : ℕ) : Type 0 where
+  pub few : count < itemLimit
+  pub records : number < recordLimit
+  pub bytes : pool + size ≤ poolLimit
+  pub long : size ≡ length (spanAt s scratch count)
+  pub spans : SpansIn s scratch 0 (count + 1)
+  pub inside : next ≤ length s
+
+abbrev pub StringPast : List ℕ → ℕ → ℕ → ℕ → List ℕ → StringRead → Type 0
+StringPast s number count pool scratch (stringRead.Faulty x) = Unit {0}
+StringPast s number count pool scratch (stringRead.Last size next) = StringKept s number count pool scratch size next
+StringPast s number count pool scratch (stringRead.More size next) = StringKept s number count pool scratch size next
+
+pub record StringIs (s : List ℕ) (number count pool : ℕ) (reading : Reading (List Text)) (before after : List ℕ) (r : StringRead) : Type 0 where
+  pub is : stringReading s number count pool after r ≡ reading
+  pub kept : Kept count before after
+  pub past : StringPast s number count pool after r
+
+-- a list of strings
+abbrev pub stringsReading : List ℕ → ℕ → List ℕ → StringsRead → Reading (List Text)
+stringsReading s number scratch (stringsRead.Faulty x) = refused x
+stringsReading s number scratch (stringsRead.Strings count next) = got (itemsFrom (textAt s scratch) number 0 count) next
+
+abbrev pub StringsPast : List ℕ → ℕ → ℕ → List ℕ → StringsRead → Type 0
+StringsPast s number pool scratch (stringsRead.Faulty x) = Unit {0}
+StringsPast s number pool scratch (stringsRead.Strings count next) = Texts s number pool scratch count
+
+pub record StringsIs (s : List ℕ) (number pool from : ℕ) (scratch : List ℕ) (r : StringsRead) : Type 0 where
+  pub is : stringsReading s number scratch r ≡ strings s itemLimit number pool [] from
+  pub past : StringsPast s number pool scratch r
+
+-- where a list of integers or of dates is read
+pub record ListRoom (s : List ℕ) (number from : ℕ) : Type 0 where
+  pub inside : from ≤ length s
+  pub records : number ≤ recordLimit
+
+-- a leaf of one record, if it is a leaf
+abbrev pub OneRecord : LeafRead → Type 0
+OneRecord (leafRead.Faulty x) = Unit {0}
+OneRecord (leafRead.Booleans flag next) = Unit {0}
+OneRecord (leafRead.Integers count next) = ⊥
+OneRecord (leafRead.Strings count next) = ⊥
+OneRecord (leafRead.DatePattern flag next) = Unit {0}
+OneRecord (leafRead.Dates count next) = ⊥
+OneRecord (leafRead.TimePattern flag next) = Unit {0}
+
+-- Booleans, as what a record's number makes of them
+unfoldable pub secondBy : List ℕ → ℕ → ℕ → ℕ → Reading Leaf
+secondBy s flag from number = secondBoolean s number flag from
+
+unfoldable pub booleansBy : List ℕ → Token → ℕ → Reading Leaf
+booleansBy s t number = booleanList s number t
+
+-- an answer that is the reading for every record's number, and for one
+pub record EveryIs (s : List ℕ) (reading : ℕ → Reading Leaf) (r : LeafRead) : Type 0 where
+  pub is : (number : ℕ) (scratch : List ℕ) → leafReading s number scratch r ≡ reading number
+  pub one : OneRecord r
+
+pub record OneIs (s : List ℕ) (number : ℕ) (reading : Reading Leaf) (r : LeafRead) : Type 0 where
+  pub is : (scratch : List ℕ) → leafReading s number scratch r ≡ reading
+  pub one : OneRecord r
+
+-- a leaf, if there is room for its record
+abbrev pub roomed : ℕ → ℕ → LeafRead → LeafRead
+roomed number place l = cond (eqb number recordLimit) (leafRead.Faulty (refusal TooManyRecords place)) l
+
+-- Booleans or a pattern, whose first token is t
+unfoldable pub singleLeaf : List ℕ → ℕ → Token → Reading Leaf
+singleLeaf s number t =
+    cond (isBoolean t) (unless (eqb number recordLimit) TooManyRecords (t .start) (booleanList s number t))
+    (cond (within (Spelling.datePattern + 1) (Spelling.datePattern + 5) (t .sort))
+    (unless (eqb number recordLimit) TooManyRecords (t .start) (got (datePattern number (patternFlag Spelling.datePattern t)) (t .end)))
+    (cond (within (Spelling.timePattern + 1) (Spelling.timePattern + 4) (t .sort))
+    (unless (eqb number recordLimit) TooManyRecords (t .start) (got (timePattern number (patternFlag Spelling.timePattern t)) (t .end)))
+    (syntaxFault t)))
+
+-- a list of integers or of dates
+unfoldable pub rangesLeaf : List ℕ → ℕ → ℕ → Reading Leaf
+rangesLeaf s number from = andThen (ranges s itemLimit undecided number [] from) (λ l p. got (rangeLeaf l) p)
+
+pub record RangeLeafIs (s : List ℕ) (number from : ℕ) (scratch : List ℕ) (r : LeafRead) : Type 0 where
+  pub is : leafReading s number scratch r ≡ rangesLeaf s number from
+  pub past : (pool : ℕ) → LeafPast s number pool from scratch r
+
+-- a list of strings
+unfoldable pub stringLeaf : List ℕ → ℕ → ℕ → ℕ → Reading Leaf
+stringLeaf s number pool from = andThen (strings s itemLimit number pool [] from) (λ l p. got (Constraints.strings l) p)
