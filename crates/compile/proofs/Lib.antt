@@ -2,6 +2,8 @@
 pub mod Placed
 pub mod FlattenLaws
 pub mod WritingSteps
+pub mod LeafWriting
+pub mod HeadWriting
 pub mod CheckedCompiled
 pub mod Computes
 pub mod RefusalTable

@@ -25,7 +25,7 @@ use Rattle.table.specs.Answers.{recordOf}
 use Rattle.table.specs.declared.records.Entry.{Entry}
 use Rattle.table.proofs.RecordLaws.{length-encode}
 use Rattle.compile.specs.Flatten.{placeFor, make, stringRecords}
-use Rattle.compile.specs.Answers.{PartFits, PartPut, placeOf, endOf, nextItem, rangesTable, spot, Puts, ListRoom, TextFits, TextPut, TextsRoom, TextsPut}
+use Rattle.compile.specs.Answers.{PartFits, PartPut, placeOf, endOf, linkBelow, rangesTable, spot, Puts, ListRoom, TextFits, TextPut, TextsRoom, TextsPut}
 use Rattle.compile.specs.declared.spots.Spot.{Spot}
 use Rattle.compile.specs.declared.spots.TreeRead.{TreeRead}
 use Rattle.compile.specs.declared.spots.TreeRead.the-variants.{Read}
@@ -120,12 +120,12 @@ unfolding itemsFrom
 items-length f number i zero = refl
 items-length f number i (suc n) = ap suc (items-length f (number + 1) (i + 1) n)
 
-first-range : (scratch : List ℕ) (m i k end : ℕ) → end ≡ m + k → firstRange (itemsFrom (rangeAt scratch) m i k) ≡ nextItem m end
+first-range : (scratch : List ℕ) (m i k end : ℕ) → end ≡ m + k → firstRange (itemsFrom (rangeAt scratch) m i k) ≡ linkBelow m end
 unfolding itemsFrom
 first-range scratch m i zero end e = pick-none m end m (omega arith)
 first-range scratch m i (suc k) end e = pick-there m end m m (omega arith) refl
 
-first-text : (s scratch : List ℕ) (m i k end : ℕ) → end ≡ m + k → firstText (itemsFrom (textAt s scratch) m i k) ≡ nextItem m end
+first-text : (s scratch : List ℕ) (m i k end : ℕ) → end ≡ m + k → firstText (itemsFrom (textAt s scratch) m i k) ≡ linkBelow m end
 unfolding itemsFrom
 first-text s scratch m i zero end e = pick-none m end m (omega arith)
 first-text s scratch m i (suc k) end e = pick-there m end m m (omega arith) refl
@@ -139,8 +139,8 @@ ranges-length kind (x ∷ xs) = ap suc (ranges-length kind xs)
 pub range-row : (kind low high next a b : ℕ) → a ≡ endOf kind low → b ≡ endOf kind high → make kind 0 a b 0 0 next ≡ make kind 0 (endOf kind low) (endOf kind high) 0 0 next
 range-row kind low high next a b p q = λ i. make kind 0 (p i) (q i) 0 0 next
 
-pub range-put : (scratch rs after : List ℕ) (little : Bool) (kind i n end next : ℕ) (e : Entry) → next ≡ nextItem (n + 1) end → recordOf e ≡ make kind 0 (endOf kind (firstOf scratch i)) (endOf kind (secondOf scratch i)) 0 0 next
-    → after ≡ sets rs (recordSize * n) (encode little (recordOf e)) → after ≡ sets rs (recordSize * n) (encode little (make kind 0 (endOf kind (firstOf scratch i)) (endOf kind (secondOf scratch i)) 0 0 (nextItem (n + 1) end)))
+pub range-put : (scratch rs after : List ℕ) (little : Bool) (kind i n end next : ℕ) (e : Entry) → next ≡ linkBelow (n + 1) end → recordOf e ≡ make kind 0 (endOf kind (firstOf scratch i)) (endOf kind (secondOf scratch i)) 0 0 next
+    → after ≡ sets rs (recordSize * n) (encode little (recordOf e)) → after ≡ sets rs (recordSize * n) (encode little (make kind 0 (endOf kind (firstOf scratch i)) (endOf kind (secondOf scratch i)) 0 0 (linkBelow (n + 1) end)))
 range-put scratch rs after little kind i n end next e p q w = w ∙ ap (λ (x : Record). sets rs (recordSize * n) (encode little x)) (q ∙ ap (λ (x : ℕ). make kind 0 (endOf kind (firstOf scratch i)) (endOf kind (secondOf scratch i)) 0 0 x) p)
 
 -- the items before item i are written: with those that are left the records are what they are to be
@@ -160,7 +160,7 @@ ranges-start little p kind scratch count before h =
     record { room = h; ends = refl; most = omega arith; is = rw (e, f) }
 
 module _ {little : Bool} {p : Spot} {kind : ℕ} {scratch : List ℕ} {count end : ℕ} {before : List ℕ} {i : ℕ} {rs : List ℕ} (inv : InRanges little p kind scratch count end before i rs) where
-  pub ranges-go-on : (x : List ℕ) → i < count → x ≡ sets rs (recordSize * (p .next + i)) (encode little (make kind 0 (endOf kind (firstOf scratch i)) (endOf kind (secondOf scratch i)) 0 0 (nextItem (p .next + i + 1) end)))
+  pub ranges-go-on : (x : List ℕ) → i < count → x ≡ sets rs (recordSize * (p .next + i)) (encode little (make kind 0 (endOf kind (firstOf scratch i)) (endOf kind (secondOf scratch i)) 0 0 (linkBelow (p .next + i + 1) end)))
       → InRanges little p kind scratch count end before (i + 1) x
   unfolding rangesTable itemsFrom
   ranges-go-on x h e =
@@ -170,7 +170,7 @@ module _ {little : Bool} {p : Spot} {kind : ℕ} {scratch : List ℕ} {count end
       let j = inv .ends in
       let f = first-range scratch (p .next + i + 1) (i + 1) k end (omega arith) in
       let w = rw (a, f) at (inv .is) in
-      let row = make kind 0 (endOf kind (firstOf scratch i)) (endOf kind (secondOf scratch i)) 0 0 (nextItem (p .next + i + 1) end) in
+      let row = make kind 0 (endOf kind (firstOf scratch i)) (endOf kind (secondOf scratch i)) 0 0 (linkBelow (p .next + i + 1) end) in
       record { room = inv .room; ends = inv .ends; most = omega arith; is = rw (e, b) (front little row (rangesTable kind (itemsFrom (rangeAt scratch) (p .next + i + 1) (i + 1) k)) (p .next + i) rs refl ∙ w) }
 
   pub ranges-end : (place : ℕ) → count ≤ i → Puts little p place (rangesTable kind (itemsFrom (rangeAt scratch) (p .next) 0 count)) 0 before rs (Read (spot place end (p .pool)))
@@ -189,7 +189,7 @@ strings-length pool (x ∷ xs) = ap suc (strings-length (pool + length (x .text)
 
 -- a string's record and bytes
 pub string-put : (s scratch : List ℕ) (i n end at start stop : ℕ) (little : Bool) (rs bs rs' bs' : List ℕ) (place size next r : ℕ) (e : Entry) → TextFits s scratch i n at → start ≡ firstOf scratch i → stop ≡ secondOf scratch i
-    → place ≡ placeOf start stop at → size ≡ stop - start → next ≡ nextItem (n + 1) end → recordOf e ≡ make 5 0 place size 0 0 next → rs' ≡ sets rs (recordSize * n) (encode little (recordOf e)) → PartPut s start stop at bs bs' r
+    → place ≡ placeOf start stop at → size ≡ stop - start → next ≡ linkBelow (n + 1) end → recordOf e ≡ make 5 0 place size 0 0 next → rs' ≡ sets rs (recordSize * n) (encode little (recordOf e)) → PartPut s start stop at bs bs' r
     → TextPut (spanAt s scratch i) little n end at rs bs rs' bs' r
 string-put s scratch i n end at start stop little rs bs rs' bs' place size next r e fits a b pl si ne re w put =
     let f : PartFits s start stop at = rw (a, b) (fits .part) in
@@ -249,7 +249,7 @@ module _ {s : List ℕ} {little : Bool} {p : Spot} {scratch : List ℕ} {count e
       let b : p .next + (i + 1) ≡ p .next + i + 1 = omega arith in
       let j = inv .ends in
       let f = first-text s scratch (p .next + i + 1) (i + 1) k end (omega arith) in
-      let row = make 5 0 (placeFor w to) (length w) 0 0 (nextItem (p .next + i + 1) end) in
+      let row = make 5 0 (placeFor w to) (length w) 0 0 (linkBelow (p .next + i + 1) end) in
       record {
         room = inv .room;
         ends = inv .ends;

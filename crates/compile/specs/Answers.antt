@@ -7,19 +7,32 @@ use lib.Dec.{eqb, ltb}
 use lib.ListN.{length}
 use lib.Seq.{sets}
 use Rattle.lexis.specs.Runs.{part}
+use Rattle.lexis.specs.Spelling.{closeBrace}
+use Rattle.lexis.specs.Tokens.{tokenAt}
+use Rattle.lexis.specs.declared.Token.{Token}
+use Rattle.refusals.specs.Steps.{expect}
 use Rattle.values.specs.Integers.{twosComplement}
 use Rattle.refusals.specs.Limits.{textLimit, recordLimit, poolLimit, itemLimit}
-use Rattle.refusals.specs.Reading.{Reading, refused, got}
-use Rattle.meaning.specs.Constraints.{Range}
+use Rattle.refusals.specs.Reading.{Reading, refused, got, andThen}
+use Rattle.meaning.specs.Constraints.{Range, Value, leaf}
+use Rattle.items.specs.Leaves
 use Rattle.meaning.specs.Admission.{firstRange}
-use Rattle.items.specs.Spans.{firstOf, secondOf, Within, SpansIn}
+use Rattle.items.specs.Spans.{withItem, firstOf, secondOf, spanAt, earlier, Within, SpansIn}
 use Rattle.items.specs.Answers.{itemsFrom, textAt}
-use Rattle.meaning.specs.Counting.{textPool}
+use Rattle.items.specs.Parts.{Kept}
+use Rattle.constraint.specs.Objects.{count, Attribute, attributeFrom, objectFrom}
+use Rattle.meaning.specs.Counting.{textPool, valuePool}
 use Rattle.table.specs.Records.{Record, recordSize, encode, encodes}
-use Rattle.compile.specs.Flatten.{make, placeFor, stringRecords}
+use Rattle.compile.specs.Flatten.{make, placeFor, stringRecords, valueLink, valueTable}
+use Rattle.compile.specs.Answer.{CompileAnswer, done}
+use Rattle.compile.specs.Answer
 use Rattle.compile.specs.declared.spots.Spot.{Spot}
 use Rattle.compile.specs.declared.spots.TreeRead.{TreeRead}
 use Rattle.compile.specs.declared.spots.TreeRead.the-variants.{Refused, Read}
+use Rattle.compile.specs.declared.spots.AttributeRead.{AttributeRead}
+use Rattle.compile.specs.declared.spots.AttributeRead.the-variants as attributeRead
+use Rattle.compile.specs.declared.CompileResult.{CompileResult}
+use Rattle.compile.specs.declared.CompileResult.the-variants as result
 
 -- the scratch: bytes of the records, and of the pool
 abbrev pub recordRoom : ℕ
@@ -65,11 +78,11 @@ abbrev pub spot : ℕ → ℕ → ℕ → Spot
 spot place next pool = record { place = place; next = next; pool = pool }
 
 -- a tree's records and bytes, written from a spot on
-unfoldable pub written : {A : Type 0} → (ℕ → A → List Record) → (A → List ℕ) → Bool → Spot → List ℕ → List ℕ → Reading A → Wrote TreeRead
+unfoldable pub written : {A : Type 0} → (A → ℕ → List Record) → (A → List ℕ) → Bool → Spot → List ℕ → List ℕ → Reading A → Wrote TreeRead
 written table pool little p rs bs (refused x) = record { answer = Refused x; records = []; bytes = [] }
 written table pool little p rs bs (got a q) = record {
-  answer = Read (spot q (p .next + length (table (p .pool) a)) (p .pool + length (pool a)));
-  records = sets rs (recordSize * p .next) (encodes little (table (p .pool) a));
+  answer = Read (spot q (p .next + length (table a (p .pool))) (p .pool + length (pool a)));
+  records = sets rs (recordSize * p .next) (encodes little (table a (p .pool)));
   bytes = sets bs (p .pool) (pool a);
 }
 
@@ -80,9 +93,9 @@ pub record Room (s : List ℕ) (p : Spot) : Type 0 where
   pub records : p .next ≤ recordLimit
   pub bytes : p .pool ≤ p .place
 
--- the number of the next item's record, 0 behind the last
-abbrev pub nextItem : ℕ → ℕ → ℕ
-nextItem n end = cond (ltb n end) n 0
+-- a link to a record: its number, where that is below another, else 0
+abbrev pub linkBelow : ℕ → ℕ → ℕ
+linkBelow n end = cond (ltb n end) n 0
 
 -- records put from a spot on, with so many bytes in the pool: the answer is the spot behind them
 pub record Puts (little : Bool) (p : Spot) (place : ℕ) (table : List Record) (size : ℕ) (before after : List ℕ) (r : TreeRead) : Type 0 where
@@ -104,7 +117,7 @@ pub record TextFits (s scratch : List ℕ) (i n at : ℕ) : Type 0 where
 -- the record and the bytes of a string
 pub record TextPut (w : List ℕ) (little : Bool) (n end at : ℕ) (rs bs rs' bs' : List ℕ) (r : ℕ) : Type 0 where
   pub behind : r ≡ at + length w
-  pub records : rs' ≡ sets rs (recordSize * n) (encode little (make 5 0 (placeFor w at) (length w) 0 0 (nextItem (n + 1) end)))
+  pub records : rs' ≡ sets rs (recordSize * n) (encode little (make 5 0 (placeFor w at) (length w) 0 0 (linkBelow (n + 1) end)))
   pub bytes : bs' ≡ sets bs at w
 
 -- so many strings in the scratch, for whose records and bytes there is room
@@ -119,3 +132,120 @@ pub record TextsRoom (s : List ℕ) (p : Spot) (scratch : List ℕ) (count : ℕ
 pub record TextsPut (s : List ℕ) (little : Bool) (p : Spot) (scratch : List ℕ) (count place : ℕ) (rs bs rs' bs' : List ℕ) (r : TreeRead) : Type 0 where
   pub puts : Puts little p place (stringRecords (p .pool) (itemsFrom (textAt s scratch) (p .next) 0 count)) (length (textPool (itemsFrom (textAt s scratch) (p .next) 0 count))) rs rs' r
   pub bytes : bs' ≡ sets bs (p .pool) (textPool (itemsFrom (textAt s scratch) (p .next) 0 count))
+
+-- a leaf, as the value of an attribute
+abbrev pub leafValue : List ℕ → Spot → Reading Value
+leafValue s p = andThen (Leaves.leaf s (p .next) (p .pool) (p .place)) (λ l at. got (leaf l) at)
+
+-- what reading a tree answers and writes, and the names of the objects around it, so many, which stay as they were
+pub record TreeIs (top : ℕ) (names names' : List ℕ) (result : Wrote TreeRead) (rs bs : List ℕ) (r : TreeRead) : Type 0 where
+  pub is : wrote r rs bs ≡ result
+  pub kept : Kept top names names'
+
+-- where an object is read: each name on the stack has a record
+pub record Stacked (s : List ℕ) (p : Spot) (top : ℕ) : Type 0 where
+  pub room : Room s p
+  pub few : top ≤ p .next
+
+-- the number of an object's first attribute, 0 where any may follow
+abbrev pub firstLink : Bool → ℕ → ℕ
+firstLink any n = cond any 0 (n + 1)
+
+-- an object's record by its type and its code
+abbrev pub objectRow : List ℕ → List ℕ → ℕ → ℕ → Record
+objectRow t c pool first = make 1 0 (placeFor t pool) (length t) (placeFor c (pool + length t)) (length c) first
+
+-- its record and its names are written
+pub record ObjectPut (t c : List ℕ) (little : Bool) (p : Spot) (place : ℕ) (any : Bool) (rs bs rs' bs' : List ℕ) (r : Spot) : Type 0 where
+  pub spot : r ≡ spot place (p .next + 1) (p .pool + length t + length c)
+  pub records : rs' ≡ sets rs (recordSize * p .next) (encode little (objectRow t c (p .pool) (firstLink any (p .next))))
+  pub bytes : bs' ≡ sets bs (p .pool) (t ++ c)
+
+-- a name on the stack, and its bytes in the pool
+pub record NameRoom (s : List ℕ) (p : Spot) (start end top : ℕ) : Type 0 where
+  pub part : PartFits s start end (p .pool)
+  pub short : length s ≤ textLimit
+  pub records : p .next < recordLimit
+  pub few : top ≤ p .next
+
+pub record NameKept (w : List ℕ) (p : Spot) (place start end top : ℕ) (bs names bs' names' : List ℕ) (r : Spot) : Type 0 where
+  pub spot : r ≡ spot place (p .next + 1) (p .pool + length w)
+  pub bytes : bs' ≡ sets bs (p .pool) w
+  pub stack : names' ≡ withItem names top start end
+
+-- an attribute's record by its name, and by the links to its value and to the next attribute
+abbrev pub attributeRow : ℕ → List ℕ → ℕ → ℕ → ℕ → Record
+attributeRow flag w pool value next = make 2 flag (placeFor w pool) (length w) value next 0
+
+-- what reading an attribute answers, with the records and the pool; after a refusal nothing is said of them
+abbrev pub attributeWrote : AttributeRead → List ℕ → List ℕ → Wrote AttributeRead
+attributeWrote (attributeRead.Refused x) rs bs = record { answer = attributeRead.Refused x; records = []; bytes = [] }
+attributeWrote (attributeRead.Last q) rs bs = record { answer = attributeRead.Last q; records = rs; bytes = bs }
+attributeWrote (attributeRead.More q) rs bs = record { answer = attributeRead.More q; records = rs; bytes = bs }
+
+-- the spot behind an attribute, and behind the object's `}` where that follows
+abbrev pub behindAttribute : List ℕ → ℕ → ℕ → ℕ → AttributeRead
+behindAttribute s at next pool =
+    let t = tokenAt s at in
+    cond (eqb (t .sort) closeBrace) (attributeRead.Last (spot (t .end) next pool)) (attributeRead.More (spot at next pool))
+
+-- the link to the next attribute
+abbrev pub nextLink : List ℕ → ℕ → ℕ → ℕ
+nextLink s at next = cond (eqb (tokenAt s at .sort) closeBrace) 0 next
+
+-- what closing an attribute behind its value answers and writes
+unfoldable pub closedAttribute : List ℕ → Bool → Spot → ℕ → List ℕ → Spot → List ℕ → List ℕ → Reading Token → Wrote AttributeRead
+closedAttribute s little p flag w q rs bs (refused x) = record { answer = attributeRead.Refused x; records = []; bytes = [] }
+closedAttribute s little p flag w q rs bs (got t at) = record {
+  answer = behindAttribute s at (q .next) (q .pool);
+  records = sets rs (recordSize * p .next) (encode little (attributeRow flag w (p .pool) (linkBelow (p .next + 1) (q .next)) (nextLink s at (q .next))));
+  bytes = bs;
+}
+
+pub record CloseIs (s : List ℕ) (little : Bool) (p : Spot) (flag : ℕ) (w : List ℕ) (q : Spot) (rs rs' : List ℕ) (r : AttributeRead) : Type 0 where
+  pub is : (bs : List ℕ) → attributeWrote r rs' bs ≡ closedAttribute s little p flag w q rs bs (expect s closeBrace (q .place))
+
+-- where an attribute is closed: behind its value
+pub record CloseRoom (s : List ℕ) (p : Spot) (start end : ℕ) (q : Spot) : Type 0 where
+  pub part : PartFits s start end (p .pool)
+  pub room : Room s q
+  pub order : p .next < q .next
+
+-- what reading an attribute answers and writes
+unfoldable pub attributeWritten : List ℕ → Bool → Spot → List ℕ → List ℕ → Reading Attribute → Wrote AttributeRead
+attributeWritten s little p rs bs (refused x) = record { answer = attributeRead.Refused x; records = []; bytes = [] }
+attributeWritten s little p rs bs (got a at) =
+    let w = a .name in
+    let table = valueTable (a .value) (p .pool + length w) in
+    let next = p .next + 1 + length table in
+    record {
+      answer = behindAttribute s at next (p .pool + length w + length (valuePool (a .value)));
+      records = sets rs (recordSize * p .next) (encodes little (attributeRow (a .existence) w (p .pool) (valueLink (a .value)) (nextLink s at next) ∷ table));
+      bytes = sets bs (p .pool) (w ++ valuePool (a .value));
+    }
+
+-- a name on the stack is that of the attribute that was read
+pub record Pushed (s names : List ℕ) (top : ℕ) (w : List ℕ) : Type 0 where
+  pub is : spanAt s names top ≡ w
+  pub lies : Within s (firstOf names top) (secondOf names top)
+
+pub record AttributeIs (s : List ℕ) (little : Bool) (levels : ℕ) (p : Spot) (first top : ℕ) (names rs bs names' rs' bs' : List ℕ) (r : AttributeRead) : Type 0 where
+  pub is : attributeWrote r rs' bs' ≡ attributeWritten s little p rs bs (attributeFrom s (objectFrom s levels) (earlier s names first top) (count (p .next) (p .pool)) (p .place))
+  pub kept : Kept top names names'
+  pub pushed : (a : Attribute) (at : ℕ) → attributeFrom s (objectFrom s levels) (earlier s names first top) (count (p .next) (p .pool)) (p .place) ≡ got a at → Pushed s names' top (a .name)
+
+-- a text that goes on with an attribute: the names of its object are the spans from `first` on
+pub record AttributeRoom (s : List ℕ) (p : Spot) (first top : ℕ) (names : List ℕ) : Type 0 where
+  pub stacked : Stacked s p top
+  pub spans : SpansIn s names first top
+
+-- a text's table, as it is written: what compiling answers
+abbrev pub answerOf : CompileResult → CompileAnswer
+answerOf (result.Done length) = done length
+answerOf (result.Refused x) = Answer.refused x
+
+-- a part of the text whose place in the pool and length a record can hold
+pub record RowRoom (start end pool : ℕ) : Type 0 where
+  pub order : start ≤ end
+  pub short : end ≤ textLimit
+  pub room : pool + (end - start) ≤ poolLimit

@@ -8,10 +8,9 @@ use crate::spots::TreeRead;
 use items::leaves::LeafRead;
 use items::leaves::read_leaf;
 ghost use mathlib.Core.Path.{_≡_};
-ghost use Rattle.items.specs.Leaves.{leaf};
-ghost use Rattle.meaning.specs.Counting.{leafPool};
-ghost use Rattle.compile.specs.Flatten.{leafRecords};
-ghost use Rattle.compile.specs.Answers.{Room, wrote, written};
+ghost use Rattle.meaning.specs.Counting.{valuePool};
+ghost use Rattle.compile.specs.Flatten.{valueTable};
+ghost use Rattle.compile.specs.Answers.{Room, wrote, written, leafValue};
 
 // The kinds of Booleans, date patterns, dates and time patterns.
 const BOOLEAN_KIND: u8 = 3;
@@ -31,7 +30,7 @@ pub fn write_leaf(
     bytes: &mut [u8; 16384],
 ) -> TreeRead
     requires { ⌜ Room (now s) p ⌝ }
-    ensures { λ r. ⌜ wrote r (now (records .exit)) (now (bytes .exit)) ≡ written leafRecords leafPool little p (now (records .entry)) (now (bytes .entry)) (leaf (now (s .entry)) (p .next) (p .pool) (p .place)) ⌝ }
+    ensures { λ r. ⌜ wrote r (now (records .exit)) (now (bytes .exit)) ≡ written valueTable valuePool little p (now (records .entry)) (now (bytes .entry)) (leafValue (now (s .entry)) p) ⌝ }
 {
     let mut scratch: [u32; 32] = [0; 32];
     match read_leaf(s, p.next, p.pool, p.place, &mut scratch) {

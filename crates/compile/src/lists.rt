@@ -2,6 +2,7 @@
 use crate::pool::narrow;
 use crate::pool::place_of;
 use crate::pool::put_part;
+use crate::rows::link_below;
 use crate::rows::plain;
 use crate::rows::put_row;
 use crate::rows::range_entry;
@@ -18,7 +19,7 @@ ghost use Rattle.items.specs.Answers.{itemsFrom, rangeAt};
 ghost use Rattle.table.specs.Records.{recordSize, encode};
 ghost use Rattle.table.specs.Answers.{recordOf};
 ghost use Rattle.compile.specs.Flatten.{make};
-ghost use Rattle.compile.specs.Answers.{endOf, nextItem, rangesTable, Puts, ListRoom, TextsRoom, TextFits, TextPut, TextsPut};
+ghost use Rattle.compile.specs.Answers.{endOf, linkBelow, rangesTable, Puts, ListRoom, TextsRoom, TextFits, TextPut, TextsPut};
 
 // The kind of strings.
 const STRING_KIND: u8 = 5;
@@ -28,17 +29,6 @@ fn wide(x: u32) -> usize
     ensures { λ r. ⌜ r ≡ x ⌝ }
 {
     x as usize
-}
-
-// The number of the next item's record, 0 behind the last item.
-fn next_item(n: usize, end: usize) -> u32
-    requires { ⌜ n ≤ recordLimit ⌝ }
-    ensures { λ r. ⌜ r ≡ nextItem n end ⌝ }
-{
-    if n < end {
-        return narrow(n);
-    }
-    0
 }
 
 // The record of a string by its place and length in the pool, and the number of the next one's.
@@ -87,9 +77,9 @@ fn put_range(
     end: usize,
 )
     requires { ⌜ (i < itemLimit) × (n < recordLimit) ⌝ }
-    ensures { λ _. ⌜ now (records .exit) ≡ sets (now (records .entry)) (recordSize * n) (encode little (make kind 0 (endOf kind (firstOf (now (scratch .entry)) i)) (endOf kind (secondOf (now (scratch .entry)) i)) 0 0 (nextItem (n + 1) end))) ⌝ }
+    ensures { λ _. ⌜ now (records .exit) ≡ sets (now (records .entry)) (recordSize * n) (encode little (make kind 0 (endOf kind (firstOf (now (scratch .entry)) i)) (endOf kind (secondOf (now (scratch .entry)) i)) 0 0 (linkBelow (n + 1) end))) ⌝ }
 {
-    let next = next_item(n + 1, end);
+    let next = link_below(n + 1, end);
     let entry = range_entry(kind, scratch[2 * i], scratch[2 * i + 1], next);
     put_row(records, little, n, entry);
 }
@@ -139,7 +129,7 @@ fn put_string(
     let stop = wide(scratch[2 * i + 1]);
     let place = place_of(start, stop, at);
     let size = narrow(stop - start);
-    let entry = string_entry(place, size, next_item(n + 1, end));
+    let entry = string_entry(place, size, link_below(n + 1, end));
     put_row(records, little, n, entry);
     put_part(s, start, stop, bytes, at)
 }

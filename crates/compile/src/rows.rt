@@ -1,22 +1,30 @@
 // Records, put where their numbers stand.
 use crate::pool::narrow;
-use crate::pool::place_of;
 use table::records::Entry;
 use table::writing::put_record;
 use values::integers::twos_complement;
 ghost use mathlib.Core.Path.{_≡_};
-ghost use mathlib.Core.List.{[], _∷_};
-ghost use Prim.Native.Nat.{_+_, _*_, _-_, _≤_, _<_};
+ghost use Prim.Native.Nat.{_*_, _≤_, _<_};
 ghost use lib.Seq.{sets};
-ghost use Rattle.refusals.specs.Limits.{recordLimit, poolLimit};
-ghost use Rattle.items.specs.Spans.{Within};
+ghost use Rattle.refusals.specs.Limits.{recordLimit};
 ghost use Rattle.table.specs.Records.{recordSize, encode};
 ghost use Rattle.table.specs.Answers.{recordOf};
 ghost use Rattle.compile.specs.Flatten.{make};
-ghost use Rattle.compile.specs.Answers.{endOf, placeOf};
+ghost use Rattle.compile.specs.Answers.{endOf, linkBelow};
 
 // The kind of integers.
 pub const INTEGER_KIND: u8 = 4;
+
+// The number of a record as a link, where it is below another; else 0.
+pub fn link_below(n: usize, end: usize) -> u32
+    requires { ⌜ n ≤ recordLimit ⌝ }
+    ensures { λ r. ⌜ r ≡ linkBelow n end ⌝ }
+{
+    if n < end {
+        return narrow(n);
+    }
+    0
+}
 
 // Puts the record with a number.
 pub fn put_row(records: &mut [u8; 49152], little: bool, n: usize, entry: Entry)

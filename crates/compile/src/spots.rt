@@ -13,3 +13,10 @@ pub enum TreeRead {
     Refused(Refusal),
     Read(Spot),
 }
+
+// The spot behind an attribute, whether more follow or it is the last, where the spot is behind the object's `}`; or its refusal.
+pub enum AttributeRead {
+    Refused(Refusal),
+    Last(Spot),
+    More(Spot),
+}

@@ -5,11 +5,11 @@ use borrow.Author.Needs.{needs}
 use Rattle.compile.proofs.lists.put_range.Statement.{statement}
 use Rattle.compile.proofs.lists.put_range.Tie as tie
 
-add-next-item : tie.Need-add-next-item
-add-next-item c = search needs
+add-link-below : tie.Need-add-link-below
+add-link-below c = search needs
 
-next-item-requires : tie.Need-next-item-requires
-next-item-requires c κs = search needs
+link-below-requires : tie.Need-link-below-requires
+link-below-requires c κs = search needs
 
 mul-range-entry : tie.Need-mul-range-entry
 mul-range-entry c = search needs
@@ -45,8 +45,8 @@ pub put-range-spec : {M : Type 1} → statement M
 put-range-spec =
     tie.close
     (tie.spec
-    add-next-item
-    next-item-requires
+    add-link-below
+    link-below-requires
     mul-range-entry
     mul-range-entry-2
     element-copy-out-range-entry

@@ -41,11 +41,11 @@ sub-narrow c = search needs
 narrow-requires : tie.Need-narrow-requires
 narrow-requires c κs = search needs
 
-add-next-item : tie.Need-add-next-item
-add-next-item c = search needs
+add-link-below : tie.Need-add-link-below
+add-link-below c = search needs
 
-next-item-requires : tie.Need-next-item-requires
-next-item-requires c κs = search needs
+link-below-requires : tie.Need-link-below-requires
+link-below-requires c κs = search needs
 
 string-entry-requires : tie.Need-string-entry-requires
 string-entry-requires c κs = search needs
@@ -75,8 +75,8 @@ put-string-spec =
     place-of-requires
     sub-narrow
     narrow-requires
-    add-next-item
-    next-item-requires
+    add-link-below
+    link-below-requires
     string-entry-requires
     put-row-requires
     put-part-requires
