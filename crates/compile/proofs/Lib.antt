@@ -4,6 +4,9 @@ pub mod FlattenLaws
 pub mod WritingSteps
 pub mod LeafWriting
 pub mod HeadWriting
+pub mod TreeWriting
+pub mod ReadingLaws
+pub mod ObjectSteps
 pub mod CheckedCompiled
 pub mod Computes
 pub mod RefusalTable

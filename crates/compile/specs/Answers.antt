@@ -14,16 +14,16 @@ use Rattle.refusals.specs.Steps.{expect}
 use Rattle.values.specs.Integers.{twosComplement}
 use Rattle.refusals.specs.Limits.{textLimit, recordLimit, poolLimit, itemLimit}
 use Rattle.refusals.specs.Reading.{Reading, refused, got, andThen}
-use Rattle.meaning.specs.Constraints.{Range, Value, leaf}
+use Rattle.meaning.specs.Constraints.{Range, noMore, Value, leaf}
 use Rattle.items.specs.Leaves
 use Rattle.meaning.specs.Admission.{firstRange}
 use Rattle.items.specs.Spans.{withItem, firstOf, secondOf, spanAt, earlier, Within, SpansIn}
 use Rattle.items.specs.Answers.{itemsFrom, textAt}
 use Rattle.items.specs.Parts.{Kept}
 use Rattle.constraint.specs.Objects.{count, Attribute, attributeFrom, objectFrom}
-use Rattle.meaning.specs.Counting.{textPool, valuePool}
+use Rattle.meaning.specs.Counting.{textPool, attributePool, valuePool}
 use Rattle.table.specs.Records.{Record, recordSize, encode, encodes}
-use Rattle.compile.specs.Flatten.{make, placeFor, stringRecords, valueLink, valueTable}
+use Rattle.compile.specs.Flatten.{make, placeFor, stringRecords, valueLink, attributesTable, valueTable}
 use Rattle.compile.specs.Answer.{CompileAnswer, done}
 use Rattle.compile.specs.Answer
 use Rattle.compile.specs.declared.spots.Spot.{Spot}
@@ -150,6 +150,10 @@ pub record Stacked (s : List ℕ) (p : Spot) (top : ℕ) : Type 0 where
 -- the number of an object's first attribute, 0 where any may follow
 abbrev pub firstLink : Bool → ℕ → ℕ
 firstLink any n = cond any 0 (n + 1)
+
+-- the `}` of an object behind its `*`: nothing more is written
+pub record EndIs (s : List ℕ) (p : Spot) (from : ℕ) (r : TreeRead) : Type 0 where
+  pub is : (little : Bool) (rs bs : List ℕ) → wrote r rs bs ≡ written attributesTable attributePool little p rs bs (andThen (expect s closeBrace from) (λ u at. got noMore at))
 
 -- an object's record by its type and its code
 abbrev pub objectRow : List ℕ → List ℕ → ℕ → ℕ → Record

@@ -2,6 +2,7 @@
 mod heads;
 mod leaves;
 mod lists;
+mod objects;
 mod pool;
 mod rows;
 mod spots;

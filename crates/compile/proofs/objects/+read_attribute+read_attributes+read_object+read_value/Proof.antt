@@ -1,0 +1,645 @@
+use Prim.Native.Nat.{ℕ, _<_}
+use borrow.Fn.Kinds.{In}
+use borrow.Fn.PlainCycle.{Measures, is, falls, and}
+use Rattle.compile.proofs.objects.read_attribute.Reads as read-attribute
+use Rattle.compile.proofs.objects.read_attribute.Kinds as read-attribute-kinds
+use Rattle.compile.proofs.objects.+read_attribute+read_attributes+read_object+read_value.Lts-read_attribute as read-attribute-lts
+use Rattle.compile.proofs.objects.read_attributes.Reads as read-attributes
+use Rattle.compile.proofs.objects.read_attributes.Kinds as read-attributes-kinds
+use Rattle.compile.proofs.objects.+read_attribute+read_attributes+read_object+read_value.Lts-read_attributes as read-attributes-lts
+use Rattle.compile.proofs.objects.read_object.Reads as read-object
+use Rattle.compile.proofs.objects.read_object.Kinds as read-object-kinds
+use Rattle.compile.proofs.objects.+read_attribute+read_attributes+read_object+read_value.Lts-read_object as read-object-lts
+use Rattle.compile.proofs.objects.read_value.Reads as read-value
+use Rattle.compile.proofs.objects.read_value.Kinds as read-value-kinds
+use Rattle.compile.proofs.objects.+read_attribute+read_attributes+read_object+read_value.Lts-read_value as read-value-lts
+use Rattle.compile.proofs.heads.close_attribute.Reads as close-attribute-reads
+use Rattle.compile.proofs.heads.keep_name.Reads as keep-name-reads
+use Rattle.compile.proofs.heads.open_object.Reads as open-object-reads
+use Rattle.compile.proofs.leaves.write_leaf.Reads as write-leaf-reads
+use Rattle.compile.proofs.objects.close_object.Reads as close-object-reads
+use Rattle.constraint.proofs.heads.attribute_head.Reads as attribute-head-reads
+use Rattle.constraint.proofs.heads.object_head.Reads as object-head-reads
+use Rattle.lexis.proofs.tokens.token_at.Reads as token-at-reads
+use Rattle.compile.proofs.objects.+read_attribute+read_attributes+read_object+read_value.{
+  statement,
+}
+use Rattle.compile.proofs.objects.+read_attribute+read_attributes+read_object+read_value.Tie.{
+  close,
+}
+
+abbrev μ-read-attribute : Measures 4 read-attribute-kinds.ps ℕ
+μ-read-attribute κs a = ?
+
+abbrev μ-read-attributes : Measures 4 read-attributes-kinds.ps ℕ
+μ-read-attributes κs a = ?
+
+abbrev μ-read-object : Measures 4 read-object-kinds.ps ℕ
+μ-read-object κs a = ?
+
+abbrev μ-read-value : Measures 4 read-value-kinds.ps ℕ
+μ-read-value κs a = ?
+
+abbrev read-attribute-at : ℕ → In 4 read-attribute-kinds.ps
+read-attribute-at t =
+    and
+    4
+    read-attribute-kinds.ps
+    (is 4 read-attribute-kinds.ps μ-read-attribute t)
+    read-attribute.Pre
+
+abbrev read-attribute-below : ℕ → In 4 read-attribute-kinds.ps
+read-attribute-below t =
+    and
+    4
+    read-attribute-kinds.ps
+    (falls 4 read-attribute-kinds.ps _<_ μ-read-attribute t)
+    read-attribute.Pre
+
+abbrev read-attributes-at : ℕ → In 4 read-attributes-kinds.ps
+read-attributes-at t =
+    and
+    4
+    read-attributes-kinds.ps
+    (is 4 read-attributes-kinds.ps μ-read-attributes t)
+    read-attributes.Pre
+
+abbrev read-attributes-below : ℕ → In 4 read-attributes-kinds.ps
+read-attributes-below t =
+    and
+    4
+    read-attributes-kinds.ps
+    (falls 4 read-attributes-kinds.ps _<_ μ-read-attributes t)
+    read-attributes.Pre
+
+abbrev read-object-at : ℕ → In 4 read-object-kinds.ps
+read-object-at t =
+    and 4 read-object-kinds.ps (is 4 read-object-kinds.ps μ-read-object t) read-object.Pre
+
+abbrev read-object-below : ℕ → In 4 read-object-kinds.ps
+read-object-below t =
+    and 4 read-object-kinds.ps (falls 4 read-object-kinds.ps _<_ μ-read-object t) read-object.Pre
+
+abbrev read-value-at : ℕ → In 4 read-value-kinds.ps
+read-value-at t =
+    and 4 read-value-kinds.ps (is 4 read-value-kinds.ps μ-read-value t) read-value.Pre
+
+abbrev read-value-below : ℕ → In 4 read-value-kinds.ps
+read-value-below t =
+    and 4 read-value-kinds.ps (falls 4 read-value-kinds.ps _<_ μ-read-value t) read-value.Pre
+
+-- src/objects.rt:130:11
+read-attribute-attribute-head-requires : (t : ℕ) → read-attribute-lts.Need-attribute-head-requires (
+  attribute-head-reads.Asked,
+  attribute-head-reads.Learnt,
+  keep-name-reads.Asked,
+  keep-name-reads.Learnt,
+  read-value-below t,
+  read-value.Post,
+  close-attribute-reads.Asked,
+  close-attribute-reads.Learnt,
+) (read-attribute-at t) read-attribute.Post
+read-attribute-attribute-head-requires t c κs = ?
+
+-- src/objects.rt:131:31
+read-attribute-enum-known-fault : (t : ℕ) → read-attribute-lts.Need-enum-known-fault (
+  attribute-head-reads.Asked,
+  attribute-head-reads.Learnt,
+  keep-name-reads.Asked,
+  keep-name-reads.Learnt,
+  read-value-below t,
+  read-value.Post,
+  close-attribute-reads.Asked,
+  close-attribute-reads.Learnt,
+) (read-attribute-at t) read-attribute.Post
+read-attribute-enum-known-fault t c = ?
+
+-- src/objects.rt:132:13
+read-attribute-returns : (t : ℕ) → read-attribute-lts.Need-returns (
+  attribute-head-reads.Asked,
+  attribute-head-reads.Learnt,
+  keep-name-reads.Asked,
+  keep-name-reads.Learnt,
+  read-value-below t,
+  read-value.Post,
+  close-attribute-reads.Asked,
+  close-attribute-reads.Learnt,
+) (read-attribute-at t) read-attribute.Post
+read-attribute-returns t c = ?
+
+-- src/objects.rt:135:25
+read-attribute-enum-known-start : (t : ℕ) → read-attribute-lts.Need-enum-known-start (
+  attribute-head-reads.Asked,
+  attribute-head-reads.Learnt,
+  keep-name-reads.Asked,
+  keep-name-reads.Learnt,
+  read-value-below t,
+  read-value.Post,
+  close-attribute-reads.Asked,
+  close-attribute-reads.Learnt,
+) (read-attribute-at t) read-attribute.Post
+read-attribute-enum-known-start t c = ?
+
+-- src/objects.rt:140:17
+read-attribute-keep-name-requires : (t : ℕ) → read-attribute-lts.Need-keep-name-requires (
+  attribute-head-reads.Asked,
+  attribute-head-reads.Learnt,
+  keep-name-reads.Asked,
+  keep-name-reads.Learnt,
+  read-value-below t,
+  read-value.Post,
+  close-attribute-reads.Asked,
+  close-attribute-reads.Learnt,
+) (read-attribute-at t) read-attribute.Post
+read-attribute-keep-name-requires t c κs = ?
+
+-- src/objects.rt:141:56
+read-attribute-add-read-value : (t : ℕ) → read-attribute-lts.Need-add-read-value (
+  attribute-head-reads.Asked,
+  attribute-head-reads.Learnt,
+  keep-name-reads.Asked,
+  keep-name-reads.Learnt,
+  read-value-below t,
+  read-value.Post,
+  close-attribute-reads.Asked,
+  close-attribute-reads.Learnt,
+) (read-attribute-at t) read-attribute.Post
+read-attribute-add-read-value t c = ?
+
+-- src/objects.rt:141:19
+read-attribute-read-value-requires : (t : ℕ) → read-attribute-lts.Need-read-value-requires (
+  attribute-head-reads.Asked,
+  attribute-head-reads.Learnt,
+  keep-name-reads.Asked,
+  keep-name-reads.Learnt,
+  read-value-below t,
+  read-value.Post,
+  close-attribute-reads.Asked,
+  close-attribute-reads.Learnt,
+) (read-attribute-at t) read-attribute.Post
+read-attribute-read-value-requires t c κs = ?
+
+-- src/objects.rt:142:35
+read-attribute-enum-known-fault-2 : (t : ℕ) → read-attribute-lts.Need-enum-known-fault-2 (
+  attribute-head-reads.Asked,
+  attribute-head-reads.Learnt,
+  keep-name-reads.Asked,
+  keep-name-reads.Learnt,
+  read-value-below t,
+  read-value.Post,
+  close-attribute-reads.Asked,
+  close-attribute-reads.Learnt,
+) (read-attribute-at t) read-attribute.Post
+read-attribute-enum-known-fault-2 t c = ?
+
+-- src/objects.rt:143:21
+read-attribute-returns-2 : (t : ℕ) → read-attribute-lts.Need-returns-2 (
+  attribute-head-reads.Asked,
+  attribute-head-reads.Learnt,
+  keep-name-reads.Asked,
+  keep-name-reads.Learnt,
+  read-value-below t,
+  read-value.Post,
+  close-attribute-reads.Asked,
+  close-attribute-reads.Learnt,
+) (read-attribute-at t) read-attribute.Post
+read-attribute-returns-2 t c = ?
+
+-- src/objects.rt:145:32
+read-attribute-enum-known-q : (t : ℕ) → read-attribute-lts.Need-enum-known-q (
+  attribute-head-reads.Asked,
+  attribute-head-reads.Learnt,
+  keep-name-reads.Asked,
+  keep-name-reads.Learnt,
+  read-value-below t,
+  read-value.Post,
+  close-attribute-reads.Asked,
+  close-attribute-reads.Learnt,
+) (read-attribute-at t) read-attribute.Post
+read-attribute-enum-known-q t c = ?
+
+-- src/objects.rt:146:21
+read-attribute-close-attribute-requires :
+    (t : ℕ) → read-attribute-lts.Need-close-attribute-requires (
+      attribute-head-reads.Asked,
+      attribute-head-reads.Learnt,
+      keep-name-reads.Asked,
+      keep-name-reads.Learnt,
+      read-value-below t,
+      read-value.Post,
+      close-attribute-reads.Asked,
+      close-attribute-reads.Learnt,
+    ) (read-attribute-at t) read-attribute.Post
+read-attribute-close-attribute-requires t c κs = ?
+
+-- src/objects.rt:146:21
+read-attribute-returns-3 : (t : ℕ) → read-attribute-lts.Need-returns-3 (
+  attribute-head-reads.Asked,
+  attribute-head-reads.Learnt,
+  keep-name-reads.Asked,
+  keep-name-reads.Learnt,
+  read-value-below t,
+  read-value.Post,
+  close-attribute-reads.Asked,
+  close-attribute-reads.Learnt,
+) (read-attribute-at t) read-attribute.Post
+read-attribute-returns-3 t c = ?
+
+abbrev read-attributes-Inv-loop : read-attributes-lts.InvT-loop
+read-attributes-Inv-loop s little levels first records₀ bytes₀ names₀ q₀ top₀ records bytes names q top =
+    ?
+
+abbrev read-attributes-μ-loop : read-attributes-lts.MeasureT-loop
+read-attributes-μ-loop s little levels first records₀ bytes₀ names₀ q₀ top₀ records bytes names q top =
+    ?
+
+-- src/objects.rt:99:5
+read-attributes-loop-holds : (t : ℕ) → read-attributes-lts.Need-loop-holds (
+  read-attribute-below t,
+  read-attribute.Post,
+) (read-attributes-at t) read-attributes.Post read-attributes-Inv-loop read-attributes-μ-loop
+read-attributes-loop-holds t c = ?
+
+-- src/objects.rt:100:15
+read-attributes-read-attribute-requires :
+    (t : ℕ) → read-attributes-lts.Need-read-attribute-requires (
+      read-attribute-below t,
+      read-attribute.Post,
+    ) (read-attributes-at t) read-attributes.Post read-attributes-Inv-loop read-attributes-μ-loop
+read-attributes-read-attribute-requires t c κs = ?
+
+-- src/objects.rt:101:36
+read-attributes-enum-known-fault : (t : ℕ) → read-attributes-lts.Need-enum-known-fault (
+  read-attribute-below t,
+  read-attribute.Post,
+) (read-attributes-at t) read-attributes.Post read-attributes-Inv-loop read-attributes-μ-loop
+read-attributes-enum-known-fault t c = ?
+
+-- src/objects.rt:102:17
+read-attributes-returns : (t : ℕ) → read-attributes-lts.Need-returns (
+  read-attribute-below t,
+  read-attribute.Post,
+) (read-attributes-at t) read-attributes.Post read-attributes-Inv-loop read-attributes-μ-loop
+read-attributes-returns t c = ?
+
+-- src/objects.rt:104:33
+read-attributes-enum-known-behind : (t : ℕ) → read-attributes-lts.Need-enum-known-behind (
+  read-attribute-below t,
+  read-attribute.Post,
+) (read-attributes-at t) read-attributes.Post read-attributes-Inv-loop read-attributes-μ-loop
+read-attributes-enum-known-behind t c = ?
+
+-- src/objects.rt:105:17
+read-attributes-returns-2 : (t : ℕ) → read-attributes-lts.Need-returns-2 (
+  read-attribute-below t,
+  read-attribute.Post,
+) (read-attributes-at t) read-attributes.Post read-attributes-Inv-loop read-attributes-μ-loop
+read-attributes-returns-2 t c = ?
+
+-- src/objects.rt:107:33
+read-attributes-enum-known-behind-2 : (t : ℕ) → read-attributes-lts.Need-enum-known-behind-2 (
+  read-attribute-below t,
+  read-attribute.Post,
+) (read-attributes-at t) read-attributes.Post read-attributes-Inv-loop read-attributes-μ-loop
+read-attributes-enum-known-behind-2 t c = ?
+
+-- src/objects.rt:109:17
+read-attributes-add-top : (t : ℕ) → read-attributes-lts.Need-add-top (
+  read-attribute-below t,
+  read-attribute.Post,
+) (read-attributes-at t) read-attributes.Post read-attributes-Inv-loop read-attributes-μ-loop
+read-attributes-add-top t c = ?
+
+-- src/objects.rt:99:5
+read-attributes-loop-less : (t : ℕ) → read-attributes-lts.Need-loop-less (
+  read-attribute-below t,
+  read-attribute.Post,
+) (read-attributes-at t) read-attributes.Post read-attributes-Inv-loop read-attributes-μ-loop
+read-attributes-loop-less t c = ?
+
+-- src/objects.rt:99:5
+read-attributes-loop-again : (t : ℕ) → read-attributes-lts.Need-loop-again (
+  read-attribute-below t,
+  read-attribute.Post,
+) (read-attributes-at t) read-attributes.Post read-attributes-Inv-loop read-attributes-μ-loop
+read-attributes-loop-again t c = ?
+
+-- src/objects.rt:61:11
+read-object-object-head-requires : (t : ℕ) → read-object-lts.Need-object-head-requires (
+  object-head-reads.Asked,
+  object-head-reads.Learnt,
+  token-at-reads.Asked,
+  token-at-reads.Learnt,
+  open-object-reads.Asked,
+  open-object-reads.Learnt,
+  close-object-reads.Asked,
+  close-object-reads.Learnt,
+  read-attributes-below t,
+  read-attributes.Post,
+) (read-object-at t) read-object.Post
+read-object-object-head-requires t c κs = ?
+
+-- src/objects.rt:62:28
+read-object-enum-known-fault : (t : ℕ) → read-object-lts.Need-enum-known-fault (
+  object-head-reads.Asked,
+  object-head-reads.Learnt,
+  token-at-reads.Asked,
+  token-at-reads.Learnt,
+  open-object-reads.Asked,
+  open-object-reads.Learnt,
+  close-object-reads.Asked,
+  close-object-reads.Learnt,
+  read-attributes-below t,
+  read-attributes.Post,
+) (read-object-at t) read-object.Post
+read-object-enum-known-fault t c = ?
+
+-- src/objects.rt:63:13
+read-object-returns : (t : ℕ) → read-object-lts.Need-returns (
+  object-head-reads.Asked,
+  object-head-reads.Learnt,
+  token-at-reads.Asked,
+  token-at-reads.Learnt,
+  open-object-reads.Asked,
+  open-object-reads.Learnt,
+  close-object-reads.Asked,
+  close-object-reads.Learnt,
+  read-attributes-below t,
+  read-attributes.Post,
+) (read-object-at t) read-object.Post
+read-object-returns t c = ?
+
+-- src/objects.rt:66:25
+read-object-enum-known-a : (t : ℕ) → read-object-lts.Need-enum-known-a (
+  object-head-reads.Asked,
+  object-head-reads.Learnt,
+  token-at-reads.Asked,
+  token-at-reads.Learnt,
+  open-object-reads.Asked,
+  open-object-reads.Learnt,
+  close-object-reads.Asked,
+  close-object-reads.Learnt,
+  read-attributes-below t,
+  read-attributes.Post,
+) (read-object-at t) read-object.Post
+read-object-enum-known-a t c = ?
+
+-- src/objects.rt:72:17
+read-object-token-at-requires : (t : ℕ) → read-object-lts.Need-token-at-requires (
+  object-head-reads.Asked,
+  object-head-reads.Learnt,
+  token-at-reads.Asked,
+  token-at-reads.Learnt,
+  open-object-reads.Asked,
+  open-object-reads.Learnt,
+  close-object-reads.Asked,
+  close-object-reads.Learnt,
+  read-attributes-below t,
+  read-attributes.Post,
+) (read-object-at t) read-object.Post
+read-object-token-at-requires t c κs = ?
+
+-- src/objects.rt:74:17
+read-object-open-object-requires : (t : ℕ) → read-object-lts.Need-open-object-requires (
+  object-head-reads.Asked,
+  object-head-reads.Learnt,
+  token-at-reads.Asked,
+  token-at-reads.Learnt,
+  open-object-reads.Asked,
+  open-object-reads.Learnt,
+  close-object-reads.Asked,
+  close-object-reads.Learnt,
+  read-attributes-below t,
+  read-attributes.Post,
+) (read-object-at t) read-object.Post
+read-object-open-object-requires t c κs = ?
+
+-- src/objects.rt:76:17
+read-object-close-object-requires : (t : ℕ) → read-object-lts.Need-close-object-requires (
+  object-head-reads.Asked,
+  object-head-reads.Learnt,
+  token-at-reads.Asked,
+  token-at-reads.Learnt,
+  open-object-reads.Asked,
+  open-object-reads.Learnt,
+  close-object-reads.Asked,
+  close-object-reads.Learnt,
+  read-attributes-below t,
+  read-attributes.Post,
+) (read-object-at t) read-object.Post
+read-object-close-object-requires t c κs = ?
+
+-- src/objects.rt:76:17
+read-object-returns-2 : (t : ℕ) → read-object-lts.Need-returns-2 (
+  object-head-reads.Asked,
+  object-head-reads.Learnt,
+  token-at-reads.Asked,
+  token-at-reads.Learnt,
+  open-object-reads.Asked,
+  open-object-reads.Learnt,
+  close-object-reads.Asked,
+  close-object-reads.Learnt,
+  read-attributes-below t,
+  read-attributes.Post,
+) (read-object-at t) read-object.Post
+read-object-returns-2 t c = ?
+
+-- src/objects.rt:78:47
+read-object-sub-read-attributes : (t : ℕ) → read-object-lts.Need-sub-read-attributes (
+  object-head-reads.Asked,
+  object-head-reads.Learnt,
+  token-at-reads.Asked,
+  token-at-reads.Learnt,
+  open-object-reads.Asked,
+  open-object-reads.Learnt,
+  close-object-reads.Asked,
+  close-object-reads.Learnt,
+  read-attributes-below t,
+  read-attributes.Post,
+) (read-object-at t) read-object.Post
+read-object-sub-read-attributes t c = ?
+
+-- src/objects.rt:78:13
+read-object-read-attributes-requires : (t : ℕ) → read-object-lts.Need-read-attributes-requires (
+  object-head-reads.Asked,
+  object-head-reads.Learnt,
+  token-at-reads.Asked,
+  token-at-reads.Learnt,
+  open-object-reads.Asked,
+  open-object-reads.Learnt,
+  close-object-reads.Asked,
+  close-object-reads.Learnt,
+  read-attributes-below t,
+  read-attributes.Post,
+) (read-object-at t) read-object.Post
+read-object-read-attributes-requires t c κs = ?
+
+-- src/objects.rt:78:13
+read-object-returns-3 : (t : ℕ) → read-object-lts.Need-returns-3 (
+  object-head-reads.Asked,
+  object-head-reads.Learnt,
+  token-at-reads.Asked,
+  token-at-reads.Learnt,
+  open-object-reads.Asked,
+  open-object-reads.Learnt,
+  close-object-reads.Asked,
+  close-object-reads.Learnt,
+  read-attributes-below t,
+  read-attributes.Post,
+) (read-object-at t) read-object.Post
+read-object-returns-3 t c = ?
+
+-- src/objects.rt:167:9
+read-value-token-at-requires : (t : ℕ) → read-value-lts.Need-token-at-requires (
+  token-at-reads.Asked,
+  token-at-reads.Learnt,
+  read-object-below t,
+  read-object.Post,
+  write-leaf-reads.Asked,
+  write-leaf-reads.Learnt,
+) (read-value-at t) read-value.Post
+read-value-token-at-requires t c κs = ?
+
+-- src/objects.rt:169:9
+read-value-returns : (t : ℕ) → read-value-lts.Need-returns (
+  token-at-reads.Asked,
+  token-at-reads.Learnt,
+  read-object-below t,
+  read-object.Post,
+  write-leaf-reads.Asked,
+  write-leaf-reads.Learnt,
+) (read-value-at t) read-value.Post
+read-value-returns t c = ?
+
+-- src/objects.rt:176:9
+read-value-read-object-requires : (t : ℕ) → read-value-lts.Need-read-object-requires (
+  token-at-reads.Asked,
+  token-at-reads.Learnt,
+  read-object-below t,
+  read-object.Post,
+  write-leaf-reads.Asked,
+  write-leaf-reads.Learnt,
+) (read-value-at t) read-value.Post
+read-value-read-object-requires t c κs = ?
+
+-- src/objects.rt:176:9
+read-value-returns-2 : (t : ℕ) → read-value-lts.Need-returns-2 (
+  token-at-reads.Asked,
+  token-at-reads.Learnt,
+  read-object-below t,
+  read-object.Post,
+  write-leaf-reads.Asked,
+  write-leaf-reads.Learnt,
+) (read-value-at t) read-value.Post
+read-value-returns-2 t c = ?
+
+-- src/objects.rt:178:5
+read-value-write-leaf-requires : (t : ℕ) → read-value-lts.Need-write-leaf-requires (
+  token-at-reads.Asked,
+  token-at-reads.Learnt,
+  read-object-below t,
+  read-object.Post,
+  write-leaf-reads.Asked,
+  write-leaf-reads.Learnt,
+) (read-value-at t) read-value.Post
+read-value-write-leaf-requires t c κs = ?
+
+-- src/objects.rt:154:1
+read-value-returns-3 : (t : ℕ) → read-value-lts.Need-returns-3 (
+  token-at-reads.Asked,
+  token-at-reads.Learnt,
+  read-object-below t,
+  read-object.Post,
+  write-leaf-reads.Asked,
+  write-leaf-reads.Learnt,
+) (read-value-at t) read-value.Post
+read-value-returns-3 t c = ?
+
+pub +read-attribute+read-attributes+read-object+read-value-spec : {M : Type 1} → statement M
++read-attribute+read-attributes+read-object+read-value-spec =
+    close
+    μ-read-attribute
+    μ-read-attributes
+    μ-read-object
+    μ-read-value
+    (λ t. read-attribute-lts.spec (
+      attribute-head-reads.Asked,
+      attribute-head-reads.Learnt,
+      keep-name-reads.Asked,
+      keep-name-reads.Learnt,
+      read-value-below t,
+      read-value.Post,
+      close-attribute-reads.Asked,
+      close-attribute-reads.Learnt,
+    )
+    (read-attribute-at t)
+    read-attribute.Post
+    (read-attribute-attribute-head-requires t)
+    (read-attribute-enum-known-fault t)
+    (read-attribute-returns t)
+    (read-attribute-enum-known-start t)
+    (read-attribute-keep-name-requires t)
+    (read-attribute-add-read-value t)
+    (read-attribute-read-value-requires t)
+    (read-attribute-enum-known-fault-2 t)
+    (read-attribute-returns-2 t)
+    (read-attribute-enum-known-q t)
+    (read-attribute-close-attribute-requires t)
+    (read-attribute-returns-3 t))
+    (λ t. read-attributes-lts.spec
+    (read-attribute-below t, read-attribute.Post)
+    (read-attributes-at t)
+    read-attributes.Post
+    read-attributes-Inv-loop
+    read-attributes-μ-loop
+    (read-attributes-loop-holds t)
+    (read-attributes-read-attribute-requires t)
+    (read-attributes-enum-known-fault t)
+    (read-attributes-returns t)
+    (read-attributes-enum-known-behind t)
+    (read-attributes-returns-2 t)
+    (read-attributes-enum-known-behind-2 t)
+    (read-attributes-add-top t)
+    (read-attributes-loop-less t)
+    (read-attributes-loop-again t))
+    (λ t. read-object-lts.spec (
+      object-head-reads.Asked,
+      object-head-reads.Learnt,
+      token-at-reads.Asked,
+      token-at-reads.Learnt,
+      open-object-reads.Asked,
+      open-object-reads.Learnt,
+      close-object-reads.Asked,
+      close-object-reads.Learnt,
+      read-attributes-below t,
+      read-attributes.Post,
+    )
+    (read-object-at t)
+    read-object.Post
+    (read-object-object-head-requires t)
+    (read-object-enum-known-fault t)
+    (read-object-returns t)
+    (read-object-enum-known-a t)
+    (read-object-token-at-requires t)
+    (read-object-open-object-requires t)
+    (read-object-close-object-requires t)
+    (read-object-returns-2 t)
+    (read-object-sub-read-attributes t)
+    (read-object-read-attributes-requires t)
+    (read-object-returns-3 t))
+    λ t. read-value-lts.spec (
+      token-at-reads.Asked,
+      token-at-reads.Learnt,
+      read-object-below t,
+      read-object.Post,
+      write-leaf-reads.Asked,
+      write-leaf-reads.Learnt,
+    )
+    (read-value-at t)
+    read-value.Post
+    (read-value-token-at-requires t)
+    (read-value-returns t)
+    (read-value-read-object-requires t)
+    (read-value-returns-2 t)
+    (read-value-write-leaf-requires t)
+    (read-value-returns-3 t)
