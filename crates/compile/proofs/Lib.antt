@@ -7,6 +7,8 @@ pub mod HeadWriting
 pub mod TreeWriting
 pub mod ReadingLaws
 pub mod ObjectSteps
+pub mod AttributeSteps
+pub mod AttributesSteps
 pub mod CheckedCompiled
 pub mod Computes
 pub mod RefusalTable

@@ -1,4 +1,10 @@
-use Prim.Native.Nat.{ℕ, _<_}
+-- `compile::objects::read_object`, `read_attributes`, `read_attribute` and `read_value`, which call each other, meet their contracts: the levels left fall. Assumes nothing.
+use Prim.Native.Nat.{ℕ, _+_, _*_, _-_, _<_}
+use lib.ListN.{length}
+use borrow.Author.Needs.{needs}
+use Rattle.compile.proofs.ObjectSteps.{object-steps}
+use Rattle.compile.proofs.AttributeSteps.{attribute-steps}
+use Rattle.compile.proofs.AttributesSteps.{InAttributes, attributes-steps}
 use borrow.Fn.Kinds.{In}
 use borrow.Fn.PlainCycle.{Measures, is, falls, and}
 use Rattle.compile.proofs.objects.read_attribute.Reads as read-attribute
@@ -29,16 +35,16 @@ use Rattle.compile.proofs.objects.+read_attribute+read_attributes+read_
 }
 
 abbrev μ-read-attribute : Measures 4 read-attribute-kinds.ps ℕ
-μ-read-attribute κs a = ?
+μ-read-attribute κs a = 4 * a .1 .1 .0 + 2
 
 abbrev μ-read-attributes : Measures 4 read-attributes-kinds.ps ℕ
-μ-read-attributes κs a = ?
+μ-read-attributes κs a = 4 * a .1 .1 .0 + 3
 
 abbrev μ-read-object : Measures 4 read-object-kinds.ps ℕ
-μ-read-object κs a = ?
+μ-read-object κs a = 4 * a .1 .1 .0
 
 abbrev μ-read-value : Measures 4 read-value-kinds.ps ℕ
-μ-read-value κs a = ?
+μ-read-value κs a = 4 * a .1 .1 .0 + 1
 
 abbrev read-attribute-at : ℕ → In 4 read-attribute-kinds.ps
 read-attribute-at t =
@@ -88,7 +94,6 @@ abbrev read-value-below : ℕ → In 4 read-value-kinds.ps
 read-value-below t =
     and 4 read-value-kinds.ps (falls 4 read-value-kinds.ps _<_ μ-read-value t) read-value.Pre
 
--- src/objects.rt:130:11
 read-attribute-attribute-head-requires : (t : ℕ) → read-attribute-lts.Need-attribute-head-requires (
   attribute-head-reads.Asked,
   attribute-head-reads.Learnt,
@@ -99,9 +104,8 @@ read-attribute-attribute-head-requires : (t : ℕ) → read-attribute-lts.Need-a
   close-attribute-reads.Asked,
   close-attribute-reads.Learnt,
 ) (read-attribute-at t) read-attribute.Post
-read-attribute-attribute-head-requires t c κs = ?
+read-attribute-attribute-head-requires t c κs = search (object-steps, attribute-steps, attributes-steps, needs)
 
--- src/objects.rt:131:31
 read-attribute-enum-known-fault : (t : ℕ) → read-attribute-lts.Need-enum-known-fault (
   attribute-head-reads.Asked,
   attribute-head-reads.Learnt,
@@ -112,9 +116,8 @@ read-attribute-enum-known-fault : (t : ℕ) → read-attribute-lts.Need-enum-kno
   close-attribute-reads.Asked,
   close-attribute-reads.Learnt,
 ) (read-attribute-at t) read-attribute.Post
-read-attribute-enum-known-fault t c = ?
+read-attribute-enum-known-fault t c = search needs
 
--- src/objects.rt:132:13
 read-attribute-returns : (t : ℕ) → read-attribute-lts.Need-returns (
   attribute-head-reads.Asked,
   attribute-head-reads.Learnt,
@@ -125,9 +128,8 @@ read-attribute-returns : (t : ℕ) → read-attribute-lts.Need-returns (
   close-attribute-reads.Asked,
   close-attribute-reads.Learnt,
 ) (read-attribute-at t) read-attribute.Post
-read-attribute-returns t c = ?
+read-attribute-returns t c = search (object-steps, attribute-steps, attributes-steps, needs)
 
--- src/objects.rt:135:25
 read-attribute-enum-known-start : (t : ℕ) → read-attribute-lts.Need-enum-known-start (
   attribute-head-reads.Asked,
   attribute-head-reads.Learnt,
@@ -138,9 +140,8 @@ read-attribute-enum-known-start : (t : ℕ) → read-attribute-lts.Need-enum-kno
   close-attribute-reads.Asked,
   close-attribute-reads.Learnt,
 ) (read-attribute-at t) read-attribute.Post
-read-attribute-enum-known-start t c = ?
+read-attribute-enum-known-start t c = search needs
 
--- src/objects.rt:140:17
 read-attribute-keep-name-requires : (t : ℕ) → read-attribute-lts.Need-keep-name-requires (
   attribute-head-reads.Asked,
   attribute-head-reads.Learnt,
@@ -151,9 +152,8 @@ read-attribute-keep-name-requires : (t : ℕ) → read-attribute-lts.Need-keep-n
   close-attribute-reads.Asked,
   close-attribute-reads.Learnt,
 ) (read-attribute-at t) read-attribute.Post
-read-attribute-keep-name-requires t c κs = ?
+read-attribute-keep-name-requires t c κs = search (object-steps, attribute-steps, attributes-steps, needs)
 
--- src/objects.rt:141:56
 read-attribute-add-read-value : (t : ℕ) → read-attribute-lts.Need-add-read-value (
   attribute-head-reads.Asked,
   attribute-head-reads.Learnt,
@@ -164,9 +164,8 @@ read-attribute-add-read-value : (t : ℕ) → read-attribute-lts.Need-add-read-v
   close-attribute-reads.Asked,
   close-attribute-reads.Learnt,
 ) (read-attribute-at t) read-attribute.Post
-read-attribute-add-read-value t c = ?
+read-attribute-add-read-value t c = search (object-steps, attribute-steps, attributes-steps, needs)
 
--- src/objects.rt:141:19
 read-attribute-read-value-requires : (t : ℕ) → read-attribute-lts.Need-read-value-requires (
   attribute-head-reads.Asked,
   attribute-head-reads.Learnt,
@@ -177,9 +176,8 @@ read-attribute-read-value-requires : (t : ℕ) → read-attribute-lts.Need-read-
   close-attribute-reads.Asked,
   close-attribute-reads.Learnt,
 ) (read-attribute-at t) read-attribute.Post
-read-attribute-read-value-requires t c κs = ?
+read-attribute-read-value-requires t c κs = (search needs, search (object-steps, attribute-steps, attributes-steps, needs))
 
--- src/objects.rt:142:35
 read-attribute-enum-known-fault-2 : (t : ℕ) → read-attribute-lts.Need-enum-known-fault-2 (
   attribute-head-reads.Asked,
   attribute-head-reads.Learnt,
@@ -190,9 +188,8 @@ read-attribute-enum-known-fault-2 : (t : ℕ) → read-attribute-lts.Need-enum-k
   close-attribute-reads.Asked,
   close-attribute-reads.Learnt,
 ) (read-attribute-at t) read-attribute.Post
-read-attribute-enum-known-fault-2 t c = ?
+read-attribute-enum-known-fault-2 t c = search needs
 
--- src/objects.rt:143:21
 read-attribute-returns-2 : (t : ℕ) → read-attribute-lts.Need-returns-2 (
   attribute-head-reads.Asked,
   attribute-head-reads.Learnt,
@@ -203,9 +200,8 @@ read-attribute-returns-2 : (t : ℕ) → read-attribute-lts.Need-returns-2 (
   close-attribute-reads.Asked,
   close-attribute-reads.Learnt,
 ) (read-attribute-at t) read-attribute.Post
-read-attribute-returns-2 t c = ?
+read-attribute-returns-2 t c = search (object-steps, attribute-steps, attributes-steps, needs)
 
--- src/objects.rt:145:32
 read-attribute-enum-known-q : (t : ℕ) → read-attribute-lts.Need-enum-known-q (
   attribute-head-reads.Asked,
   attribute-head-reads.Learnt,
@@ -216,9 +212,8 @@ read-attribute-enum-known-q : (t : ℕ) → read-attribute-lts.Need-enum-known-q
   close-attribute-reads.Asked,
   close-attribute-reads.Learnt,
 ) (read-attribute-at t) read-attribute.Post
-read-attribute-enum-known-q t c = ?
+read-attribute-enum-known-q t c = search needs
 
--- src/objects.rt:146:21
 read-attribute-close-attribute-requires :
     (t : ℕ) → read-attribute-lts.Need-close-attribute-requires (
       attribute-head-reads.Asked,
@@ -230,9 +225,8 @@ read-attribute-close-attribute-requires :
       close-attribute-reads.Asked,
       close-attribute-reads.Learnt,
     ) (read-attribute-at t) read-attribute.Post
-read-attribute-close-attribute-requires t c κs = ?
+read-attribute-close-attribute-requires t c κs = search (object-steps, attribute-steps, attributes-steps, needs)
 
--- src/objects.rt:146:21
 read-attribute-returns-3 : (t : ℕ) → read-attribute-lts.Need-returns-3 (
   attribute-head-reads.Asked,
   attribute-head-reads.Learnt,
@@ -243,88 +237,75 @@ read-attribute-returns-3 : (t : ℕ) → read-attribute-lts.Need-returns-3 (
   close-attribute-reads.Asked,
   close-attribute-reads.Learnt,
 ) (read-attribute-at t) read-attribute.Post
-read-attribute-returns-3 t c = ?
+read-attribute-returns-3 t c = search (object-steps, attribute-steps, attributes-steps, needs)
 
 abbrev read-attributes-Inv-loop : read-attributes-lts.InvT-loop
-read-attributes-Inv-loop s little levels first records₀ bytes₀ names₀ q₀ top₀ records bytes names q top =
-    ?
+read-attributes-Inv-loop s little levels first records₀ bytes₀ names₀ q₀ top₀ records bytes names q top = InAttributes s little levels q₀ first records₀ bytes₀ names₀ q top records bytes names
 
 abbrev read-attributes-μ-loop : read-attributes-lts.MeasureT-loop
-read-attributes-μ-loop s little levels first records₀ bytes₀ names₀ q₀ top₀ records bytes names q top =
-    ?
+read-attributes-μ-loop s little levels first records₀ bytes₀ names₀ q₀ top₀ records bytes names q top = length s - q .place
 
--- src/objects.rt:99:5
 read-attributes-loop-holds : (t : ℕ) → read-attributes-lts.Need-loop-holds (
   read-attribute-below t,
   read-attribute.Post,
 ) (read-attributes-at t) read-attributes.Post read-attributes-Inv-loop read-attributes-μ-loop
-read-attributes-loop-holds t c = ?
+read-attributes-loop-holds t c = search (object-steps, attribute-steps, attributes-steps, needs)
 
--- src/objects.rt:100:15
 read-attributes-read-attribute-requires :
     (t : ℕ) → read-attributes-lts.Need-read-attribute-requires (
       read-attribute-below t,
       read-attribute.Post,
     ) (read-attributes-at t) read-attributes.Post read-attributes-Inv-loop read-attributes-μ-loop
-read-attributes-read-attribute-requires t c κs = ?
+read-attributes-read-attribute-requires t c κs = (search needs, search (object-steps, attribute-steps, attributes-steps, needs))
 
--- src/objects.rt:101:36
 read-attributes-enum-known-fault : (t : ℕ) → read-attributes-lts.Need-enum-known-fault (
   read-attribute-below t,
   read-attribute.Post,
 ) (read-attributes-at t) read-attributes.Post read-attributes-Inv-loop read-attributes-μ-loop
-read-attributes-enum-known-fault t c = ?
+read-attributes-enum-known-fault t c = search needs
 
--- src/objects.rt:102:17
 read-attributes-returns : (t : ℕ) → read-attributes-lts.Need-returns (
   read-attribute-below t,
   read-attribute.Post,
 ) (read-attributes-at t) read-attributes.Post read-attributes-Inv-loop read-attributes-μ-loop
-read-attributes-returns t c = ?
+read-attributes-returns t c = search (object-steps, attribute-steps, attributes-steps, needs)
 
--- src/objects.rt:104:33
 read-attributes-enum-known-behind : (t : ℕ) → read-attributes-lts.Need-enum-known-behind (
   read-attribute-below t,
   read-attribute.Post,
 ) (read-attributes-at t) read-attributes.Post read-attributes-Inv-loop read-attributes-μ-loop
-read-attributes-enum-known-behind t c = ?
+read-attributes-enum-known-behind t c = search needs
 
--- src/objects.rt:105:17
 read-attributes-returns-2 : (t : ℕ) → read-attributes-lts.Need-returns-2 (
   read-attribute-below t,
   read-attribute.Post,
 ) (read-attributes-at t) read-attributes.Post read-attributes-Inv-loop read-attributes-μ-loop
-read-attributes-returns-2 t c = ?
+read-attributes-returns-2 t c = search (object-steps, attribute-steps, attributes-steps, needs)
 
--- src/objects.rt:107:33
 read-attributes-enum-known-behind-2 : (t : ℕ) → read-attributes-lts.Need-enum-known-behind-2 (
   read-attribute-below t,
   read-attribute.Post,
 ) (read-attributes-at t) read-attributes.Post read-attributes-Inv-loop read-attributes-μ-loop
-read-attributes-enum-known-behind-2 t c = ?
+read-attributes-enum-known-behind-2 t c = search needs
 
--- src/objects.rt:109:17
 read-attributes-add-top : (t : ℕ) → read-attributes-lts.Need-add-top (
   read-attribute-below t,
   read-attribute.Post,
 ) (read-attributes-at t) read-attributes.Post read-attributes-Inv-loop read-attributes-μ-loop
-read-attributes-add-top t c = ?
+read-attributes-add-top t c = search (object-steps, attribute-steps, attributes-steps, needs)
 
--- src/objects.rt:99:5
 read-attributes-loop-less : (t : ℕ) → read-attributes-lts.Need-loop-less (
   read-attribute-below t,
   read-attribute.Post,
 ) (read-attributes-at t) read-attributes.Post read-attributes-Inv-loop read-attributes-μ-loop
-read-attributes-loop-less t c = ?
+read-attributes-loop-less t c = search (object-steps, attribute-steps, attributes-steps, needs)
 
--- src/objects.rt:99:5
 read-attributes-loop-again : (t : ℕ) → read-attributes-lts.Need-loop-again (
   read-attribute-below t,
   read-attribute.Post,
 ) (read-attributes-at t) read-attributes.Post read-attributes-Inv-loop read-attributes-μ-loop
-read-attributes-loop-again t c = ?
+read-attributes-loop-again t c = search (object-steps, attribute-steps, attributes-steps, needs)
 
--- src/objects.rt:61:11
 read-object-object-head-requires : (t : ℕ) → read-object-lts.Need-object-head-requires (
   object-head-reads.Asked,
   object-head-reads.Learnt,
@@ -337,9 +318,8 @@ read-object-object-head-requires : (t : ℕ) → read-object-lts.Need-object-hea
   read-attributes-below t,
   read-attributes.Post,
 ) (read-object-at t) read-object.Post
-read-object-object-head-requires t c κs = ?
+read-object-object-head-requires t c κs = search (object-steps, attribute-steps, attributes-steps, needs)
 
--- src/objects.rt:62:28
 read-object-enum-known-fault : (t : ℕ) → read-object-lts.Need-enum-known-fault (
   object-head-reads.Asked,
   object-head-reads.Learnt,
@@ -352,9 +332,8 @@ read-object-enum-known-fault : (t : ℕ) → read-object-lts.Need-enum-known-fau
   read-attributes-below t,
   read-attributes.Post,
 ) (read-object-at t) read-object.Post
-read-object-enum-known-fault t c = ?
+read-object-enum-known-fault t c = search needs
 
--- src/objects.rt:63:13
 read-object-returns : (t : ℕ) → read-object-lts.Need-returns (
   object-head-reads.Asked,
   object-head-reads.Learnt,
@@ -367,9 +346,8 @@ read-object-returns : (t : ℕ) → read-object-lts.Need-returns (
   read-attributes-below t,
   read-attributes.Post,
 ) (read-object-at t) read-object.Post
-read-object-returns t c = ?
+read-object-returns t c = search (object-steps, attribute-steps, attributes-steps, needs)
 
--- src/objects.rt:66:25
 read-object-enum-known-a : (t : ℕ) → read-object-lts.Need-enum-known-a (
   object-head-reads.Asked,
   object-head-reads.Learnt,
@@ -382,9 +360,8 @@ read-object-enum-known-a : (t : ℕ) → read-object-lts.Need-enum-known-a (
   read-attributes-below t,
   read-attributes.Post,
 ) (read-object-at t) read-object.Post
-read-object-enum-known-a t c = ?
+read-object-enum-known-a t c = search needs
 
--- src/objects.rt:72:17
 read-object-token-at-requires : (t : ℕ) → read-object-lts.Need-token-at-requires (
   object-head-reads.Asked,
   object-head-reads.Learnt,
@@ -397,9 +374,8 @@ read-object-token-at-requires : (t : ℕ) → read-object-lts.Need-token-at-requ
   read-attributes-below t,
   read-attributes.Post,
 ) (read-object-at t) read-object.Post
-read-object-token-at-requires t c κs = ?
+read-object-token-at-requires t c κs = search (object-steps, attribute-steps, attributes-steps, needs)
 
--- src/objects.rt:74:17
 read-object-open-object-requires : (t : ℕ) → read-object-lts.Need-open-object-requires (
   object-head-reads.Asked,
   object-head-reads.Learnt,
@@ -412,9 +388,8 @@ read-object-open-object-requires : (t : ℕ) → read-object-lts.Need-open-objec
   read-attributes-below t,
   read-attributes.Post,
 ) (read-object-at t) read-object.Post
-read-object-open-object-requires t c κs = ?
+read-object-open-object-requires t c κs = search (object-steps, attribute-steps, attributes-steps, needs)
 
--- src/objects.rt:76:17
 read-object-close-object-requires : (t : ℕ) → read-object-lts.Need-close-object-requires (
   object-head-reads.Asked,
   object-head-reads.Learnt,
@@ -427,9 +402,8 @@ read-object-close-object-requires : (t : ℕ) → read-object-lts.Need-close-obj
   read-attributes-below t,
   read-attributes.Post,
 ) (read-object-at t) read-object.Post
-read-object-close-object-requires t c κs = ?
+read-object-close-object-requires t c κs = search (object-steps, attribute-steps, attributes-steps, needs)
 
--- src/objects.rt:76:17
 read-object-returns-2 : (t : ℕ) → read-object-lts.Need-returns-2 (
   object-head-reads.Asked,
   object-head-reads.Learnt,
@@ -442,9 +416,8 @@ read-object-returns-2 : (t : ℕ) → read-object-lts.Need-returns-2 (
   read-attributes-below t,
   read-attributes.Post,
 ) (read-object-at t) read-object.Post
-read-object-returns-2 t c = ?
+read-object-returns-2 t c = search (object-steps, attribute-steps, attributes-steps, needs)
 
--- src/objects.rt:78:47
 read-object-sub-read-attributes : (t : ℕ) → read-object-lts.Need-sub-read-attributes (
   object-head-reads.Asked,
   object-head-reads.Learnt,
@@ -457,9 +430,8 @@ read-object-sub-read-attributes : (t : ℕ) → read-object-lts.Need-sub-read-at
   read-attributes-below t,
   read-attributes.Post,
 ) (read-object-at t) read-object.Post
-read-object-sub-read-attributes t c = ?
+read-object-sub-read-attributes t c = search (object-steps, attribute-steps, attributes-steps, needs)
 
--- src/objects.rt:78:13
 read-object-read-attributes-requires : (t : ℕ) → read-object-lts.Need-read-attributes-requires (
   object-head-reads.Asked,
   object-head-reads.Learnt,
@@ -472,9 +444,8 @@ read-object-read-attributes-requires : (t : ℕ) → read-object-lts.Need-read-a
   read-attributes-below t,
   read-attributes.Post,
 ) (read-object-at t) read-object.Post
-read-object-read-attributes-requires t c κs = ?
+read-object-read-attributes-requires t c κs = (search needs, search (object-steps, attribute-steps, attributes-steps, needs))
 
--- src/objects.rt:78:13
 read-object-returns-3 : (t : ℕ) → read-object-lts.Need-returns-3 (
   object-head-reads.Asked,
   object-head-reads.Learnt,
@@ -487,9 +458,8 @@ read-object-returns-3 : (t : ℕ) → read-object-lts.Need-returns-3 (
   read-attributes-below t,
   read-attributes.Post,
 ) (read-object-at t) read-object.Post
-read-object-returns-3 t c = ?
+read-object-returns-3 t c = search (object-steps, attribute-steps, attributes-steps, needs)
 
--- src/objects.rt:167:9
 read-value-token-at-requires : (t : ℕ) → read-value-lts.Need-token-at-requires (
   token-at-reads.Asked,
   token-at-reads.Learnt,
@@ -498,9 +468,8 @@ read-value-token-at-requires : (t : ℕ) → read-value-lts.Need-token-at-requir
   write-leaf-reads.Asked,
   write-leaf-reads.Learnt,
 ) (read-value-at t) read-value.Post
-read-value-token-at-requires t c κs = ?
+read-value-token-at-requires t c κs = search (object-steps, attribute-steps, attributes-steps, needs)
 
--- src/objects.rt:169:9
 read-value-returns : (t : ℕ) → read-value-lts.Need-returns (
   token-at-reads.Asked,
   token-at-reads.Learnt,
@@ -509,9 +478,8 @@ read-value-returns : (t : ℕ) → read-value-lts.Need-returns (
   write-leaf-reads.Asked,
   write-leaf-reads.Learnt,
 ) (read-value-at t) read-value.Post
-read-value-returns t c = ?
+read-value-returns t c = search (object-steps, attribute-steps, attributes-steps, needs)
 
--- src/objects.rt:176:9
 read-value-read-object-requires : (t : ℕ) → read-value-lts.Need-read-object-requires (
   token-at-reads.Asked,
   token-at-reads.Learnt,
@@ -520,9 +488,8 @@ read-value-read-object-requires : (t : ℕ) → read-value-lts.Need-read-object-
   write-leaf-reads.Asked,
   write-leaf-reads.Learnt,
 ) (read-value-at t) read-value.Post
-read-value-read-object-requires t c κs = ?
+read-value-read-object-requires t c κs = (search needs, search (object-steps, attribute-steps, attributes-steps, needs))
 
--- src/objects.rt:176:9
 read-value-returns-2 : (t : ℕ) → read-value-lts.Need-returns-2 (
   token-at-reads.Asked,
   token-at-reads.Learnt,
@@ -531,9 +498,8 @@ read-value-returns-2 : (t : ℕ) → read-value-lts.Need-returns-2 (
   write-leaf-reads.Asked,
   write-leaf-reads.Learnt,
 ) (read-value-at t) read-value.Post
-read-value-returns-2 t c = ?
+read-value-returns-2 t c = search (object-steps, attribute-steps, attributes-steps, needs)
 
--- src/objects.rt:178:5
 read-value-write-leaf-requires : (t : ℕ) → read-value-lts.Need-write-leaf-requires (
   token-at-reads.Asked,
   token-at-reads.Learnt,
@@ -542,9 +508,8 @@ read-value-write-leaf-requires : (t : ℕ) → read-value-lts.Need-write-leaf-re
   write-leaf-reads.Asked,
   write-leaf-reads.Learnt,
 ) (read-value-at t) read-value.Post
-read-value-write-leaf-requires t c κs = ?
+read-value-write-leaf-requires t c κs = search (object-steps, attribute-steps, attributes-steps, needs)
 
--- src/objects.rt:154:1
 read-value-returns-3 : (t : ℕ) → read-value-lts.Need-returns-3 (
   token-at-reads.Asked,
   token-at-reads.Learnt,
@@ -553,7 +518,7 @@ read-value-returns-3 : (t : ℕ) → read-value-lts.Need-returns-3 (
   write-leaf-reads.Asked,
   write-leaf-reads.Learnt,
 ) (read-value-at t) read-value.Post
-read-value-returns-3 t c = ?
+read-value-returns-3 t c = search (object-steps, attribute-steps, attributes-steps, needs)
 
 pub +read-attribute+read-attributes+read-object+read-value-spec : {M : Type 1} → statement M
 +read-attribute+read-attributes+read-object+read-value-spec =
