@@ -195,4 +195,7 @@ module _ {s : List ℕ} {p : Spot} {first top : ℕ} {names : List ℕ} (room : 
                 pushed = λ a at j. rw (name-of s (objectFrom s levels) (count (p .next) (p .pool)) (record { name = word; existence = flag }) next a at (sym head-read ∙ j)) (on-stack long);
               }
 
-pub ruleset attribute-steps = (attribute-faulty, name-room, value-stacked, value-refused, value-closing, value-closed)
+pub attribute-spans : {s : List ℕ} {p : Spot} {first top : ℕ} {names : List ℕ} → AttributeRoom s p first top names → length names ≡ 4_096 → SpansIn s names first top
+attribute-spans h l = record { room = let a = h .stacked .few in let b = h .stacked .room .records in omega arith; within = h .lies }
+
+pub ruleset attribute-steps = (attribute-spans, attribute-faulty, name-room, value-stacked, value-refused, value-closing, value-closed)

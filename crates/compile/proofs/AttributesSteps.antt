@@ -167,11 +167,11 @@ module _ {s : List ℕ} {first top : ℕ} {names names' : List ℕ} {w : List �
       let c = latest-kept (spanAt s names') (spanAt s names) first n (λ j l i. part s (first-kept top names names' k j (omega arith) i) (second-kept top names names' k j (omega arith) i)) in
       rw (a, b, h .is, c)
 
-  spans-more : SpansIn s names first top → 2 * (top + 1) ≤ length names' → SpansIn s names' first (top + 1)
-  spans-more v l = record { room = l; within = λ i a b. lies i (decLt i top) a b }
+  lies-more : ((i : ℕ) → first ≤ i → i < top → Within s (firstOf names i) (secondOf names i)) → (i : ℕ) → first ≤ i → i < top + 1 → Within s (firstOf names' i) (secondOf names' i)
+  lies-more v i a b = lies i (decLt i top) a b
     where
       lies : (i : ℕ) → Dec (i < top) → first ≤ i → i < top + 1 → Within s (firstOf names' i) (secondOf names' i)
-      lies i (yes m) a b = rw (first-kept top names names' k i m, second-kept top names names' k i m) (v .within i a m)
+      lies i (yes m) a b = rw (first-kept top names names' k i m, second-kept top names names' k i m) (v i a m)
       lies i (no m) a b = let z : i ≡ top = omega arith in rw z (h .lies)
 
 -- at an attribute, with so many names on the stack: with what is left the records and the pool are what they are to be
@@ -184,15 +184,13 @@ pub record InAttributes (s : List ℕ) (little : Bool) (levels : ℕ) (p : Spot)
   pub is : written attributesTable attributePool little q rs bs (attributes s (objectFrom s levels) fuel (earlier s names first top) (count (q .next) (q .pool)) (q .place))
       ≡ written attributesTable attributePool little p rs₀ bs₀ (attributes s (objectFrom s levels) (length s + 1) [] (count (p .next) (p .pool)) (p .place))
 
-pub attributes-start : (s : List ℕ) (little : Bool) (levels : ℕ) {p : Spot} {first : ℕ} (rs bs names : List ℕ) → length names ≡ 4_096 → Stacked s p first → InAttributes s little levels p first rs bs names p first rs bs names
+pub attributes-start : (s : List ℕ) (little : Bool) (levels : ℕ) {p : Spot} {first : ℕ} (rs bs names : List ℕ) → Stacked s p first → InAttributes s little levels p first rs bs names p first rs bs names
 unfolding latest
-attributes-start s little levels {first = first} rs bs names long h =
-    let r = h .room in
-    let f = h .few in
+attributes-start s little levels {first = first} rs bs names h =
     let e : first - first ≡ 0 = omega arith in
     record {
       fuel = length s + 1;
-      room = record { stacked = h; spans = record { room = let n = r .records in omega arith; within = λ i a b. absurd (omega arith) } };
+      room = record { stacked = h; lies = λ i a b. absurd (omega arith) };
       order = omega arith;
       enough = omega arith;
       kept = all-kept names first;
@@ -282,8 +280,8 @@ module _ {s : List ℕ} {little : Bool} {levels : ℕ} {p : Spot} {first : ℕ} 
         let t = k .most in
         record { inside = omega arith; short = v .short; records = omega arith; bytes = omega arith }
 
-    pub attributes-next : length names' ≡ 4_096 → InAttributes s little levels p first rs₀ bs₀ names₀ z (top + 1) rs' bs' names'
-    attributes-next long =
+    pub attributes-next : InAttributes s little levels p first rs₀ bs₀ names₀ z (top + 1) rs' bs' names'
+    attributes-next =
         let e = read false z g in
         let a = e .a in
         let k = read-in false z g in
@@ -291,7 +289,6 @@ module _ {s : List ℕ} {little : Bool} {levels : ℕ} {p : Spot} {first : ℕ} 
         let x : z .place ≡ e .at = ap (λ (y : Spot). y .place) (e .spot) in
         let n : z .next ≡ q .next + 1 + length (valueTable (a .value) (q .pool + length (a .name))) = ap (λ (y : Spot). y .next) (e .spot) in
         let few : top + 1 ≤ z .next = let f = inv .room .stacked .few in omega arith in
-        let most : z .next ≤ recordLimit = behind .records in
         let rest = Rest false z g in
         let lk : Linked (q .next + 1 + valueRecords (a .value)) rest = linked s (objectFrom s levels) (inv .fuel - 1) (a .name ∷ earlier s names first top) (past Here a) (e .at) in
         let next = q .next + 1 + length (valueTable (a .value) (q .pool + length (a .name))) in
@@ -302,7 +299,7 @@ module _ {s : List ℕ} {little : Bool} {levels : ℕ} {p : Spot} {first : ℕ} 
         = λ i. attributes s (objectFrom s levels) (inv .fuel - 1) (seen-next i) (count (q .next + 1 + l i) pool) (e .at) in
         record {
           fuel = inv .fuel - 1;
-          room = record { stacked = record { room = behind; few = few }; spans = spans-more (inv .order) (d .kept) (d .pushed _ _ (e .is)) (inv .room .spans) (omega arith) };
+          room = record { stacked = record { room = behind; few = few }; lies = lies-more (inv .order) (d .kept) (d .pushed _ _ (e .is)) (inv .room .lies) };
           order = let o = inv .order in omega arith;
           enough = let f = inv .enough in let c = k .least in omega arith;
           kept = still;

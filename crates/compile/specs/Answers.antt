@@ -241,7 +241,7 @@ pub record AttributeIs (s : List ℕ) (little : Bool) (levels : ℕ) (p : Spot) 
 -- a text that goes on with an attribute: the names of its object are the spans from `first` on
 pub record AttributeRoom (s : List ℕ) (p : Spot) (first top : ℕ) (names : List ℕ) : Type 0 where
   pub stacked : Stacked s p top
-  pub spans : SpansIn s names first top
+  pub lies : (i : ℕ) → first ≤ i → i < top → Within s (firstOf names i) (secondOf names i)
 
 -- a text's table, as it is written: what compiling answers
 abbrev pub answerOf : CompileResult → CompileAnswer

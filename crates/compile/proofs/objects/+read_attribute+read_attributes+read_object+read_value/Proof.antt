@@ -1,10 +1,11 @@
 -- `compile::objects::read_object`, `read_attributes`, `read_attribute` and `read_value`, which call each other, meet their contracts: the levels left fall. Assumes nothing.
 use Prim.Native.Nat.{ℕ, _+_, _*_, _-_, _<_}
+use native.Mathlib.Omega.{arith}
 use lib.ListN.{length}
 use borrow.Author.Needs.{needs}
-use Rattle.compile.proofs.ObjectSteps.{object-steps}
-use Rattle.compile.proofs.AttributeSteps.{attribute-steps}
-use Rattle.compile.proofs.AttributesSteps.{InAttributes, attributes-steps}
+use Rattle.compile.proofs.ObjectSteps.{object-level, object-more, object-attributes, object-steps}
+use Rattle.compile.proofs.AttributeSteps.{value-refused, value-closing, value-closed, attribute-steps}
+use Rattle.compile.proofs.AttributesSteps.{InAttributes, attributes-start, attributes-next, attributes-steps}
 use borrow.Fn.Kinds.{In}
 use borrow.Fn.PlainCycle.{Measures, is, falls, and}
 use Rattle.compile.proofs.objects.read_attribute.Reads as read-attribute
@@ -200,7 +201,14 @@ read-attribute-returns-2 : (t : ℕ) → read-attribute-lts.Need-returns-2 (
   close-attribute-reads.Asked,
   close-attribute-reads.Learnt,
 ) (read-attribute-at t) read-attribute.Post
-read-attribute-returns-2 t c = search (object-steps, attribute-steps, attributes-steps, needs)
+read-attribute-returns-2 t c =
+    let pre = c .before .before .before .before .before .before .before .before .before .before .before .before .before .before .before .before .before .pre .1 in
+    let e = c .before .before .before .before .before .before .before .before .before .before .before .before .before .attribute-head .ensures in
+    let g = c .before .before .before .before .before .before .before .before .before .before .before .start .given .1 in
+    let put = c .before .before .before .before .before .before .before .keep-name .ensures in
+    let d = c .before .before .before .read-value .ensures in
+    let k = c .before .fault2 .given .1 in
+    search value-refused
 
 read-attribute-enum-known-q : (t : ℕ) → read-attribute-lts.Need-enum-known-q (
   attribute-head-reads.Asked,
@@ -225,7 +233,14 @@ read-attribute-close-attribute-requires :
       close-attribute-reads.Asked,
       close-attribute-reads.Learnt,
     ) (read-attribute-at t) read-attribute.Post
-read-attribute-close-attribute-requires t c κs = search (object-steps, attribute-steps, attributes-steps, needs)
+read-attribute-close-attribute-requires t c κs =
+    let pre = c .before .before .before .before .before .before .before .before .before .before .before .before .before .before .before .before .before .before .pre .1 in
+    let e = c .before .before .before .before .before .before .before .before .before .before .before .before .before .before .attribute-head .ensures in
+    let g = c .before .before .before .before .before .before .before .before .before .before .before .before .start .given .1 in
+    let put = c .before .before .before .before .before .before .before .before .keep-name .ensures in
+    let d = c .before .before .before .before .read-value .ensures in
+    let k = c .before .before .q .given .1 in
+    value-closing pre e g put _ _ _ d k
 
 read-attribute-returns-3 : (t : ℕ) → read-attribute-lts.Need-returns-3 (
   attribute-head-reads.Asked,
@@ -237,7 +252,16 @@ read-attribute-returns-3 : (t : ℕ) → read-attribute-lts.Need-returns-3 (
   close-attribute-reads.Asked,
   close-attribute-reads.Learnt,
 ) (read-attribute-at t) read-attribute.Post
-read-attribute-returns-3 t c = search (object-steps, attribute-steps, attributes-steps, needs)
+read-attribute-returns-3 t c =
+    let pre = c .before .before .before .before .before .before .before .before .before .before .before .before .before .before .before .before .before .before .before .pre .1 in
+    let e = c .before .before .before .before .before .before .before .before .before .before .before .before .before .before .before .attribute-head .ensures in
+    let g = c .before .before .before .before .before .before .before .before .before .before .before .before .before .start .given .1 in
+    let put = c .before .before .before .before .before .before .before .before .before .keep-name .ensures in
+    let d = c .before .before .before .before .before .read-value .ensures in
+    let k = c .before .before .before .q .given .1 in
+    let z = c .close-attribute .ensures in
+    let l = c .before .before .before .before .before .before .before .before .before .before .before .before .before .before .before .before .attribute-head-arg2 .given in
+    value-closed pre e g put _ _ _ d k _ _ (l .0) z
 
 abbrev read-attributes-Inv-loop : read-attributes-lts.InvT-loop
 read-attributes-Inv-loop s little levels first records₀ bytes₀ names₀ q₀ top₀ records bytes names q top = InAttributes s little levels q₀ first records₀ bytes₀ names₀ q top records bytes names
@@ -249,7 +273,7 @@ read-attributes-loop-holds : (t : ℕ) → read-attributes-lts.Need-loop-holds (
   read-attribute-below t,
   read-attribute.Post,
 ) (read-attributes-at t) read-attributes.Post read-attributes-Inv-loop read-attributes-μ-loop
-read-attributes-loop-holds t c = search (object-steps, attribute-steps, attributes-steps, needs)
+read-attributes-loop-holds t c = attributes-start _ _ _ _ _ _ (c .before .pre .1)
 
 read-attributes-read-attribute-requires :
     (t : ℕ) → read-attributes-lts.Need-read-attribute-requires (
@@ -304,7 +328,11 @@ read-attributes-loop-again : (t : ℕ) → read-attributes-lts.Need-loop-again (
   read-attribute-below t,
   read-attribute.Post,
 ) (read-attributes-at t) read-attributes.Post read-attributes-Inv-loop read-attributes-μ-loop
-read-attributes-loop-again t c = search (object-steps, attribute-steps, attributes-steps, needs)
+read-attributes-loop-again t c =
+    let inv = c .before .before .before .before .before .before .before .loop .inv in
+    let d = c .before .before .before .read-attribute .ensures in
+    let g = c .known-told3 .given .1 in
+    search attributes-next
 
 read-object-object-head-requires : (t : ℕ) → read-object-lts.Need-object-head-requires (
   object-head-reads.Asked,
@@ -444,7 +472,14 @@ read-object-read-attributes-requires : (t : ℕ) → read-object-lts.Need-read-a
   read-attributes-below t,
   read-attributes.Post,
 ) (read-object-at t) read-object.Post
-read-object-read-attributes-requires t c κs = (search needs, search (object-steps, attribute-steps, attributes-steps, needs))
+read-object-read-attributes-requires t c κs =
+    let pre = c .before .before .before .before .before .before .before .before .before .before .before .before .before .before .pre .1 in
+    let e = c .before .before .before .before .before .before .before .before .before .before .before .before .object-head .ensures in
+    let g = c .before .before .before .before .before .before .before .before .before .before .a .given .1 in
+    let tok = c .before .before .before .before .before .before .before .before .token-at .ensures in
+    let put = c .before .before .before .before .open-object .ensures in
+    let l = object-level {top = _} pre e g in
+    (omega arith, search object-more)
 
 read-object-returns-3 : (t : ℕ) → read-object-lts.Need-returns-3 (
   object-head-reads.Asked,
@@ -458,7 +493,15 @@ read-object-returns-3 : (t : ℕ) → read-object-lts.Need-returns-3 (
   read-attributes-below t,
   read-attributes.Post,
 ) (read-object-at t) read-object.Post
-read-object-returns-3 t c = search (object-steps, attribute-steps, attributes-steps, needs)
+read-object-returns-3 t c =
+    let pre = c .before .before .before .before .before .before .before .before .before .before .before .before .before .before .before .pre .1 in
+    let e = c .before .before .before .before .before .before .before .before .before .before .before .before .before .object-head .ensures in
+    let g = c .before .before .before .before .before .before .before .before .before .before .before .a .given .1 in
+    let tok = c .before .before .before .before .before .before .before .before .before .token-at .ensures in
+    let put = c .before .before .before .before .before .open-object .ensures in
+    let left = c .before .before .before .before .if1 .left in
+    let d = c .read-attributes .ensures in
+    search object-attributes
 
 read-value-token-at-requires : (t : ℕ) → read-value-lts.Need-token-at-requires (
   token-at-reads.Asked,
