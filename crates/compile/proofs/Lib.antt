@@ -9,6 +9,7 @@ pub mod ReadingLaws
 pub mod ObjectSteps
 pub mod AttributeSteps
 pub mod AttributesSteps
+pub mod TableSteps
 pub mod CheckedCompiled
 pub mod Computes
 pub mod RefusalTable

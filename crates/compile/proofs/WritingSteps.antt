@@ -7,7 +7,7 @@ use native.Mathlib.Omega.{arith}
 use native.Mathlib.Nat.{add-zero}
 use native.Mathlib.Numerals.{add-one}
 use lib.Dec.{eqb, ltb}
-use lib.ListN.{length, getD, set, drop, take, length-append}
+use lib.ListN.{length, getD, set, drop, take, length-append, length-set}
 use lib.Seq.{sets, drop-cons}
 use borrow.Author.Tests.{eq-eqb, ne-eqb, lt-ltb, le-ltb, ltb-true, ltb-false}
 use Rattle.lexis.specs.Runs.{part}
@@ -25,7 +25,7 @@ use Rattle.table.specs.Answers.{recordOf}
 use Rattle.table.specs.declared.records.Entry.{Entry}
 use Rattle.table.proofs.RecordLaws.{length-encode}
 use Rattle.compile.specs.Flatten.{placeFor, make, stringRecords}
-use Rattle.compile.specs.Answers.{PartFits, PartPut, placeOf, endOf, linkBelow, rangesTable, spot, Puts, ListRoom, TextFits, TextPut, TextsRoom, TextsPut}
+use Rattle.compile.specs.Answers.{CopyFits, PartFits, PartPut, placeOf, endOf, linkBelow, rangesTable, spot, Puts, ListRoom, TextFits, TextPut, TextsRoom, TextsPut}
 use Rattle.compile.specs.declared.spots.Spot.{Spot}
 use Rattle.compile.specs.declared.spots.TreeRead.{TreeRead}
 use Rattle.compile.specs.declared.spots.TreeRead.the-variants.{Read}
@@ -55,16 +55,17 @@ part-cons s i end h k =
 part-none : (s : List ℕ) (i end : ℕ) → end ≤ i → part s i end ≡ []
 part-none s i end h = let e : end - i ≡ 0 = omega arith in rw e
 
--- the bytes before place i are in the pool: with those that are left it is what it is to be
+-- the bytes before place i are copied: with those that are left the output is what it is to be
 pub record InPart (s : List ℕ) (start end at : ℕ) (before : List ℕ) (i to : ℕ) (bytes : List ℕ) : Type 0 where
-  pub fits : PartFits s start end at
+  pub fits : CopyFits s start end before at
   pub low : start ≤ i
   pub high : i ≤ end
   pub here : to ≡ at + (i - start)
+  pub same : length bytes ≡ length before
   pub is : sets bytes to (part s i end) ≡ sets before at (part s start end)
 
-pub part-starts : {s : List ℕ} {start end at : ℕ} (before : List ℕ) → PartFits s start end at → InPart s start end at before start at before
-part-starts before h = let l = h .lies in record { fits = h; low = omega arith; high = omega arith; here = omega arith; is = refl }
+pub part-starts : {s : List ℕ} {start end at : ℕ} {before : List ℕ} → CopyFits s start end before at → InPart s start end at before start at before
+part-starts h = let l = h .lies in record { fits = h; low = omega arith; high = omega arith; here = omega arith; same = refl; is = refl }
 
 module _ {s : List ℕ} {start end at : ℕ} {before : List ℕ} {i to : ℕ} {bytes : List ℕ} (inv : InPart s start end at before i to bytes) where
   pub part-goes-on : i < end → InPart s start end at before (i + 1) (to + 1) (set bytes to (getD s i 0))
@@ -72,14 +73,7 @@ module _ {s : List ℕ} {start end at : ℕ} {before : List ℕ} {i to : ℕ} {b
       let l = inv .fits .lies in
       let a = inv .low in
       let b = inv .here in
-      record { fits = inv .fits; low = omega arith; high = omega arith; here = omega arith; is = rw (add-one to) (rw (part-cons s i end h (l .inside)) at (inv .is)) }
-
-  pub part-room : i < end → (to < poolLimit) × (i < length s)
-  part-room h =
-      let l = inv .fits .lies in
-      let r = inv .fits .room in
-      let b = inv .here in
-      (omega arith, omega arith)
+      record { fits = inv .fits; low = omega arith; high = omega arith; here = omega arith; same = length-set bytes to _ ∙ inv .same; is = rw (add-one to) (rw (part-cons s i end h (l .inside)) at (inv .is)) }
 
   pub part-ends : end ≤ i → PartPut s start end at before bytes to
   part-ends h =
@@ -88,6 +82,9 @@ module _ {s : List ℕ} {start end at : ℕ} {before : List ℕ} {i to : ℕ} {b
       let b = inv .here in
       let n = part-length s start end (l .inside) in
       record { behind = omega arith; bytes = rw (part-none s i end h) at (inv .is) }
+
+pub part-copied : {s : List ℕ} {start end at : ℕ} {bytes : List ℕ} → PartFits s start end at → length bytes ≡ 16_384 → CopyFits s start end bytes at
+part-copied h l = record { lies = h .lies; room = let r = h .room in omega arith }
 
 -- a part's place in the pool
 pub place-part : (s : List ℕ) (start end at : ℕ) → Within s start end → placeOf start end at ≡ placeFor (part s start end) at
@@ -272,4 +269,4 @@ module _ {s : List ℕ} {little : Bool} {p : Spot} {scratch : List ℕ} {count e
         bytes = rw a at (inv .bytes);
       }
 
-pub ruleset writing-steps = (pick-there, pick-none, end-integer, end-date, part-starts, part-goes-on, part-ends, single-put, range-row, range-put, string-part, string-put, ranges-start, ranges-go-on, ranges-end, texts-start, texts-fit, texts-go-on, texts-end)
+pub ruleset writing-steps = (pick-there, pick-none, end-integer, end-date, part-starts, part-goes-on, part-ends, part-copied, single-put, range-row, range-put, string-part, string-put, ranges-start, ranges-go-on, ranges-end, texts-start, texts-fit, texts-go-on, texts-end)

@@ -12,6 +12,8 @@ use Rattle.lexis.specs.Tokens.{tokenAt}
 use Rattle.lexis.specs.declared.Token.{Token}
 use Rattle.refusals.specs.Steps.{expect}
 use Rattle.values.specs.Integers.{twosComplement}
+use Rattle.refusals.specs.Refusals.{refusal}
+use Rattle.refusals.specs.declared.Cause.the-variants.{OutputTooShort}
 use Rattle.refusals.specs.Limits.{textLimit, recordLimit, poolLimit, itemLimit}
 use Rattle.refusals.specs.Reading.{Reading, refused, got, andThen}
 use Rattle.meaning.specs.Constraints.{Range, noMore, Value, leaf}
@@ -24,7 +26,7 @@ use Rattle.constraint.specs.Objects.{count, Attribute, attributeFrom, objectFro
 use Rattle.meaning.specs.Counting.{textPool, attributePool, valuePool}
 use Rattle.table.specs.Records.{Record, recordSize, encode, encodes}
 use Rattle.compile.specs.Flatten.{make, placeFor, stringRecords, valueLink, attributesTable, valueTable}
-use Rattle.compile.specs.Answer.{CompileAnswer, done}
+use Rattle.compile.specs.Answer.{CompileAnswer, Compiling, compiling, done}
 use Rattle.compile.specs.Answer
 use Rattle.compile.specs.declared.spots.Spot.{Spot}
 use Rattle.compile.specs.declared.spots.TreeRead.{TreeRead}
@@ -34,19 +36,17 @@ use Rattle.compile.specs.declared.spots.AttributeRead.the-variants as at
 use Rattle.compile.specs.declared.CompileResult.{CompileResult}
 use Rattle.compile.specs.declared.CompileResult.the-variants as result
 
--- the scratch: bytes of the records, and of the pool
-abbrev pub recordRoom : ℕ
-recordRoom = recordSize * recordLimit
-
-abbrev pub poolRoom : ℕ
-poolRoom = poolLimit
-
 -- a part of the text that the pool has room for, from a place on
 pub record PartFits (s : List ℕ) (start end at : ℕ) : Type 0 where
   pub lies : Within s start end
   pub room : at + (end - start) ≤ poolLimit
 
--- the bytes of a part of the text, in the pool, and the place behind them
+-- a part of some bytes that others have room for, from a place on
+pub record CopyFits (from : List ℕ) (start end : ℕ) (out : List ℕ) (at : ℕ) : Type 0 where
+  pub lies : Within from start end
+  pub room : at + (end - start) ≤ length out
+
+-- the bytes of a part, put at a place, and the place behind them
 pub record PartPut (s : List ℕ) (start end at : ℕ) (before after : List ℕ) (r : ℕ) : Type 0 where
   pub behind : r ≡ at + length (part s start end)
   pub bytes : after ≡ sets before at (part s start end)
@@ -253,3 +253,22 @@ pub record RowRoom (start end pool : ℕ) : Type 0 where
   pub order : start ≤ end
   pub short : end ≤ textLimit
   pub room : pool + (end - start) ≤ poolLimit
+
+-- a table's records and bytes, which are in the scratch, put into the output, if they fit there; `end` is the text's end
+unfoldable pub tableWritten : Bool → ℕ → Spot → List ℕ → List ℕ → List ℕ → Compiling
+tableWritten little end q rs bs out =
+    let size = recordSize * q .next + q .pool in
+    cond (ltb (length out) size) (compiling (Answer.refused (refusal OutputTooShort end)) out)
+    (compiling (done size)
+    (sets (sets out 0 (part (sets rs 0 (encode little (make 0 0 (q .next) (q .pool) 1 0 0))) 0 (recordSize * q .next))) (recordSize * q .next) (part bs 0 (q .pool))))
+
+-- where a text's tree was read
+pub record TableRoom (q : Spot) : Type 0 where
+  pub some : 1 ≤ q .next
+  pub records : q .next ≤ recordLimit
+  pub bytes : q .pool ≤ poolLimit
+
+-- a text whose tree was read up to its end
+abbrev pub finished : Bool → List ℕ → Spot → List ℕ → List ℕ → List ℕ → Reading Token → Compiling
+finished little text q rs bs out (refused x) = compiling (Answer.refused x) out
+finished little text q rs bs out (got t p) = tableWritten little (length text) q rs bs out

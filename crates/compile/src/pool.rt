@@ -1,22 +1,30 @@
-// Parts of the text in the pool.
+// Bytes copied, and parts of the text in the pool.
 ghost use mathlib.Core.Path.{_≡_};
-ghost use Prim.Native.Nat.{_+_, _-_, _^_, _≤_, _<_};
+ghost use Prim.Native.Nat.{_^_, _≤_, _<_};
 ghost use Rattle.refusals.specs.Limits.{poolLimit};
-ghost use Rattle.compile.specs.Answers.{PartFits, PartPut, placeOf};
+ghost use Rattle.compile.specs.Answers.{CopyFits, PartFits, PartPut, placeOf};
+
+// Copies a part of some bytes to a place of others; the place behind it there.
+pub fn copy(from: &[u8], start: usize, end: usize, out: &mut [u8], at: usize) -> usize
+    requires { ⌜ CopyFits (now from) start end (now out) at ⌝ }
+    ensures { λ r. ⌜ PartPut (now (from .entry)) start end at (now (out .entry)) (now (out .exit)) r ⌝ }
+{
+    let mut i = start;
+    let mut to = at;
+    while i < end {
+        out[to] = from[i];
+        i += 1;
+        to += 1;
+    }
+    to
+}
 
 // Copies a part of the text into the pool; the place behind it.
 pub fn put_part(s: &[u8], start: usize, end: usize, bytes: &mut [u8; 16384], at: usize) -> usize
     requires { ⌜ PartFits (now s) start end at ⌝ }
     ensures { λ r. ⌜ PartPut (now (s .entry)) start end at (now (bytes .entry)) (now (bytes .exit)) r ⌝ }
 {
-    let mut i = start;
-    let mut to = at;
-    while i < end {
-        bytes[to] = s[i];
-        i += 1;
-        to += 1;
-    }
-    to
+    copy(s, start, end, bytes, at)
 }
 
 // A number as a record holds it.
