@@ -42,7 +42,6 @@ use Rattle.compile.specs.declared.spots.AttributeRead.the-variants as at
 use Rattle.compile.proofs.FlattenLaws.{value-length}
 use Rattle.compile.proofs.TreeWriting.{five-value, rows-behind, row-below, IsTree, is-tree, is-refused, tree-room, value-link}
 use Rattle.compile.proofs.ReadingLaws.{behindName, attribute-by, HeadRead, attribute-head-holds, Linked, linked, turn}
-
 use Rattle.compile.proofs.AttributeSteps.{AttributeOf, kept-both}
 
 -- an attribute that was read, whether the object's `}` follows or not

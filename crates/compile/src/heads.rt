@@ -129,14 +129,7 @@ pub fn keep_name(
 }
 
 // An attribute's record, by its existence, the places of its name, and the links to its value and to the next attribute.
-fn attribute_entry(
-    flag: u8,
-    start: usize,
-    end: usize,
-    pool: usize,
-    value: u32,
-    next: u32,
-) -> Entry
+fn attribute_entry(flag: u8, start: usize, end: usize, pool: usize, value: u32, next: u32) -> Entry
     requires { ⌜ RowRoom start end pool ⌝ }
     ensures { λ r. ⌜ recordOf r ≡ make 2 flag (placeOf start end pool) (end - start) value next 0 ⌝ }
 {

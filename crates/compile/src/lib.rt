@@ -44,7 +44,16 @@ pub fn compile(text: &[u8], little: bool, out: &mut [u8]) -> CompileResult
         next: 1,
         pool: 0,
     };
-    match read_object(text, little, LEVEL_LIMIT, p, 0, &mut records, &mut bytes, &mut names) {
+    match read_object(
+        text,
+        little,
+        LEVEL_LIMIT,
+        p,
+        0,
+        &mut records,
+        &mut bytes,
+        &mut names,
+    ) {
         TreeRead::Refused(fault) => {
             return CompileResult::Refused(fault);
         }

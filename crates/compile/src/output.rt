@@ -58,7 +58,12 @@ fn write_table(
             place: end,
         });
     }
-    put_row(records, little, 0, header_entry(narrow(q.next), narrow(q.pool)));
+    put_row(
+        records,
+        little,
+        0,
+        header_entry(narrow(q.next), narrow(q.pool)),
+    );
     copy(records, 0, size, out, 0);
     copy(bytes, 0, q.pool, out, size);
     CompileResult::Done { length }
