@@ -1,2 +1,3 @@
 pub mod Flatten
 pub mod Answer
+pub mod Answers

@@ -197,7 +197,7 @@ pub record AttributeRead (s : List ℕ) (next from : ℕ) (a : Attribute) (p : �
   pub pool : Sub (a .name ++ valuePool (a .value)) (part s from p)
 
 module _ (s : List ℕ) (down : Count → ℕ → Reading Object) (below : (c : Count) (from : ℕ) → from ≤ length s → Holds (length s) (ObjectRead s (c .next) from) (down c from)) where
-  value-holds : (c : Count) (from : ℕ) → from ≤ length s → Holds (length s) (ValueRead s (c .next) from) (value s down c from)
+  pub value-holds : (c : Count) (from : ℕ) → from ≤ length s → Holds (length s) (ValueRead s (c .next) from) (value s down c from)
   unfolding valueNumbers valueRecords valuePool ProperValue
   value-holds c from h =
       let n = length s in
@@ -211,7 +211,7 @@ module _ (s : List ℕ) (down : Count → ℕ → Reading Object) (below : (c : 
       (λ f. then-holds n P (LeafRead s (c .next) from) (Leaves.leaf s (c .next) (c .pool) from) _ (leaf-holds s (c .next) (c .pool) from h)
       (λ l p q. got-holds n P (leaf l) p q)))
 
-  attribute-holds : (seen : List (List ℕ)) (c : Count) (from : ℕ) → from ≤ length s → Holds (length s) (AttributeRead s (c .next) from) (attributeFrom s down seen c from)
+  pub attribute-holds : (seen : List (List ℕ)) (c : Count) (from : ℕ) → from ≤ length s → Holds (length s) (AttributeRead s (c .next) from) (attributeFrom s down seen c from)
   unfolding attributeFrom
   attribute-holds seen c from h =
       let n = length s in

@@ -1,0 +1,51 @@
+-- `compile::compile` meets its contract. Assumes nothing.
+use Prim.Native.Nat.{ℕ}
+use lib.ListN.{length-replicate}
+use borrow.Author.Needs.{needs}
+use Rattle.compile.proofs.TableSteps.{compile-done, table-steps}
+use Prim.Native.Nat.{ℕ}
+use lib.ListN.{length-replicate}
+use borrow.Author.Needs.{needs}
+use Rattle.compile.proofs.compile.Statement.{statement}
+use Rattle.compile.proofs.compile.Tie as tie
+
+returns : tie.Need-returns
+returns c = search (table-steps, needs)
+
+read-object-requires : tie.Need-read-object-requires
+read-object-requires c κs = search needs
+
+enum-known-fault : tie.Need-enum-known-fault
+enum-known-fault c = search needs
+
+returns-2 : tie.Need-returns-2
+returns-2 c = search (table-steps, needs)
+
+enum-known-q : tie.Need-enum-known-q
+enum-known-q c = search needs
+
+finish-requires : tie.Need-finish-requires
+finish-requires c κs = search (table-steps, needs)
+
+same-length : tie.Need-same-length
+same-length c = search needs
+
+returns-3 : tie.Need-returns-3
+returns-3 c =
+    let short = c .before .before .before .before .before .before .before .before .before .before .before .before .before .if1 .left in
+    let d = c .before .before .before .before .before .before .before .before .before .read-object .ensures in
+    let g = c .before .before .before .before .before .before .before .q .given .1 in
+    compile-done _ short _ _ _ _ _ _ _ _ _ d _ g (c .before .before .finish .result) _ (length-replicate {A = ℕ} 49_152 0) (length-replicate {A = ℕ} 16_384 0) (c .before .before .finish .ensures)
+
+pub compile-spec : {M : Type 1} → statement M
+compile-spec =
+    tie.close
+    (tie.spec
+    returns
+    read-object-requires
+    enum-known-fault
+    returns-2
+    enum-known-q
+    finish-requires
+    same-length
+    returns-3)

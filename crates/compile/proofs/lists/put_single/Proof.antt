@@ -1,0 +1,21 @@
+-- `compile::lists::put_single` meets its contract. Assumes nothing.
+use borrow.Author.Needs.{needs}
+use Rattle.compile.proofs.WritingSteps.{writing-steps}
+use borrow.Author.Needs.{needs}
+use Rattle.compile.proofs.lists.put_single.Statement.{statement}
+use Rattle.compile.proofs.lists.put_single.Tie as tie
+
+plain-requires : tie.Need-plain-requires
+plain-requires c κs = search needs
+
+put-row-requires : tie.Need-put-row-requires
+put-row-requires c κs = search needs
+
+add-t10 : tie.Need-add-t10
+add-t10 c = search needs
+
+returns : tie.Need-returns
+returns c = search (writing-steps, needs)
+
+pub put-single-spec : {M : Type 1} → statement M
+put-single-spec = tie.close (tie.spec plain-requires put-row-requires add-t10 returns)
