@@ -22,7 +22,7 @@ use Rattle.refusals.specs.declared.steps.Expected.{Expected}
 use Rattle.refusals.specs.declared.steps.Expected.the-variants.{Fault, Taken}
 use Rattle.refusals.proofs.StepLaws.{expected-fault, expected-token, expected-past}
 use Rattle.items.specs.Spans.{Within, withItem}
-use Rattle.items.proofs.SpanSteps.{part-length}
+use Rattle.lexis.proofs.Parts.{part-length}
 use Rattle.constraint.specs.Answers.{TypedPast}
 use Rattle.table.specs.Records.{Record, recordSize, encode}
 use Rattle.table.specs.Answers.{recordOf}

@@ -31,7 +31,7 @@ use Rattle.items.specs.Leaves
 use Rattle.items.specs.Spans.{withItem, firstOf, secondOf, spanAt, latest, earlier, Within, SpansIn}
 use Rattle.items.specs.Parts.{Kept}
 use Rattle.items.proofs.ItemLaws.{item-first, item-second, item-kept, first-kept, second-kept, all-kept}
-use Rattle.items.proofs.SpanSteps.{part-length}
+use Rattle.lexis.proofs.Parts.{part-length}
 use Rattle.constraint.specs.Objects.{Count, count, value, Attribute, attributeFrom, past, goOn, attributes, body, objectFrom}
 use Rattle.constraint.specs.Answers.{Counted, Typed, objectHead, typedReading, TypedPast, ObjectHeadIs, Named, attributeHead, namedReading, NamedPast, AttributeHeadIs}
 use Rattle.constraint.specs.declared.heads.ObjectHead.{ObjectHead}

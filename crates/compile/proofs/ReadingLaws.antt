@@ -19,7 +19,7 @@ use Rattle.refusals.specs.declared.Refusal.{Refusal}
 use Rattle.refusals.proofs.Readings.{Holds, got-holds, then-holds}
 use Rattle.refusals.proofs.Tokens.{Passed}
 use Rattle.meaning.specs.Constraints.{Object, object, Attributes, noMore, attribute, Value}
-use Rattle.items.proofs.SpanSteps.{part-length}
+use Rattle.lexis.proofs.Parts.{part-length}
 use Rattle.constraint.specs.Existence.{opening, existenceFrom}
 use Rattle.constraint.specs.Objects.{Count, count, objectType, objectCode, attributeName, value, Attribute, attributeFrom, past, goOn, attributes, body, objectBy, objectFrom}
 use Rattle.constraint.specs.Answers.{Typed, objectHead, Named, attributeHead}

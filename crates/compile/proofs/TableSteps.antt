@@ -28,7 +28,7 @@ use Rattle.refusals.proofs.Readings.{Holds}
 use Rattle.meaning.specs.Constraints.{Object}
 use Rattle.meaning.specs.Counting.{objectPool, objectRecords}
 use Rattle.items.specs.Spans.{Within}
-use Rattle.items.proofs.SpanSteps.{part-length}
+use Rattle.lexis.proofs.Parts.{part-length}
 use Rattle.constraint.specs.Objects.{count, objectFrom}
 use Rattle.constraint.specs.Texts.{constraintOf}
 use Rattle.constraint.proofs.TreeReading.{ObjectRead, object-holds}

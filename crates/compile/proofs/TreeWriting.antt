@@ -17,7 +17,7 @@ use Rattle.meaning.specs.Constraints.{Range, Text, Leaf, booleans, integers, st
 use Rattle.meaning.specs.Counting.{valueRecords, valueNumbers, objectNumbers, objectRecords, upFrom}
 use Rattle.meaning.specs.Proper.{ProperLeaf, ProperValue}
 use Rattle.items.proofs.LeafReading.{TreeRead}
-use Rattle.items.proofs.SpanSteps.{part-length}
+use Rattle.lexis.proofs.Parts.{part-length}
 use Rattle.table.specs.Records.{Record, recordSize, fieldCount, encode, encodes}
 use Rattle.table.proofs.RecordLaws.{AllFive, length-encode, length-encodes}
 use Rattle.compile.specs.Flatten.{make, integerRecords, dateRecords, stringRecords, leafRecords, valueLink, objectTable, attributesTable, valueTable}

@@ -19,7 +19,7 @@ use Rattle.meaning.specs.Counting.{textPool}
 use Rattle.meaning.specs.Admission.{firstRange, firstText}
 use Rattle.items.specs.Spans.{firstOf, secondOf, spanAt, Within, SpansIn}
 use Rattle.items.specs.Answers.{itemsFrom, rangeAt, textAt}
-use Rattle.items.proofs.SpanSteps.{part-length}
+use Rattle.lexis.proofs.Parts.{part-length}
 use Rattle.table.specs.Records.{Record, recordSize, fieldCount, encode, encodes}
 use Rattle.table.specs.Answers.{recordOf}
 use Rattle.table.specs.declared.records.Entry.{Entry}

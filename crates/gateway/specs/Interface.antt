@@ -1,0 +1,90 @@
+-- What the functions of the C interface return and set: document 01's number, 0 where there is no refusal, and for each outcome the values that it names; an argument that is not named for an
+-- outcome is set to 0. Assumes nothing.
+use mathlib.Core.Path.{_≡_}
+use mathlib.Core.Option.{Option, none, some}
+use mathlib.Core.List.{List}
+use Prim.Native.Nat.{ℕ}
+use Rattle.refusals.specs.Refusals.{numberOf}
+use Rattle.refusals.specs.declared.Refusal.{Refusal}
+use Rattle.meaning.specs.Verdicts.{Verdict, valid, fails}
+use Rattle.table.specs.Names.{NameAnswer}
+use Rattle.table.specs.Names as names
+use Rattle.merge.specs.Answer.{MergeAnswer, Merging}
+use Rattle.merge.specs.Answer as merges
+use Rattle.compile.specs.Answer.{CompileAnswer, Compiling}
+use Rattle.compile.specs.Answer as compiles
+use Rattle.judge.specs.Answer.{JudgeAnswer}
+use Rattle.judge.specs.Answer as judges
+
+-- a number and a place
+pub record Placed : Type 0 where
+  pub number : ℕ
+  pub place : ℕ
+
+abbrev pub placed : ℕ → ℕ → Placed
+placed number place = record { number = number; place = place }
+
+abbrev pub refusalTold : Refusal → Placed
+refusalTold r = placed (numberOf (r .cause)) (r .place)
+
+-- compiling: on 0 the place is the table's length
+abbrev pub compileTold : CompileAnswer → Placed
+compileTold (compiles.refused r) = refusalTold r
+compileTold (compiles.done length) = placed 0 length
+
+-- what was told and the output are those of compiling
+pub record CompileIs (c : Compiling) (told : Placed) (bytes : List ℕ) : Type 0 where
+  pub is : told ≡ compileTold (c .answer)
+  pub out : bytes ≡ c .out
+
+-- the check: 0 and 0, or a refusal
+abbrev pub checkTold : Option Refusal → Placed
+checkTold none = placed 0 0
+checkTold (some r) = refusalTold r
+
+-- merging: on 0 the place is the table's length; the table named for 12 and 13 is 1 or 2
+pub record MergeSaid : Type 0 where
+  pub told : Placed
+  pub records : ℕ
+  pub pool : ℕ
+  pub which : ℕ
+
+abbrev pub mergeSaid : Placed → ℕ → ℕ → ℕ → MergeSaid
+mergeSaid told records pool which = record { told = told; records = records; pool = pool; which = which }
+
+abbrev pub mergeTold : MergeAnswer → MergeSaid
+mergeTold (merges.refused table r) = mergeSaid (refusalTold r) 0 0 table
+mergeTold (merges.done length shifts) = mergeSaid (placed 0 length) (shifts .records) (shifts .pool) 0
+
+-- what was told and the output are those of merging
+pub record MergeIs (m : Merging) (said : MergeSaid) (bytes : List ℕ) : Type 0 where
+  pub is : said ≡ mergeTold (m .answer)
+  pub out : bytes ≡ m .out
+
+-- judging: 0 is valid; the record is 0 with a refusal
+pub record JudgeTold : Type 0 where
+  pub told : Placed
+  pub constraint : ℕ
+
+abbrev pub judgeSaid : Placed → ℕ → JudgeTold
+judgeSaid told constraint = record { told = told; constraint = constraint }
+
+abbrev pub verdictTold : Verdict → JudgeTold
+verdictTold valid = judgeSaid (placed 0 0) 0
+verdictTold (fails reason number place) = judgeSaid (placed reason place) number
+
+abbrev pub judgeTold : JudgeAnswer → JudgeTold
+judgeTold (judges.refused r) = judgeSaid (refusalTold r) 0
+judgeTold (judges.judged v) = verdictTold v
+
+-- a name: the start and the length of the part; with a refusal the start is its place
+pub record NameTold : Type 0 where
+  pub told : Placed
+  pub length : ℕ
+
+abbrev pub nameSaid : Placed → ℕ → NameTold
+nameSaid told length = record { told = told; length = length }
+
+abbrev pub nameTold : NameAnswer → NameTold
+nameTold (names.refused r) = nameSaid (refusalTold r) 0
+nameTold (names.named p) = nameSaid (placed 0 (p .start)) (p .length)
