@@ -1,23 +1,22 @@
 -- Steps of the functions that write the records and the bytes of leaves. Assumes nothing.
 use mathlib.Core.Path.{_≡_, refl, sym, ap, _∙_}
 use mathlib.Core.Bool.{Bool, true, false, cond}
-use mathlib.Core.List.{List, [], _∷_, _++_, append-nil}
+use mathlib.Core.List.{List, [], _∷_, append-nil}
 use Prim.Native.Nat.{ℕ, zero, suc, _+_, _*_, _-_, _≤_, _<_}
 use native.Mathlib.Omega.{arith}
 use native.Mathlib.Nat.{add-zero}
 use native.Mathlib.Numerals.{add-one}
-use lib.Dec.{eqb, ltb}
-use lib.ListN.{length, getD, set, drop, take, length-append, length-set}
+use lib.Dec.{ltb}
+use lib.ListN.{length, getD, set, length-append, length-set}
 use lib.Seq.{sets, drop-cons}
 use borrow.Author.Tests.{eq-eqb, ne-eqb, lt-ltb, le-ltb, ltb-true, ltb-false}
 use Rattle.lexis.specs.Runs.{part}
 use Rattle.lexis.proofs.Stores.{sets-behind}
 use Rattle.values.specs.Integers.{twosComplement}
-use Rattle.refusals.specs.Limits.{textLimit, recordLimit, poolLimit, itemLimit}
 use Rattle.meaning.specs.Constraints.{Range, Text}
 use Rattle.meaning.specs.Counting.{textPool}
 use Rattle.meaning.specs.Admission.{firstRange, firstText}
-use Rattle.items.specs.Spans.{firstOf, secondOf, spanAt, Within, SpansIn}
+use Rattle.items.specs.Spans.{firstOf, secondOf, spanAt, Within}
 use Rattle.items.specs.Answers.{itemsFrom, rangeAt, textAt}
 use Rattle.items.proofs.SpanSteps.{part-length}
 use Rattle.table.specs.Records.{Record, recordSize, fieldCount, encode, encodes}
@@ -27,7 +26,6 @@ use Rattle.table.proofs.RecordLaws.{length-encode}
 use Rattle.compile.specs.Flatten.{placeFor, make, stringRecords}
 use Rattle.compile.specs.Answers.{CopyFits, PartFits, PartPut, placeOf, endOf, linkBelow, rangesTable, spot, Puts, ListRoom, TextFits, TextPut, TextsRoom, TextsPut}
 use Rattle.compile.specs.declared.spots.Spot.{Spot}
-use Rattle.compile.specs.declared.spots.TreeRead.{TreeRead}
 use Rattle.compile.specs.declared.spots.TreeRead.the-variants.{Read}
 
 -- a number where one place lies before another, and 0 elsewhere
