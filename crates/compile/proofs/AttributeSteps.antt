@@ -1,47 +1,40 @@
 -- Steps of the functions that read and write an attribute, and an object's attributes one after the other. Assumes nothing.
 use mathlib.Core.Path.{_≡_, refl, sym, ap, _∙_}
-use mathlib.Core.Bool.{Bool, true, false, cond}
-use mathlib.Core.List.{List, [], _∷_, _++_, append-assoc}
-use Prim.Native.Nat.{ℕ, zero, suc, _+_, _*_, _-_, _≤_, _<_}
+use mathlib.Core.Bool.{Bool}
+use mathlib.Core.List.{List}
+use Prim.Native.Nat.{ℕ, _+_, _*_, _-_, _≤_, _<_}
 use native.Mathlib.Omega.{arith}
-use native.Mathlib.Nat.{add-zero}
-use native.Mathlib.Decide.{decLt}
-use lib.Dec.{eqb}
-use lib.ListN.{length, getD, length-append}
+use lib.ListN.{length}
 use lib.Seq.{sets}
 use Rattle.lexis.specs.Runs.{part}
 use Rattle.lexis.specs.Spelling.{closeBrace}
-use Rattle.lexis.specs.Tokens.{tokenAt}
 use Rattle.lexis.specs.declared.Token.{Token}
 use Rattle.lexis.proofs.Stores.{sets-behind}
-use Rattle.lexis.proofs.Parts.{sub-length}
-use Rattle.refusals.specs.Limits.{textLimit, recordLimit, poolLimit}
 use Rattle.refusals.specs.Reading.{Reading, refused, got, andThen}
 use Rattle.refusals.specs.Steps.{expect}
 use Rattle.refusals.specs.declared.Refusal.{Refusal}
 use Rattle.refusals.proofs.Readings.{Holds}
-use Rattle.meaning.specs.Constraints.{Object, Attributes, noMore, attribute, Value}
-use Rattle.meaning.specs.Counting.{attributePool, valuePool, valueRecords}
-use Rattle.items.specs.Spans.{withItem, firstOf, secondOf, spanAt, latest, earlier, Within, SpansIn}
+use Rattle.meaning.specs.Constraints.{Object, Value}
+use Rattle.meaning.specs.Counting.{valuePool}
+use Rattle.items.specs.Spans.{firstOf, secondOf, earlier, SpansIn}
 use Rattle.items.specs.Parts.{Kept}
 use Rattle.items.proofs.ItemLaws.{item-first, item-second, item-kept, first-kept, second-kept, all-kept}
-use Rattle.lexis.proofs.Parts.{part-length}
-use Rattle.constraint.specs.Objects.{Count, count, value, Attribute, attributeFrom, past, goOn, attributes, objectFrom}
+use Rattle.constraint.specs.Objects.{Count, count, value, Attribute, attributeFrom, past, objectFrom}
 use Rattle.constraint.specs.Answers.{Named, attributeHead, namedReading, NamedPast, AttributeHeadIs}
 use Rattle.constraint.specs.declared.heads.AttributeHead.{AttributeHead}
 use Rattle.constraint.specs.declared.heads.AttributeHead.the-variants as attributeHeadRead
-use Rattle.constraint.proofs.TreeReading.{ValueRead, AttributeRead, value-holds, attribute-holds, object-holds}
-use Rattle.table.specs.Records.{Record, recordSize, encode, encodes}
-use Rattle.compile.specs.Flatten.{make, placeFor, attributesLink, valueLink, attributesTable, valueTable}
-use Rattle.compile.specs.Answers.{PartFits, spot, Wrote, wrote, written, linkBelow, Room, TreeIs, Stacked, NameRoom, NameKept, attributeRow, attributeWrote, nextLink, closedAttribute, CloseIs, CloseRoom, attributeWritten, Pushed, AttributeIs, AttributeRoom}
+use Rattle.constraint.proofs.TreeReading.{ValueRead, AttributeRead, value-holds, object-holds}
+use Rattle.table.specs.Records.{recordSize, encodes}
+use Rattle.compile.specs.Flatten.{valueLink, valueTable}
+use Rattle.compile.specs.Answers.{spot, written, linkBelow, Room, TreeIs, Stacked, NameRoom, NameKept, attributeRow, nextLink, closedAttribute, CloseIs, CloseRoom, attributeWritten, Pushed, AttributeIs, AttributeRoom}
 use Rattle.compile.specs.declared.spots.Spot.{Spot}
 use Rattle.compile.specs.declared.spots.TreeRead.{TreeRead}
 use Rattle.compile.specs.declared.spots.TreeRead.the-variants.{Refused, Read}
 use Rattle.compile.specs.declared.spots.AttributeRead as attributeReads
 use Rattle.compile.specs.declared.spots.AttributeRead.the-variants as attributeRead
 use Rattle.compile.proofs.FlattenLaws.{value-length}
-use Rattle.compile.proofs.TreeWriting.{five-value, rows-behind, row-below, IsTree, is-tree, is-refused, tree-room, value-link}
-use Rattle.compile.proofs.ReadingLaws.{behindName, attribute-by, HeadRead, attribute-head-holds, Linked, linked, turn}
+use Rattle.compile.proofs.TreeWriting.{row-below, IsTree, is-tree, is-refused, tree-room, value-link}
+use Rattle.compile.proofs.ReadingLaws.{behindName, attribute-by, HeadRead, attribute-head-holds}
 
 -- ---- an attribute
 

@@ -7,41 +7,35 @@ use native.Mathlib.Omega.{arith}
 use native.Mathlib.Nat.{add-zero}
 use native.Mathlib.Decide.{decLt}
 use lib.Dec.{eqb}
-use lib.ListN.{length, getD, length-append}
+use lib.ListN.{length, length-append}
 use lib.Seq.{sets}
 use Rattle.lexis.specs.Runs.{part}
 use Rattle.lexis.specs.Spelling.{closeBrace}
 use Rattle.lexis.specs.Tokens.{tokenAt}
-use Rattle.lexis.specs.declared.Token.{Token}
 use Rattle.lexis.proofs.Stores.{sets-behind}
 use Rattle.lexis.proofs.Parts.{sub-length}
-use Rattle.refusals.specs.Limits.{textLimit, recordLimit, poolLimit}
 use Rattle.refusals.specs.Reading.{Reading, refused, got, andThen}
-use Rattle.refusals.specs.Steps.{expect}
 use Rattle.refusals.specs.declared.Refusal.{Refusal}
 use Rattle.refusals.proofs.Readings.{Holds}
-use Rattle.meaning.specs.Constraints.{Object, Attributes, noMore, attribute, Value}
+use Rattle.meaning.specs.Constraints.{Attributes, noMore, attribute}
 use Rattle.meaning.specs.Counting.{attributePool, valuePool, valueRecords}
-use Rattle.items.specs.Spans.{withItem, firstOf, secondOf, spanAt, latest, earlier, Within, SpansIn}
+use Rattle.items.specs.Spans.{firstOf, secondOf, spanAt, latest, earlier, Within}
 use Rattle.items.specs.Parts.{Kept}
-use Rattle.items.proofs.ItemLaws.{item-first, item-second, item-kept, first-kept, second-kept, all-kept}
+use Rattle.items.proofs.ItemLaws.{first-kept, second-kept, all-kept}
 use Rattle.lexis.proofs.Parts.{part-length}
-use Rattle.constraint.specs.Objects.{Count, count, value, Attribute, attributeFrom, past, goOn, attributes, objectFrom}
-use Rattle.constraint.specs.Answers.{Named, attributeHead, namedReading, NamedPast, AttributeHeadIs}
-use Rattle.constraint.specs.declared.heads.AttributeHead.{AttributeHead}
+use Rattle.constraint.specs.Objects.{Count, count, value, Attribute, past, goOn, attributes, objectFrom}
 use Rattle.constraint.specs.declared.heads.AttributeHead.the-variants as attributeHeadRead
-use Rattle.constraint.proofs.TreeReading.{ValueRead, AttributeRead, value-holds, attribute-holds, object-holds}
-use Rattle.table.specs.Records.{Record, recordSize, encode, encodes}
-use Rattle.compile.specs.Flatten.{make, placeFor, attributesLink, valueLink, attributesTable, valueTable}
-use Rattle.compile.specs.Answers.{PartFits, spot, Wrote, wrote, written, linkBelow, Room, TreeIs, Stacked, NameRoom, NameKept, attributeRow, attributeWrote, nextLink, closedAttribute, CloseIs, CloseRoom, attributeWritten, Pushed, AttributeIs, AttributeRoom}
+use Rattle.constraint.proofs.TreeReading.{AttributeRead, attribute-holds, object-holds}
+use Rattle.table.specs.Records.{Record, recordSize, encodes}
+use Rattle.compile.specs.Flatten.{attributesLink, valueLink, attributesTable, valueTable}
+use Rattle.compile.specs.Answers.{spot, Wrote, wrote, written, Room, TreeIs, Stacked, attributeRow, attributeWrote, attributeWritten, Pushed, AttributeIs, AttributeRoom}
 use Rattle.compile.specs.declared.spots.Spot.{Spot}
-use Rattle.compile.specs.declared.spots.TreeRead.{TreeRead}
 use Rattle.compile.specs.declared.spots.TreeRead.the-variants.{Refused, Read}
 use Rattle.compile.specs.declared.spots.AttributeRead as attributeReads
 use Rattle.compile.specs.declared.spots.AttributeRead.the-variants as attributeRead
 use Rattle.compile.proofs.FlattenLaws.{value-length}
-use Rattle.compile.proofs.TreeWriting.{five-value, rows-behind, row-below, IsTree, is-tree, is-refused, tree-room, value-link}
-use Rattle.compile.proofs.ReadingLaws.{behindName, attribute-by, HeadRead, attribute-head-holds, Linked, linked, turn}
+use Rattle.compile.proofs.TreeWriting.{five-value, rows-behind}
+use Rattle.compile.proofs.ReadingLaws.{Linked, linked, turn}
 use Rattle.compile.proofs.AttributeSteps.{AttributeOf, kept-both}
 
 -- an attribute that was read, whether the object's `}` follows or not

@@ -39,7 +39,7 @@ ranges-length : (kind : ℕ) (write : ℕ → ℕ) (l : List Range) → length (
 ranges-length kind write [] = refl
 ranges-length kind write (x ∷ xs) = ap suc (ranges-length kind write xs)
 
-strings-length : (l : List Text) (p : ℕ) → length (stringRecords p l) ≡ length l
+pub strings-length : (l : List Text) (p : ℕ) → length (stringRecords p l) ≡ length l
 strings-length [] p = refl
 strings-length (x ∷ xs) p = ap suc (strings-length xs (p + length (x .text)))
 

@@ -1,10 +1,9 @@
 -- Steps of the functions that write what objects and attributes begin and end with. Assumes nothing.
 use mathlib.Core.Path.{_≡_, refl, sym, ap, _∙_}
-use mathlib.Core.Bool.{Bool, true, false, cond}
-use mathlib.Core.List.{List, [], _∷_, _++_}
+use mathlib.Core.Bool.{Bool, true, false}
+use mathlib.Core.List.{List}
 use Prim.Native.Nat.{ℕ, _+_, _*_, _-_, _≤_, _<_}
 use native.Mathlib.Omega.{arith}
-use lib.Dec.{eqb}
 use lib.ListN.{length}
 use lib.Seq.{sets}
 use borrow.Author.Tests.{eq-eqb, ne-eqb}
@@ -14,7 +13,7 @@ use Rattle.lexis.specs.Tokens.{tokenAt}
 use Rattle.lexis.specs.Postconditions.{TokenIs}
 use Rattle.lexis.specs.declared.Token.{Token}
 use Rattle.lexis.proofs.Stores.{sets-behind}
-use Rattle.refusals.specs.Limits.{textLimit, recordLimit, poolLimit}
+use Rattle.refusals.specs.Limits.{textLimit, recordLimit}
 use Rattle.refusals.specs.Steps.{expect}
 use Rattle.refusals.specs.Answers.{ExpectIs}
 use Rattle.refusals.specs.declared.Refusal.{Refusal}
@@ -28,9 +27,8 @@ use Rattle.table.specs.Records.{Record, recordSize, encode}
 use Rattle.table.specs.Answers.{recordOf}
 use Rattle.table.specs.declared.records.Entry.{Entry}
 use Rattle.compile.specs.Flatten.{placeFor, make}
-use Rattle.compile.specs.Answers.{PartFits, PartPut, placeOf, linkBelow, spot, Room, firstLink, objectRow, ObjectPut, NameRoom, NameKept, attributeRow, attributeWrote, closedAttribute, CloseIs, CloseRoom, RowRoom}
+use Rattle.compile.specs.Answers.{PartFits, PartPut, placeOf, linkBelow, spot, firstLink, objectRow, ObjectPut, NameRoom, NameKept, attributeRow, closedAttribute, CloseIs, CloseRoom, RowRoom}
 use Rattle.compile.specs.declared.spots.Spot.{Spot}
-use Rattle.compile.specs.declared.spots.AttributeRead.{AttributeRead}
 use Rattle.compile.specs.declared.spots.AttributeRead.the-variants.{Refused, Last, More}
 use Rattle.compile.proofs.WritingSteps.{place-part}
 

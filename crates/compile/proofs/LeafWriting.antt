@@ -1,27 +1,27 @@
 -- Steps of the function that reads and writes a leaf. Assumes nothing.
-use mathlib.Core.Path.{_≡_, refl, sym, ap, _∙_}
+use mathlib.Core.Path.{_≡_, refl}
 use mathlib.Core.Bool.{Bool}
 use mathlib.Core.List.{List, [], _∷_}
-use Prim.Native.Nat.{ℕ, _+_, _≤_, _<_}
+use Prim.Native.Nat.{ℕ, _<_}
 use native.Mathlib.Omega.{arith}
 use lib.ListN.{length}
 use lib.Seq.{sets}
-use Rattle.refusals.specs.Limits.{recordLimit, itemLimit}
-use Rattle.refusals.specs.Reading.{Reading, refused, got, andThen}
+use Rattle.refusals.specs.Limits.{recordLimit}
+use Rattle.refusals.specs.Reading.{got}
 use Rattle.refusals.specs.declared.Refusal.{Refusal}
-use Rattle.meaning.specs.Constraints.{Range, Leaf, booleans, integers, datePattern, dates, timePattern, Value}
+use Rattle.meaning.specs.Constraints.{Range, Leaf, booleans, integers, datePattern, dates, timePattern}
 use Rattle.meaning.specs.Constraints
-use Rattle.meaning.specs.Counting.{textPool, leafPool, valuePool}
+use Rattle.meaning.specs.Counting.{leafPool, valuePool}
 use Rattle.items.specs.Leaves.{leaf}
-use Rattle.items.specs.Answers.{itemsFrom, rangeAt, textAt, LeafRoom, leafReading, Single, Listed, Strings, LeafPast, LeafIs}
+use Rattle.items.specs.Answers.{itemsFrom, rangeAt, textAt, LeafRoom, leafReading, Strings, LeafPast, LeafIs}
 use Rattle.items.specs.declared.leaves.LeafRead.{LeafRead}
 use Rattle.items.specs.declared.leaves.LeafRead.the-variants as leafRead
 use Rattle.table.specs.Records.{Record}
-use Rattle.compile.specs.Flatten.{make, integerRecords, dateRecords, stringRecords, leafRecords, valueTable}
-use Rattle.compile.specs.Answers.{rangesTable, spot, wrote, written, Wrote, Room, Puts, ListRoom, TextsRoom, TextsPut, leafValue}
+use Rattle.compile.specs.Flatten.{make, integerRecords, dateRecords, leafRecords, valueTable}
+use Rattle.compile.specs.Answers.{rangesTable, wrote, written, Room, Puts, ListRoom, TextsRoom, TextsPut, leafValue}
 use Rattle.compile.specs.declared.spots.Spot.{Spot}
 use Rattle.compile.specs.declared.spots.TreeRead.{TreeRead}
-use Rattle.compile.specs.declared.spots.TreeRead.the-variants.{Refused, Read}
+use Rattle.compile.specs.declared.spots.TreeRead.the-variants.{Refused}
 
 -- integers and dates, by the kind of their records
 integers-table : (l : List Range) → rangesTable 4 l ≡ integerRecords l

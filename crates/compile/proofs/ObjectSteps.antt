@@ -1,13 +1,12 @@
 -- Steps of the functions that read and write objects and attributes: a law for each way out and for each turn. Assumes nothing.
 use mathlib.Core.Path.{_≡_, refl, sym, ap, _∙_}
-use mathlib.Core.Bool.{Bool, true, false, cond}
+use mathlib.Core.Bool.{Bool, true, false}
 use mathlib.Core.List.{List, [], _∷_, _++_, append-assoc}
-use Prim.Native.Nat.{ℕ, zero, suc, _+_, _*_, _-_, _≤_, _<_}
+use Prim.Native.Nat.{ℕ, suc, _+_, _*_, _-_, _≤_}
 use native.Mathlib.Omega.{arith}
 use native.Mathlib.Nat.{add-zero}
-use native.Mathlib.Decide.{decLt}
 use lib.Dec.{eqb}
-use lib.ListN.{length, length-append, length-set}
+use lib.ListN.{length, length-append}
 use lib.Seq.{sets}
 use borrow.Author.Tests.{eq-eqb, ne-eqb}
 use Rattle.lexis.specs.Runs.{part}
@@ -16,7 +15,6 @@ use Rattle.lexis.specs.Tokens.{tokenAt, typeName}
 use Rattle.lexis.specs.Postconditions.{TokenIs}
 use Rattle.lexis.specs.declared.Token.{Token}
 use Rattle.lexis.proofs.Stores.{sets-behind}
-use Rattle.refusals.specs.Limits.{textLimit, recordLimit, poolLimit}
 use Rattle.refusals.specs.Reading.{Reading, refused, got, andThen}
 use Rattle.refusals.specs.Steps.{expect}
 use Rattle.refusals.specs.Answers.{ExpectIs}
@@ -25,30 +23,23 @@ use Rattle.refusals.specs.declared.steps.Expected.{Expected}
 use Rattle.refusals.specs.declared.steps.Expected.the-variants.{Fault, Taken}
 use Rattle.refusals.proofs.StepLaws.{expected-fault, expected-token}
 use Rattle.refusals.proofs.Readings.{Holds}
-use Rattle.meaning.specs.Constraints.{Object, object, Attributes, noMore, attribute, Value, any, nested, leaf}
-use Rattle.meaning.specs.Counting.{objectPool, attributePool, valuePool, valueRecords}
+use Rattle.meaning.specs.Constraints.{Object, object, Attributes, noMore, Value, any, nested}
+use Rattle.meaning.specs.Counting.{objectPool, attributePool, valuePool}
 use Rattle.items.specs.Leaves
-use Rattle.items.specs.Spans.{withItem, firstOf, secondOf, spanAt, latest, earlier, Within, SpansIn}
-use Rattle.items.specs.Parts.{Kept}
-use Rattle.items.proofs.ItemLaws.{item-first, item-second, item-kept, first-kept, second-kept, all-kept}
-use Rattle.lexis.proofs.Parts.{part-length}
-use Rattle.constraint.specs.Objects.{Count, count, value, Attribute, attributeFrom, past, goOn, attributes, body, objectFrom}
-use Rattle.constraint.specs.Answers.{Counted, Typed, objectHead, typedReading, TypedPast, ObjectHeadIs, Named, attributeHead, namedReading, NamedPast, AttributeHeadIs}
+use Rattle.items.proofs.ItemLaws.{all-kept}
+use Rattle.constraint.specs.Objects.{count, value, past, attributes, objectFrom}
+use Rattle.constraint.specs.Answers.{Counted, objectHead, typedReading, TypedPast, ObjectHeadIs}
 use Rattle.constraint.specs.declared.heads.ObjectHead.{ObjectHead}
 use Rattle.constraint.specs.declared.heads.ObjectHead.the-variants as objectHeadRead
-use Rattle.constraint.specs.declared.heads.AttributeHead.{AttributeHead}
 use Rattle.constraint.specs.declared.heads.AttributeHead.the-variants as attributeHeadRead
-use Rattle.constraint.proofs.TreeReading.{ValueRead, AttributeRead, value-holds, attribute-holds, object-holds}
-use Rattle.table.specs.Records.{Record, recordSize, encode, encodes}
-use Rattle.compile.specs.Flatten.{make, placeFor, attributesLink, valueLink, objectTable, attributesTable, valueTable}
-use Rattle.compile.specs.Answers.{PartFits, spot, Wrote, wrote, written, linkBelow, leafValue, Room, TreeIs, Stacked, firstLink, objectRow, EndIs, ObjectPut, NameRoom, NameKept, attributeRow, attributeWrote, nextLink, closedAttribute, CloseIs, CloseRoom, attributeWritten, Pushed, AttributeIs, AttributeRoom}
+use Rattle.table.specs.Records.{recordSize, encode, encodes}
+use Rattle.compile.specs.Flatten.{attributesLink, objectTable, attributesTable, valueTable}
+use Rattle.compile.specs.Answers.{spot, wrote, written, leafValue, Room, TreeIs, Stacked, objectRow, EndIs, ObjectPut}
 use Rattle.compile.specs.declared.spots.Spot.{Spot}
 use Rattle.compile.specs.declared.spots.TreeRead.{TreeRead}
 use Rattle.compile.specs.declared.spots.TreeRead.the-variants.{Refused, Read}
-use Rattle.compile.proofs.FlattenLaws.{value-length}
 use Rattle.compile.proofs.WritingSteps.{front}
-use Rattle.compile.proofs.TreeWriting.{five-value, rows-behind, row-below, IsTree, is-tree, is-refused, tree-room, value-link}
-use Rattle.compile.proofs.ReadingLaws.{behindHead, object-refused, object-levels, object-got, behindName, attribute-by, HeadRead, object-head-holds, attribute-head-holds, Linked, linked, turn}
+use Rattle.compile.proofs.ReadingLaws.{behindHead, object-refused, object-levels, object-got, HeadRead, object-head-holds, Linked, linked}
 
 -- ---- the `}` of an object that any attribute may follow
 

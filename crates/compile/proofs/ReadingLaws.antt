@@ -1,7 +1,7 @@
 -- Objects and attributes by their heads, and what holds of heads, of links and of one turn of the attributes. Assumes nothing.
-use mathlib.Core.Path.{_≡_, refl, sym, ap, _∙_}
+use mathlib.Core.Path.{_≡_, refl, sym, _∙_}
 use mathlib.Core.Bool.{Bool, true, false, cond}
-use mathlib.Core.List.{List, [], _∷_}
+use mathlib.Core.List.{List, _∷_}
 use Prim.Native.Nat.{ℕ, zero, suc, _+_, _-_, _≤_, _<_}
 use native.Mathlib.Omega.{arith}
 use native.Mathlib.Numerals.{sub-one}
@@ -11,14 +11,13 @@ use Rattle.lexis.specs.Spelling.{closeBrace}
 use Rattle.lexis.specs.Tokens.{tokenAt, typeName, spelling}
 use Rattle.lexis.specs.declared.Token.{Token}
 use Rattle.lexis.proofs.Parts.{sub-length}
-use Rattle.refusals.specs.Limits.{recordLimit}
 use Rattle.refusals.specs.Reading.{Reading, refused, got, refuse, andThen}
 use Rattle.refusals.specs.Steps.{expect}
 use Rattle.refusals.specs.declared.Cause.the-variants.{TooDeep}
 use Rattle.refusals.specs.declared.Refusal.{Refusal}
 use Rattle.refusals.proofs.Readings.{Holds, got-holds, then-holds}
 use Rattle.refusals.proofs.Tokens.{Passed}
-use Rattle.meaning.specs.Constraints.{Object, object, Attributes, noMore, attribute, Value}
+use Rattle.meaning.specs.Constraints.{Object, object, Attributes}
 use Rattle.lexis.proofs.Parts.{part-length}
 use Rattle.constraint.specs.Existence.{opening, existenceFrom}
 use Rattle.constraint.specs.Objects.{Count, count, objectType, objectCode, attributeName, value, Attribute, attributeFrom, past, goOn, attributes, body, objectBy, objectFrom}

@@ -1,13 +1,13 @@
 -- Steps of the functions that put a text's table into the output, and of compiling. Assumes nothing.
 use mathlib.Core.Path.{_≡_, refl, sym, ap, _∙_}
 use mathlib.Core.Bool.{Bool, true, false, cond}
-use mathlib.Core.List.{List, [], _∷_, _++_, append-assoc}
-use Prim.Native.Nat.{ℕ, zero, suc, _+_, _*_, _-_, _≤_, _<_}
+use mathlib.Core.List.{List, _++_, append-assoc}
+use Prim.Native.Nat.{ℕ, suc, _+_, _*_, _-_, _≤_, _<_}
 use native.Mathlib.Omega.{arith}
 use native.Mathlib.Nat.{sub-zero}
 use lib.Dec.{ltb}
-use lib.ListN.{length, take, drop, length-append}
-use lib.Seq.{sets, sets-eq, take-at, length-sets}
+use lib.ListN.{length, drop, length-append}
+use lib.Seq.{sets, sets-eq, take-at}
 use borrow.Author.Tests.{lt-ltb, le-ltb, ltb-false}
 use Rattle.lexis.specs.Runs.{part}
 use Rattle.lexis.specs.Tokens.{textEnd}
@@ -26,20 +26,19 @@ use Rattle.refusals.specs.declared.steps.Expected.the-variants.{Fault, Taken}
 use Rattle.refusals.proofs.StepLaws.{expected-fault, expected-token}
 use Rattle.refusals.proofs.Readings.{Holds}
 use Rattle.meaning.specs.Constraints.{Object}
-use Rattle.meaning.specs.Counting.{objectPool, objectRecords}
-use Rattle.items.specs.Spans.{Within}
+use Rattle.meaning.specs.Counting.{objectPool}
 use Rattle.lexis.proofs.Parts.{part-length}
 use Rattle.constraint.specs.Objects.{count, objectFrom}
 use Rattle.constraint.specs.Texts.{constraintOf}
 use Rattle.constraint.proofs.TreeReading.{ObjectRead, object-holds}
-use Rattle.table.specs.Records.{Record, recordSize, encode, encodes, headerOf, bytesOf}
+use Rattle.table.specs.Records.{Record, recordSize, encode, encodes, bytesOf}
 use Rattle.table.specs.Answers.{recordOf}
 use Rattle.table.specs.declared.records.Entry.{Entry}
-use Rattle.table.proofs.RecordLaws.{length-encode, length-encodes, length-bytes}
+use Rattle.table.proofs.RecordLaws.{length-encode, length-encodes}
 use Rattle.compile.specs.Flatten.{make, objectTable, imageOfTree}
-use Rattle.compile.specs.Answer.{Compiling, compiling, done, tableOf, write, compileAnswer}
+use Rattle.compile.specs.Answer.{compiling, done, write, compileAnswer}
 use Rattle.compile.specs.Answer
-use Rattle.compile.specs.Answers.{CopyFits, PartPut, spot, written, Room, Stacked, TreeIs, answerOf, tableWritten, TableRoom, finished}
+use Rattle.compile.specs.Answers.{CopyFits, PartPut, spot, written, Stacked, TreeIs, answerOf, tableWritten, TableRoom, finished}
 use Rattle.compile.specs.declared.spots.Spot.{Spot}
 use Rattle.compile.specs.declared.spots.TreeRead.{TreeRead}
 use Rattle.compile.specs.declared.spots.TreeRead.the-variants.{Refused, Read}

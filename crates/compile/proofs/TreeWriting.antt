@@ -1,26 +1,24 @@
 -- Trees as they are written: one behind another, and what holds where one was read. Assumes nothing.
 use mathlib.Core.Path.{_≡_, refl, sym, ap, _∙_}
-use mathlib.Core.Bool.{Bool, true, false, cond}
+use mathlib.Core.Bool.{Bool}
 use mathlib.Core.List.{List, [], _∷_, _++_, append-assoc}
-use Prim.Native.Nat.{ℕ, zero, suc, _+_, _*_, _-_, _≤_, _<_}
+use Prim.Native.Nat.{ℕ, _+_, _*_, _-_, _≤_}
 use native.Mathlib.Omega.{arith}
-use lib.Dec.{eqb, ltb}
-use lib.ListN.{length, length-append}
+use lib.ListN.{length}
 use lib.Seq.{sets}
-use Rattle.lexis.specs.Runs.{part}
 use Rattle.lexis.proofs.Stores.{sets-sets, sets-behind}
 use Rattle.lexis.proofs.Parts.{sub-length}
-use Rattle.refusals.specs.Limits.{textLimit, recordLimit}
-use Rattle.refusals.specs.Reading.{Reading, refused, got, andThen}
+use Rattle.refusals.specs.Reading.{Reading, refused, got}
 use Rattle.refusals.specs.declared.Refusal.{Refusal}
 use Rattle.meaning.specs.Constraints.{Range, Text, Leaf, booleans, integers, strings, datePattern, dates, timePattern, Object, object, Attributes, noMore, attribute, Value, any, nested, leaf}
-use Rattle.meaning.specs.Counting.{valueRecords, valueNumbers, objectNumbers, objectRecords, upFrom}
-use Rattle.meaning.specs.Proper.{ProperLeaf, ProperValue}
+use Rattle.meaning.specs.Admission.{firstRange, firstText}
+use Rattle.meaning.specs.Counting.{rangeNumbers, textNumbers, valueRecords, valueNumbers, objectNumbers, objectRecords, upFrom}
+use Rattle.meaning.specs.Proper.{ProperValue}
 use Rattle.items.proofs.LeafReading.{TreeRead}
 use Rattle.lexis.proofs.Parts.{part-length}
 use Rattle.table.specs.Records.{Record, recordSize, fieldCount, encode, encodes}
 use Rattle.table.proofs.RecordLaws.{AllFive, length-encode, length-encodes}
-use Rattle.compile.specs.Flatten.{make, integerRecords, dateRecords, stringRecords, leafRecords, valueLink, objectTable, attributesTable, valueTable}
+use Rattle.compile.specs.Flatten.{integerRecords, dateRecords, stringRecords, leafRecords, valueLink, objectTable, attributesTable, valueTable}
 use Rattle.compile.specs.Answers.{spot, Wrote, wrote, written, linkBelow, Room}
 use Rattle.compile.specs.declared.spots.Spot.{Spot}
 use Rattle.compile.specs.declared.spots.TreeRead.the-variants.{Refused, Read}
@@ -139,11 +137,11 @@ tree-room {s} {p} {q} {bs = bs} table room h l e =
     record { inside = h .most; short = room .short; records = omega arith; bytes = omega arith }
 
 -- the link to a value is the number of its first record, 0 where it has none
-ranges-link : (l : List Range) (n : ℕ) → 1 ≤ length l → Rattle.meaning.specs.Counting.rangeNumbers l ≡ upFrom n (length l) → Rattle.meaning.specs.Admission.firstRange l ≡ n
+ranges-link : (l : List Range) (n : ℕ) → 1 ≤ length l → rangeNumbers l ≡ upFrom n (length l) → firstRange l ≡ n
 ranges-link [] n h e = absurd (omega arith)
 ranges-link (x ∷ xs) n h e = cc
 
-texts-link : (l : List Text) (n : ℕ) → 1 ≤ length l → Rattle.meaning.specs.Counting.textNumbers l ≡ upFrom n (length l) → Rattle.meaning.specs.Admission.firstText l ≡ n
+texts-link : (l : List Text) (n : ℕ) → 1 ≤ length l → textNumbers l ≡ upFrom n (length l) → firstText l ≡ n
 texts-link [] n h e = absurd (omega arith)
 texts-link (x ∷ xs) n h e = cc
 

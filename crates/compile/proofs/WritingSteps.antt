@@ -1,23 +1,22 @@
 -- Steps of the functions that write the records and the bytes of leaves. Assumes nothing.
 use mathlib.Core.Path.{_≡_, refl, sym, ap, _∙_}
 use mathlib.Core.Bool.{Bool, true, false, cond}
-use mathlib.Core.List.{List, [], _∷_, _++_, append-nil}
+use mathlib.Core.List.{List, [], _∷_, append-nil}
 use Prim.Native.Nat.{ℕ, zero, suc, _+_, _*_, _-_, _≤_, _<_}
 use native.Mathlib.Omega.{arith}
 use native.Mathlib.Nat.{add-zero}
 use native.Mathlib.Numerals.{add-one}
-use lib.Dec.{eqb, ltb}
-use lib.ListN.{length, getD, set, drop, take, length-append, length-set}
+use lib.Dec.{ltb}
+use lib.ListN.{length, getD, set, length-append, length-set}
 use lib.Seq.{sets, drop-cons}
 use borrow.Author.Tests.{eq-eqb, ne-eqb, lt-ltb, le-ltb, ltb-true, ltb-false}
 use Rattle.lexis.specs.Runs.{part}
 use Rattle.lexis.proofs.Stores.{sets-behind}
 use Rattle.values.specs.Integers.{twosComplement}
-use Rattle.refusals.specs.Limits.{textLimit, recordLimit, poolLimit, itemLimit}
 use Rattle.meaning.specs.Constraints.{Range, Text}
 use Rattle.meaning.specs.Counting.{textPool}
 use Rattle.meaning.specs.Admission.{firstRange, firstText}
-use Rattle.items.specs.Spans.{firstOf, secondOf, spanAt, Within, SpansIn}
+use Rattle.items.specs.Spans.{firstOf, secondOf, spanAt, Within}
 use Rattle.items.specs.Answers.{itemsFrom, rangeAt, textAt}
 use Rattle.lexis.proofs.Parts.{part-length}
 use Rattle.table.specs.Records.{Record, recordSize, fieldCount, encode, encodes}
@@ -27,8 +26,8 @@ use Rattle.table.proofs.RecordLaws.{length-encode}
 use Rattle.compile.specs.Flatten.{placeFor, make, stringRecords}
 use Rattle.compile.specs.Answers.{CopyFits, PartFits, PartPut, placeOf, endOf, linkBelow, rangesTable, spot, Puts, ListRoom, TextFits, TextPut, TextsRoom, TextsPut}
 use Rattle.compile.specs.declared.spots.Spot.{Spot}
-use Rattle.compile.specs.declared.spots.TreeRead.{TreeRead}
 use Rattle.compile.specs.declared.spots.TreeRead.the-variants.{Read}
+use Rattle.compile.proofs.FlattenLaws.{strings-length}
 
 -- a number where one place lies before another, and 0 elsewhere
 pub pick-there : (a b v r : ℕ) → a < b → r ≡ v → r ≡ cond (ltb a b) v 0
@@ -180,10 +179,6 @@ module _ {little : Bool} {p : Spot} {kind : ℕ} {scratch : List ℕ} {count end
 
 -- ---- strings
 
-strings-length : (pool : ℕ) (l : List Text) → length (stringRecords pool l) ≡ length l
-strings-length pool [] = refl
-strings-length pool (x ∷ xs) = ap suc (strings-length (pool + length (x .text)) xs)
-
 -- a string's record and bytes
 pub string-put : (s scratch : List ℕ) (i n end at start stop : ℕ) (little : Bool) (rs bs rs' bs' : List ℕ) (place size next r : ℕ) (e : Entry) → TextFits s scratch i n at → start ≡ firstOf scratch i → stop ≡ secondOf scratch i
     → place ≡ placeOf start stop at → size ≡ stop - start → next ≡ linkBelow (n + 1) end → recordOf e ≡ make 5 0 place size 0 0 next → rs' ≡ sets rs (recordSize * n) (encode little (recordOf e)) → PartPut s start stop at bs bs' r
@@ -261,7 +256,7 @@ module _ {s : List ℕ} {little : Bool} {p : Spot} {scratch : List ℕ} {count e
   texts-end place h =
       let items = itemsFrom (textAt s scratch) (p .next) 0 count in
       let a : count - i ≡ 0 = omega arith in
-      let l = strings-length (p .pool) items ∙ items-length (textAt s scratch) (p .next) 0 count in
+      let l = strings-length items (p .pool) ∙ items-length (textAt s scratch) (p .next) 0 count in
       let n : end ≡ p .next + length (stringRecords (p .pool) items) = let j = inv .ends in omega arith in
       let m : to ≡ p .pool + length (textPool items) = let z = rw a at (inv .sum) in omega arith in
       record {

@@ -11,7 +11,7 @@ use crate::spots::TreeRead;
 use table::records::Entry;
 ghost use mathlib.Core.Path.{_≡_};
 ghost use mathlib.Core.List.{[], _∷_};
-ghost use Prim.Native.Nat.{_+_, _*_, _≤_, _<_};
+ghost use Prim.Native.Nat.{_+_, _*_, _<_};
 ghost use lib.Seq.{sets};
 ghost use Rattle.refusals.specs.Limits.{recordLimit, itemLimit};
 ghost use Rattle.items.specs.Spans.{firstOf, secondOf, spanAt};

@@ -16,7 +16,6 @@ use lexis::TYPE_NAME;
 use lexis::tokens::token_at;
 use refusals::steps::Expected;
 use refusals::steps::expect;
-ghost use mathlib.Core.Path.{_≡_};
 ghost use mathlib.Core.List.{[]};
 ghost use Prim.Native.Nat.{_+_, _≤_};
 ghost use lib.ListN.{length};

@@ -11,7 +11,7 @@ use refusals::steps::Expected;
 use refusals::steps::expect;
 use table::records::Entry;
 ghost use mathlib.Core.Path.{_≡_};
-ghost use Prim.Native.Nat.{_^_, _≤_, _<_};
+ghost use Prim.Native.Nat.{_≤_, _<_};
 ghost use lib.ListN.{length};
 ghost use Rattle.lexis.specs.Tokens.{textEnd};
 ghost use Rattle.refusals.specs.Steps.{expect};

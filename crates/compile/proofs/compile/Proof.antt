@@ -1,11 +1,11 @@
 -- `compile::compile` meets its contract. Assumes nothing.
 use Prim.Native.Nat.{ℕ}
-use lib.ListN.{length-replicate}
-use borrow.Author.Needs.{needs}
-use Rattle.compile.proofs.TableSteps.{compile-done, table-steps}
 use Prim.Native.Nat.{ℕ}
 use lib.ListN.{length-replicate}
+use lib.ListN.{length-replicate}
 use borrow.Author.Needs.{needs}
+use borrow.Author.Needs.{needs}
+use Rattle.compile.proofs.TableSteps.{compile-done, table-steps}
 use Rattle.compile.proofs.compile.Statement.{statement}
 use Rattle.compile.proofs.compile.Tie as tie
 

@@ -1,7 +1,7 @@
 -- `compile::heads::attribute_entry` meets its contract. Assumes nothing.
 use borrow.Author.Needs.{needs}
-use Rattle.compile.proofs.HeadWriting.{head-steps}
 use borrow.Author.Needs.{needs}
+use Rattle.compile.proofs.HeadWriting.{head-steps}
 use Rattle.compile.proofs.heads.attribute_entry.Statement.{statement}
 use Rattle.compile.proofs.heads.attribute_entry.Tie as tie
 

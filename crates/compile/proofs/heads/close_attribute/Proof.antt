@@ -1,7 +1,7 @@
 -- `compile::heads::close_attribute` meets its contract. Assumes nothing.
 use borrow.Author.Needs.{needs}
-use Rattle.compile.proofs.HeadWriting.{head-steps}
 use borrow.Author.Needs.{needs}
+use Rattle.compile.proofs.HeadWriting.{head-steps}
 use Rattle.compile.proofs.heads.close_attribute.Statement.{statement}
 use Rattle.compile.proofs.heads.close_attribute.Tie as tie
 

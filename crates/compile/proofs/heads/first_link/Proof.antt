@@ -1,7 +1,7 @@
 -- `compile::heads::first_link` meets its contract. Assumes nothing.
 use borrow.Author.Needs.{needs}
-use Rattle.compile.proofs.HeadWriting.{head-steps}
 use borrow.Author.Needs.{needs}
+use Rattle.compile.proofs.HeadWriting.{head-steps}
 use Rattle.compile.proofs.heads.first_link.Statement.{statement}
 use Rattle.compile.proofs.heads.first_link.Tie as tie
 

@@ -1,7 +1,7 @@
 -- `compile::heads::keep_name` meets its contract. Assumes nothing.
 use borrow.Author.Needs.{needs}
-use Rattle.compile.proofs.HeadWriting.{head-steps}
 use borrow.Author.Needs.{needs}
+use Rattle.compile.proofs.HeadWriting.{head-steps}
 use Rattle.compile.proofs.heads.keep_name.Statement.{statement}
 use Rattle.compile.proofs.heads.keep_name.Tie as tie
 

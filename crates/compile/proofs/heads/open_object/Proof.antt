@@ -1,7 +1,7 @@
 -- `compile::heads::open_object` meets its contract. Assumes nothing.
 use borrow.Author.Needs.{needs}
-use Rattle.compile.proofs.HeadWriting.{head-steps}
 use borrow.Author.Needs.{needs}
+use Rattle.compile.proofs.HeadWriting.{head-steps}
 use Rattle.compile.proofs.heads.open_object.Statement.{statement}
 use Rattle.compile.proofs.heads.open_object.Tie as tie
 

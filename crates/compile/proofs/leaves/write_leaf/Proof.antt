@@ -1,7 +1,7 @@
 -- `compile::leaves::write_leaf` meets its contract. Assumes nothing.
 use borrow.Author.Needs.{needs}
-use Rattle.compile.proofs.LeafWriting.{leaf-steps}
 use borrow.Author.Needs.{needs}
+use Rattle.compile.proofs.LeafWriting.{leaf-steps}
 use Rattle.compile.proofs.leaves.write_leaf.Statement.{statement}
 use Rattle.compile.proofs.leaves.write_leaf.Tie as tie
 

@@ -1,7 +1,7 @@
 -- `compile::lists::put_range` meets its contract. Assumes nothing.
 use borrow.Author.Needs.{needs}
-use Rattle.compile.proofs.WritingSteps.{writing-steps}
 use borrow.Author.Needs.{needs}
+use Rattle.compile.proofs.WritingSteps.{writing-steps}
 use Rattle.compile.proofs.lists.put_range.Statement.{statement}
 use Rattle.compile.proofs.lists.put_range.Tie as tie
 

@@ -1,6 +1,6 @@
--- `compile::lists::put_ranges` meets its contract. Assumes nothing.
-use borrow.Author.Needs.{needs}
+-- `compile::lists::put_ranges` meets its contract. The records of the items before item `i` are written: with those that are left the records are what they are to be. Assumes nothing.
 use Prim.Native.Nat.{_-_}
+use borrow.Author.Needs.{needs}
 use Rattle.compile.proofs.WritingSteps.{InRanges, writing-steps}
 use Rattle.compile.proofs.lists.put_ranges.Statement.{statement}
 use Rattle.compile.proofs.lists.put_ranges.Tie as tie

@@ -1,7 +1,7 @@
 -- `compile::lists::put_single` meets its contract. Assumes nothing.
 use borrow.Author.Needs.{needs}
-use Rattle.compile.proofs.WritingSteps.{writing-steps}
 use borrow.Author.Needs.{needs}
+use Rattle.compile.proofs.WritingSteps.{writing-steps}
 use Rattle.compile.proofs.lists.put_single.Statement.{statement}
 use Rattle.compile.proofs.lists.put_single.Tie as tie
 

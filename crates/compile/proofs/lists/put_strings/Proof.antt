@@ -1,6 +1,6 @@
--- `compile::lists::put_strings` meets its contract. Assumes nothing.
-use borrow.Author.Needs.{needs}
+-- `compile::lists::put_strings` meets its contract. The records and the bytes of the strings before item `i` are written: with those that are left both are what they are to be. Assumes nothing.
 use Prim.Native.Nat.{_-_}
+use borrow.Author.Needs.{needs}
 use Rattle.compile.proofs.WritingSteps.{InTexts, writing-steps}
 use Rattle.compile.proofs.lists.put_strings.Statement.{statement}
 use Rattle.compile.proofs.lists.put_strings.Tie as tie

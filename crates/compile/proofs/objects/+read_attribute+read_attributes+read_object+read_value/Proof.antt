@@ -3,11 +3,11 @@ use Prim.Native.Nat.{ℕ, _+_, _*_, _-_, _<_}
 use native.Mathlib.Omega.{arith}
 use lib.ListN.{length}
 use borrow.Author.Needs.{needs}
+use borrow.Fn.Kinds.{In}
+use borrow.Fn.PlainCycle.{Measures, is, falls, and}
 use Rattle.compile.proofs.ObjectSteps.{object-level, object-more, object-attributes, object-steps}
 use Rattle.compile.proofs.AttributeSteps.{value-refused, value-closing, value-closed, attribute-steps}
 use Rattle.compile.proofs.AttributesSteps.{InAttributes, attributes-start, attributes-next, attributes-steps}
-use borrow.Fn.Kinds.{In}
-use borrow.Fn.PlainCycle.{Measures, is, falls, and}
 use Rattle.compile.proofs.objects.read_attribute.Reads as read-attribute
 use Rattle.compile.proofs.objects.read_attribute.Kinds as read-attribute-kinds
 use Rattle.compile.proofs.objects.+read_attribute+read_attributes+read_object+read_value.Lts-read_attribute as read-attribute-lts

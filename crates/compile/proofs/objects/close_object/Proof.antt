@@ -1,7 +1,7 @@
 -- `compile::objects::close_object` meets its contract. Assumes nothing.
 use borrow.Author.Needs.{needs}
-use Rattle.compile.proofs.ObjectSteps.{object-steps}
 use borrow.Author.Needs.{needs}
+use Rattle.compile.proofs.ObjectSteps.{object-steps}
 use Rattle.compile.proofs.objects.close_object.Statement.{statement}
 use Rattle.compile.proofs.objects.close_object.Tie as tie
 

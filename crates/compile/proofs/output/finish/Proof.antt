@@ -1,7 +1,7 @@
 -- `compile::output::finish` meets its contract. Assumes nothing.
 use borrow.Author.Needs.{needs}
-use Rattle.compile.proofs.TableSteps.{table-steps}
 use borrow.Author.Needs.{needs}
+use Rattle.compile.proofs.TableSteps.{table-steps}
 use Rattle.compile.proofs.output.finish.Statement.{statement}
 use Rattle.compile.proofs.output.finish.Tie as tie
 

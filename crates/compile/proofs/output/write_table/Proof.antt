@@ -1,7 +1,7 @@
 -- `compile::output::write_table` meets its contract. Assumes nothing.
 use borrow.Author.Needs.{needs}
-use Rattle.compile.proofs.TableSteps.{table-steps}
 use borrow.Author.Needs.{needs}
+use Rattle.compile.proofs.TableSteps.{table-steps}
 use Rattle.compile.proofs.output.write_table.Statement.{statement}
 use Rattle.compile.proofs.output.write_table.Tie as tie
 

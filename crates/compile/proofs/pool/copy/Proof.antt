@@ -1,6 +1,6 @@
--- `compile::pool::copy` meets its contract. Assumes nothing.
-use borrow.Author.Needs.{needs}
+-- `compile::pool::copy` meets its contract. The bytes before place `i` are copied: with those that are left the output is what it is to be. Assumes nothing.
 use Prim.Native.Nat.{_-_}
+use borrow.Author.Needs.{needs}
 use Rattle.compile.proofs.WritingSteps.{InPart, writing-steps}
 use Rattle.compile.proofs.pool.copy.Statement.{statement}
 use Rattle.compile.proofs.pool.copy.Tie as tie

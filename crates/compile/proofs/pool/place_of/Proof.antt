@@ -1,7 +1,7 @@
 -- `compile::pool::place_of` meets its contract. Assumes nothing.
 use borrow.Author.Needs.{needs}
-use Rattle.compile.proofs.WritingSteps.{writing-steps}
 use borrow.Author.Needs.{needs}
+use Rattle.compile.proofs.WritingSteps.{writing-steps}
 use Rattle.compile.proofs.pool.place_of.Statement.{statement}
 use Rattle.compile.proofs.pool.place_of.Tie as tie
 

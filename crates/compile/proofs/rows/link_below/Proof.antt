@@ -1,7 +1,7 @@
 -- `compile::rows::link_below` meets its contract. Assumes nothing.
 use borrow.Author.Needs.{needs}
-use Rattle.compile.proofs.WritingSteps.{writing-steps}
 use borrow.Author.Needs.{needs}
+use Rattle.compile.proofs.WritingSteps.{writing-steps}
 use Rattle.compile.proofs.rows.link_below.Statement.{statement}
 use Rattle.compile.proofs.rows.link_below.Tie as tie
 

@@ -1,7 +1,7 @@
 -- `compile::rows::range_entry` meets its contract. Assumes nothing.
 use borrow.Author.Needs.{needs}
-use Rattle.compile.proofs.WritingSteps.{writing-steps}
 use borrow.Author.Needs.{needs}
+use Rattle.compile.proofs.WritingSteps.{writing-steps}
 use Rattle.compile.proofs.rows.range_entry.Statement.{statement}
 use Rattle.compile.proofs.rows.range_entry.Tie as tie
 
