@@ -1,0 +1,3 @@
+-- The relations and the definitions are one.
+pub mod Leaves
+pub mod Judged
