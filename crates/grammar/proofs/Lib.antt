@@ -1,3 +1,5 @@
 -- The relations and the definitions are one.
 pub mod Leaves
 pub mod Judged
+pub mod Given
+pub mod Derived
