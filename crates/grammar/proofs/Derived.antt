@@ -50,7 +50,7 @@ listed-not : (w : List ℕ) (ws : List (List ℕ)) → listed w ws ≡ false →
 listed-not w ws h m = false-true (sym h ∙ mem-listed w ws m)
 
 -- what each part of the reader gives: a derivation of the part
-data Took (s : List ℕ) (sort from : ℕ) : Token → ℕ → Type 0 where
+pub data Took (s : List ℕ) (sort from : ℕ) : Token → ℕ → Type 0 where
   took : {t : Token} → Next s from sort t → Took s sort from t (t .end)
 
 data TypeGiven (s : List ℕ) (from : ℕ) : Span → ℕ → Type 0 where
@@ -85,7 +85,7 @@ data DatumGiven (s : List ℕ) (levels from : ℕ) : Block → ℕ → Type 0 wh
   datumGiven : {p : ℕ} {b : Block} → DerivesDatum s from b p → levelsOf b ≤ levels → DatumGiven s levels from b p
 
 module _ (s : List ℕ) where
-  expect-gives : (sort from : ℕ) → Gives (Took s sort from) (expect s sort from)
+  pub expect-gives : (sort from : ℕ) → Gives (Took s sort from) (expect s sort from)
   unfolding expect
   expect-gives sort from =
       let t = dataTokenAt s from in

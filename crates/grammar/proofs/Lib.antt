@@ -3,3 +3,5 @@ pub mod Leaves
 pub mod Judged
 pub mod Given
 pub mod Derived
+pub mod Scanned
+pub mod FaultTable

@@ -1,3 +1,4 @@
 pub mod Admits
 pub mod FirstFailure
 pub mod DataGrammar
+pub mod DataFaults
