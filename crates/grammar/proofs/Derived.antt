@@ -33,7 +33,7 @@ use Rattle.grammar.proofs.Leaves.{true-or-false, false-true, same-eq, s
 use Rattle.grammar.proofs.Given.{Gives, got-gives, refuse-gives, cond-gives, unless-gives, then-gives, given, gives-map}
 
 -- a name is listed exactly where it is one of the names
-listed-mem : (w : List ℕ) (ws : List (List ℕ)) → listed w ws ≡ true → List·Memᴰ w ws
+pub listed-mem : (w : List ℕ) (ws : List (List ℕ)) → listed w ws ≡ true → List·Memᴰ w ws
 unfolding listed
 listed-mem w [] h = absurd (false-true h)
 listed-mem w (x ∷ xs) h = or-cases (same w x) (listed w xs) h (λ e. List·Memᴰ·head (same-eq w x e)) (λ e. List·Memᴰ·tail (listed-mem w xs e))
@@ -43,10 +43,10 @@ unfolding listed
 mem-listed w (x ∷ xs) (List·Memᴰ·head e) = or-left (same w x) (listed w xs) (eq-same w x e)
 mem-listed w (x ∷ xs) (List·Memᴰ·tail m) = or-right (same w x) (listed w xs) (mem-listed w xs m)
 
-not-listed : (w : List ℕ) (ws : List (List ℕ)) → ¬ List·Memᴰ w ws → listed w ws ≡ false
+pub not-listed : (w : List ℕ) (ws : List (List ℕ)) → ¬ List·Memᴰ w ws → listed w ws ≡ false
 not-listed w ws h = true-or-false (listed w ws) (λ e. absurd (h (listed-mem w ws e))) (λ e. e)
 
-listed-not : (w : List ℕ) (ws : List (List ℕ)) → listed w ws ≡ false → ¬ List·Memᴰ w ws
+pub listed-not : (w : List ℕ) (ws : List (List ℕ)) → listed w ws ≡ false → ¬ List·Memᴰ w ws
 listed-not w ws h m = false-true (sym h ∙ mem-listed w ws m)
 
 -- what each part of the reader gives: a derivation of the part
@@ -277,7 +277,7 @@ leaf-got {s} {place} {from} (aString (next e) l) n = rw (e, le-ltb stringLimit (
 leaf-got (aWord (next e) l) n = rw (e, l, expect-got n)
 
 -- a sort compared with another
-other : {a b : ℕ} → a ≡ b → (k : ℕ) → eqb a k ≡ eqb b k
+pub other : {a b : ℕ} → a ≡ b → (k : ℕ) → eqb a k ≡ eqb b k
 other e k = ap (λ z. eqb z k) e
 
 -- derived tokens lie in the text
@@ -364,10 +364,10 @@ more-got : (s : List ℕ) (levels fuel : ℕ) (seen : List (List ℕ)) (from p q
 unfolding members
 more-got s levels fuel seen from p q c ms n e (next x) a b d = rw (other x greater, other x name, a, b, d)
 
-head-new : {before names : List (List ℕ)} {w : List ℕ} → Distinct before (w ∷ names) → ¬ List·Memᴰ w before
+pub head-new : {before names : List (List ℕ)} {w : List ℕ} → Distinct before (w ∷ names) → ¬ List·Memᴰ w before
 head-new (newName h d) = h
 
-tail-new : {before names : List (List ℕ)} {w : List ℕ} → Distinct before (w ∷ names) → Distinct (w ∷ before) names
+pub tail-new : {before names : List (List ℕ)} {w : List ℕ} → Distinct before (w ∷ names) → Distinct (w ∷ before) names
 tail-new (newName h d) = d
 
 mutual

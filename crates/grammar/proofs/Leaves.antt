@@ -75,7 +75,7 @@ pub or-cases : {P : Type 0} (a b : Bool) → (a || b) ≡ true → (a ≡ true �
 or-cases true b h f g = f refl
 or-cases false b h f g = g h
 
-and-both : (a b : Bool) → a ≡ true → b ≡ true → (a && b) ≡ true
+pub and-both : (a b : Bool) → a ≡ true → b ≡ true → (a && b) ≡ true
 and-both true b h k = k
 and-both false b h k = h
 

@@ -5,3 +5,4 @@ pub mod Given
 pub mod Derived
 pub mod Scanned
 pub mod FaultTable
+pub mod Constrained

@@ -2,3 +2,4 @@ pub mod Admits
 pub mod FirstFailure
 pub mod DataGrammar
 pub mod DataFaults
+pub mod ConstraintGrammar
