@@ -31,10 +31,12 @@ use Rattle.constraint.specs.Objects.{Count, count, objectType, objectCode, attr
 use Rattle.constraint.specs.Texts.{constraintOf}
 use Rattle.constraint.proofs.TreeReading.{ObjectRead, object-holds}
 use Rattle.grammar.specs.DataGrammar.{Distinct, noName, newName}
-use Rattle.grammar.specs.ConstraintGrammar.{Next, next, Opens, opens, Digit, digit, DerivesBounds, DerivesExistence, unwritten, written, DerivesCode, uncoded, coded, attributeNames, objectLevels, attributeLevels, valueLevels, behindName, behindAttribute, Fits, DerivesObject, anObject, DerivesBody, anyMembers, DerivesAttributes, lastOne, oneMore, DerivesAttribute, anAttribute, DerivesValue, anything, oneObject, oneLeaf, DerivesConstraint, wholeText}
+use Rattle.grammar.specs.LeafGrammar.{Next, next, DerivesLeaf}
+use Rattle.grammar.specs.ConstraintGrammar.{Opens, opens, Digit, digit, DerivesBounds, DerivesExistence, unwritten, written, DerivesCode, uncoded, coded, attributeNames, objectLevels, attributeLevels, valueLevels, behindName, behindAttribute, Fits, DerivesObject, anObject, DerivesBody, anyMembers, DerivesAttributes, lastOne, oneMore, DerivesAttribute, anAttribute, DerivesValue, anything, oneObject, oneLeaf, DerivesConstraint, wholeText}
 use Rattle.grammar.specs.ConstraintGrammar
 use Rattle.grammar.proofs.Leaves.{false-true, same-eq, eq-same, and-both}
 use Rattle.grammar.proofs.Given.{Gives, got-gives, refuse-gives, cond-gives, unless-gives, then-gives, given, gives-map}
+use Rattle.grammar.proofs.Items.{leaf-got, leaf-derives}
 use Rattle.grammar.proofs.Derived.{not-listed, listed-not, other, head-new, tail-new}
 
 -- what each part of the reader gives: a derivation of the part
@@ -222,7 +224,7 @@ module _ (s : List ℕ) (levels : ℕ) (below : (c : Count) (from : ℕ) → Giv
     where
       leaf-case : (r : Reading Leaf) → Leaves.leaf s (c .next) (c .pool) from ≡ r → Gives (ValueGiven s levels c from) (andThen r (λ l p. got (leaf l) p))
       leaf-case (refused x) e = refuse-gives (ValueGiven s levels c from) (x .cause) (x .place)
-      leaf-case (got l p) e = got-gives (ValueGiven s levels c from) (leaf l) p (valueGiven (oneLeaf e) (omega arith))
+      leaf-case (got l p) e = got-gives (ValueGiven s levels c from) (leaf l) p (valueGiven (oneLeaf (leaf-derives s (c .next) (c .pool) from l p e)) (omega arith))
 
   attribute-gives : (seen : List (List ℕ)) (c : Count) (from : ℕ) → Gives (AttributeGiven s levels seen c from) (attributeFrom s (objectFrom s levels) seen c from)
   unfolding attributeFrom
@@ -456,14 +458,14 @@ attribute-got : (s : List ℕ) (levels : ℕ) (seen : List (List ℕ)) (c : Coun
     → DerivesAttribute s c from e w v p
     → ¬ List·Memᴰ w seen
     → from ≤ length s
-    → ((d : Count) (f q : ℕ) → DerivesValue s d f v q → f ≤ length s → ValueGot s levels d f v q)
+    → ((d : Count) (f q : ℕ) (z : Token) → DerivesValue s d f v q → Next s q closeBrace z → f ≤ length s → ValueGot s levels d f v q)
     → AttributeGot s levels seen c from e w v p
 unfolding attributeFrom
 attribute-got s levels seen c from e w v p (anAttribute {p = q} {q = r} {t = t} {b = b} {z = z} n f d o x y) m h go =
     let i = next-found n h in
     let j = existence-found d (i .inside) in
     let k = open-found o (j .1) in
-    let u = go (behindName c (spelling s t)) (b .end) r x (k .1) in
+    let u = go (behindName c (spelling s t)) (b .end) r z x y (k .1) in
     let g = next-found y (u .high) in
     let l : t .start < t .end = named n h in
     record {
@@ -540,17 +542,17 @@ mutual
   attributes-got noMore s c from p d levels fuel seen z n u l h k = absurd (no-attribute d)
   attributes-got (attribute m e w v more) s c from p d levels zero seen z n u l h k = absurd (omega arith)
   attributes-got (attribute m e w v more) s c from p (lastOne d) levels (suc fuel) seen z n u l h k =
-      let a = attribute-got s levels seen c from e w v p d (head-new u) h (λ x f q y i. value-got v s x f q y levels (omega arith) i) in
+      let a = attribute-got s levels seen c from e w v p d (head-new u) h (λ x f q g y j i. value-got v s x f q y levels g j (omega arith) i) in
       last-got s levels fuel seen c from e w v p z (a .is) n
   attributes-got (attribute m e w v more) s c from p (oneMore {p = q} d ds) levels (suc fuel) seen z n u l h k =
-      let a = attribute-got s levels seen c from e w v q d (head-new u) h (λ x f r y i. value-got v s x f r y levels (omega arith) i) in
+      let a = attribute-got s levels seen c from e w v q d (head-new u) h (λ x f r g y j i. value-got v s x f r y levels g j (omega arith) i) in
       more-got s levels fuel seen c from e w v q (z .end) more (a .is) (starts-name ds)
       (attributes-got more s (behindAttribute c w v) q p ds levels fuel (w ∷ seen) z n (tail-new u) (omega arith) (a .high) (omega (arith, a .low)))
 
-  value-got : (v : Value) (s : List ℕ) (c : Count) (from p : ℕ) → DerivesValue s c from v p → (levels : ℕ) → valueLevels v ≤ levels → from ≤ length s → ValueGot s levels c from v p
-  value-got any s c from p (anything {t = t} n) levels l h = star-value s levels c from t n h
-  value-got (nested o) s c from p (oneObject d) levels l h = nested-value s levels c from o p (object-starts d) (object-got o s c from p d levels l h) h
-  value-got (leaf x) s c from p (oneLeaf e) levels l h = leaf-value s levels c from x p e h
+  value-got : (v : Value) (s : List ℕ) (c : Count) (from p : ℕ) → DerivesValue s c from v p → (levels : ℕ) (z : Token) → Next s p closeBrace z → valueLevels v ≤ levels → from ≤ length s → ValueGot s levels c from v p
+  value-got any s c from p (anything {t = t} n) levels z w l h = star-value s levels c from t n h
+  value-got (nested o) s c from p (oneObject d) levels z w l h = nested-value s levels c from o p (object-starts d) (object-got o s c from p d levels l h) h
+  value-got (leaf x) s c from p (oneLeaf d) levels z w l h = leaf-value s levels c from x p (leaf-got s (c .next) (c .pool) from x p z d w) h
 
 text-got : (s : List ℕ) (o : Object) → DerivesConstraint s o → (p : ℕ) × (constraintOf s ≡ got o p)
 unfolding constraintOf

@@ -5,4 +5,5 @@ pub mod Given
 pub mod Derived
 pub mod Scanned
 pub mod FaultTable
+pub mod Items
 pub mod Constrained

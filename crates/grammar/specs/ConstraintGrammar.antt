@@ -1,7 +1,7 @@
 -- The grammar of constraint text, as productions. Document 01, 'Constraint text': "ASCII, at most 16,384 bytes"; "object: TYPE, optional [code], `matches {`, then `*` or one or more
 -- attributes, `}`. The text is one object"; "attribute: NAME, optional `existence matches {` `0`, `1`, `0..0`, `0..1` or `1..1` `}`, `matches {`, then `*`, one object or one leaf, `}`.
 -- `0` is 0..0, `1` is 1..1; no existence means 1..1"; 'Table', lengths of types, names and codes, and "Compiling numbers records and fills the pool in text order"; 'Numbers of refusal':
--- no 17th level, no record 2,048, no attribute named twice, no pool above 16,384. Tokens are those of lexis, and leaves those of items. Assumes nothing.
+-- no 17th level, no record 2,048, no attribute named twice, no pool above 16,384. Tokens are those of lexis. Assumes nothing.
 use mathlib.Core.Path.{_≡_}
 use mathlib.Core.Logic.{_≢_}
 use mathlib.Core.List.{List, [], _∷_}
@@ -9,19 +9,14 @@ use Prim.Native.Nat.{ℕ, suc, _+_, _≤_, max}
 use lib.ListN.{length}
 use Rattle.lexis.specs.Text.{bytes}
 use Rattle.lexis.specs.Spelling.{matches, existence, openBrace, closeBrace, dots, star}
-use Rattle.lexis.specs.Tokens.{tokenAt, textEnd, typeName, name, code, integer, spelling, inner}
+use Rattle.lexis.specs.Tokens.{textEnd, typeName, name, code, integer, spelling, inner}
 use Rattle.lexis.specs.declared.Token.{Token}
 use Rattle.refusals.specs.Limits.{textLimit, levelLimit, recordLimit, poolLimit, nameLimit, codeLimit}
-use Rattle.refusals.specs.Reading.{got}
 use Rattle.meaning.specs.Constraints.{Object, object, Attributes, noMore, attribute, Value, any, nested, leaf, Leaf, prohibited, optional, required}
 use Rattle.meaning.specs.Counting.{valueRecords, valuePool}
-use Rattle.items.specs.Leaves
 use Rattle.constraint.specs.Objects.{Count, count}
 use Rattle.grammar.specs.DataGrammar.{Distinct}
-
--- the next token from a place on, of a sort
-pub data Next (s : List ℕ) (from sort : ℕ) : Token → Type 0 where
-  next : tokenAt s from .sort ≡ sort → Next s from sort (tokenAt s from)
+use Rattle.grammar.specs.LeafGrammar.{Next, DerivesLeaf}
 
 -- `matches {`
 pub data Opens (s : List ℕ) (from : ℕ) : Token → Type 0 where
@@ -121,7 +116,7 @@ mutual
   pub data DerivesValue (s : List ℕ) : Count → ℕ → Value → ℕ → Type 0 where
     anything : {c : Count} {from : ℕ} {t : Token} → Next s from star t → DerivesValue s c from any (t .end)
     oneObject : {c : Count} {from p : ℕ} {o : Object} → DerivesObject s c from o p → DerivesValue s c from (nested o) p
-    oneLeaf : {c : Count} {from p : ℕ} {l : Leaf} → Leaves.leaf s (c .next) (c .pool) from ≡ got l p → DerivesValue s c from (leaf l) p
+    oneLeaf : {c : Count} {from p : ℕ} {l : Leaf} → DerivesLeaf s (c .next) (c .pool) from l p → DerivesValue s c from (leaf l) p
 
 -- a constraint text: one object of at most 16 levels, whose record is number 1, and the text's end behind it
 pub data DerivesConstraint (s : List ℕ) : Object → Type 0 where
