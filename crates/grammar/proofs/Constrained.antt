@@ -1,13 +1,13 @@
 -- A constraint text is read to a tree exactly where the grammar derives the tree. Assumes nothing.
-use mathlib.Core.Path.{_≡_, refl, sym, ap, _∙_, subst}
-use mathlib.Core.Logic.{_↔_, _≢_}
-use mathlib.Core.Bool.{Bool, true, false, cond, not, _||_, _&&_}
+use mathlib.Core.Path.{_≡_, refl, sym, ap, _∙_}
+use mathlib.Core.Logic.{_↔_}
+use mathlib.Core.Bool.{true, false, _||_, _&&_}
 use mathlib.Core.List.{List, [], _∷_, List·Memᴰ}
 use Prim.Native.Nat.{ℕ, zero, suc, _≤_, _<_, _+_}
 use native.Mathlib.Omega.{arith}
 use lib.Dec.{eqb, ltb, lit<}
 use lib.ListN.{length}
-use borrow.Author.Tests.{eqb-true, eqb-false, ltb-false, le-ltb, eq-eqb, ne-eqb}
+use borrow.Author.Tests.{eqb-true, eqb-false, ltb-false, le-ltb, ne-eqb}
 use Rattle.lexis.specs.Text.{bytes}
 use Rattle.lexis.specs.Runs.{listed, same}
 use Rattle.lexis.specs.Bytes.{within}
@@ -27,22 +27,19 @@ use Rattle.meaning.specs.Constraints.{Object, object, Attributes, noMore, attri
 use Rattle.items.specs.Leaves
 use Rattle.items.proofs.LeafReading.{LeafRead, leaf-holds}
 use Rattle.constraint.specs.Existence.{opening, isNought, isOne, fromNought, fromOne, bounds, existenceFrom}
-use Rattle.constraint.specs.Objects.{Count, count, objectType, objectCode, attributeName, value, Attribute, attributeFrom, past, goOn, attributes, body, objectBy, objectFrom}
+use Rattle.constraint.specs.Objects.{Count, count, objectType, objectCode, attributeName, value, Attribute, attributeFrom, past, attributes, body, objectBy, objectFrom}
 use Rattle.constraint.specs.Texts.{constraintOf}
 use Rattle.constraint.proofs.TreeReading.{ObjectRead, object-holds}
 use Rattle.grammar.specs.DataGrammar.{Distinct, noName, newName}
-use Rattle.grammar.specs.LeafGrammar.{Next, next, DerivesLeaf}
+use Rattle.grammar.specs.LeafGrammar.{Next, next}
 use Rattle.grammar.specs.ConstraintGrammar.{Opens, opens, Digit, digit, DerivesBounds, DerivesExistence, unwritten, written, DerivesCode, uncoded, coded, attributeNames, objectLevels, attributeLevels, valueLevels, behindName, behindAttribute, Fits, DerivesObject, anObject, DerivesBody, anyMembers, DerivesAttributes, lastOne, oneMore, DerivesAttribute, anAttribute, DerivesValue, anything, oneObject, oneLeaf, DerivesConstraint, wholeText}
 use Rattle.grammar.specs.ConstraintGrammar
-use Rattle.grammar.proofs.Leaves.{false-true, same-eq, eq-same, and-both}
+use Rattle.grammar.proofs.Leaves.{same-eq}
 use Rattle.grammar.proofs.Given.{Gives, got-gives, refuse-gives, cond-gives, unless-gives, then-gives, given, gives-map}
-use Rattle.grammar.proofs.Items.{leaf-got, leaf-derives}
+use Rattle.grammar.proofs.Items.{Took, took, expect-gives, expect-got, leaf-got, leaf-derives}
 use Rattle.grammar.proofs.Derived.{not-listed, listed-not, other, head-new, tail-new}
 
 -- what each part of the reader gives: a derivation of the part
-data Took (s : List ℕ) (sort from : ℕ) : Token → ℕ → Type 0 where
-  took : {t : Token} → Next s from sort t → Took s sort from t (t .end)
-
 data OpenGiven (s : List ℕ) (from : ℕ) : Token → ℕ → Type 0 where
   openGiven : {b : Token} → Opens s from b → OpenGiven s from b (b .end)
 
@@ -77,22 +74,15 @@ data BodyGiven (s : List ℕ) (levels : ℕ) (c : Count) (from : ℕ) : Attribut
   bodyGiven : {xs : Attributes} {p : ℕ} → DerivesBody s c from xs p → Distinct [] (attributeNames xs) → attributeLevels xs ≤ levels → BodyGiven s levels c from xs p
 
 module _ (s : List ℕ) where
-  expect-gives : (sort from : ℕ) → Gives (Took s sort from) (expect s sort from)
-  unfolding expect
-  expect-gives sort from =
-      let t = tokenAt s from in
-      let P = Took s sort from in
-      cond-gives P (eqb (t .sort) sort) _ _ (λ e. got-gives P t (t .end) (took (next (eqb-true _ _ e)))) (λ e. refuse-gives P (syntaxCause t) (t .start))
-
   opening-gives : (from : ℕ) → Gives (OpenGiven s from) (opening s from)
   unfolding opening
-  opening-gives from = then-gives (OpenGiven s from) (Took s matches from) (expect s matches from) _ (expect-gives matches from) (λ t p x. go x)
+  opening-gives from = then-gives (OpenGiven s from) (Took s matches from) (expect s matches from) _ (expect-gives s matches from) (λ t p x. go x)
     where
       both : {m b : Token} {p : ℕ} → Next s from matches m → Took s openBrace (m .end) b p → OpenGiven s from b p
       both n (took x) = openGiven (opens n x)
 
       go : {m : Token} {p : ℕ} → Took s matches from m p → Gives (OpenGiven s from) (expect s openBrace p)
-      go (took {t = m} n) = gives-map (Took s openBrace (m .end)) (OpenGiven s from) _ (λ b q y. both n y) (expect-gives openBrace (m .end))
+      go (took {t = m} n) = gives-map (Took s openBrace (m .end)) (OpenGiven s from) _ (λ b q y. both n y) (expect-gives s openBrace (m .end))
 
   digit-of : (w : List ℕ) (from : ℕ) → (eqb (tokenAt s from .sort) integer && same w (spelling s (tokenAt s from))) ≡ true → Digit s from w (tokenAt s from)
   digit-of w from e =
@@ -129,7 +119,7 @@ module _ (s : List ℕ) where
       cond-gives P (eqb (t .sort) existence) _ _
       (λ e. then-gives P (OpenGiven s (t .end)) (opening s (t .end)) _ (opening-gives (t .end)) (λ b p x.
       then-gives P (DerivesBounds s p) (bounds s p) _ (bounds-gives p) (λ k q y.
-      then-gives P (Took s closeBrace q) (expect s closeBrace q) _ (expect-gives closeBrace q) (λ z r w.
+      then-gives P (Took s closeBrace q) (expect s closeBrace q) _ (expect-gives s closeBrace q) (λ z r w.
       got-gives P k r (made (next (eqb-true _ _ e)) x y w)))))
       (λ e. got-gives P required from unwritten)
     where
@@ -151,7 +141,7 @@ module _ (s : List ℕ) where
   unfolding objectType
   type-gives levels c from =
       let P = NameGiven s typeName c from in
-      then-gives P (Took s typeName from) (expect s typeName from) _ (expect-gives typeName from) (λ t p x.
+      then-gives P (Took s typeName from) (expect s typeName from) _ (expect-gives s typeName from) (λ t p x.
       unless-gives P (eqb levels 0) TooDeep (t .start) _ (λ a.
       unless-gives P (ltb nameLimit (length (spelling s t))) TooLong (t .start) _ (λ b.
       unless-gives P (eqb (c .next) recordLimit) TooManyRecords (t .start) _ (λ d.
@@ -165,7 +155,7 @@ module _ (s : List ℕ) where
   unfolding attributeName
   name-gives seen c from =
       let P = NewGiven s seen c from in
-      then-gives P (Took s name from) (expect s name from) _ (expect-gives name from) (λ t p x.
+      then-gives P (Took s name from) (expect s name from) _ (expect-gives s name from) (λ t p x.
       unless-gives P (ltb nameLimit (length (spelling s t))) TooLong (t .start) _ (λ b.
       unless-gives P (eqb (c .next) recordLimit) TooManyRecords (t .start) _ (λ d.
       unless-gives P (listed (spelling s t) seen) RepeatedName (t .start) _ (λ m.
@@ -304,10 +294,6 @@ text-gives s =
     made l (objectGiven d k) (took n) = wholeText l d n k
 
 -- the other way round: a part that is derived is read
-expect-got : {s : List ℕ} {sort from : ℕ} {t : Token} → Next s from sort t → expect s sort from ≡ got t (t .end)
-unfolding expect
-expect-got {sort = sort} (next e) = rw (other e sort, eq-eqb sort sort refl)
-
 opening-got : {s : List ℕ} {from : ℕ} {b : Token} → Opens s from b → opening s from ≡ got b (b .end)
 unfolding opening
 opening-got (opens m b) = rw (expect-got m, expect-got b)

@@ -1,12 +1,12 @@
 -- A data text is read to a tree exactly where the grammar derives the tree. Assumes nothing.
-use mathlib.Core.Path.{_≡_, refl, sym, ap, _∙_, subst}
+use mathlib.Core.Path.{_≡_, refl, sym, ap, _∙_}
 use mathlib.Core.Logic.{_↔_}
-use mathlib.Core.Bool.{Bool, true, false, cond, not, _||_}
+use mathlib.Core.Bool.{true, false, not}
 use mathlib.Core.Option.{Option, none, some}
 use mathlib.Core.List.{List, [], _∷_, List·Memᴰ, List·Memᴰ·head, List·Memᴰ·tail}
 use Prim.Native.Nat.{ℕ, zero, suc, _≤_, _<_, _+_}
 use native.Mathlib.Omega.{arith}
-use lib.Dec.{eqb, ltb, lit<}
+use lib.Dec.{eqb, ltb}
 use lib.ListN.{length}
 use borrow.Author.Tests.{eqb-true, ltb-false, le-ltb, not-false, eq-eqb}
 use Rattle.lexis.specs.Runs.{listed, same}
@@ -19,17 +19,16 @@ use Rattle.lexis.proofs.Places.{Found}
 use Rattle.lexis.proofs.DataPlaces.{data-token-found, type-token-found}
 use Rattle.values.specs.Words.{good}
 use Rattle.refusals.specs.Limits.{textLimit, levelLimit, nameLimit, stringLimit}
-use Rattle.refusals.specs.Reading.{Reading, refused, got, andThen}
+use Rattle.refusals.specs.Reading.{Reading, got, andThen}
 use Rattle.refusals.specs.declared.Cause.the-variants.{TextTooLong, TooDeep, TooLong, BadWord, RepeatedName, EndsEarly}
 use Rattle.refusals.specs.Steps.{syntaxCause}
 use Rattle.refusals.proofs.Readings.{Holds}
-use Rattle.refusals.proofs.Tokens.{Taken, Passed}
 use Rattle.data.specs.Placed.{Span, Block, block, Entries, noMore, entry, Content, string, word, inside, spelledBlock}
-use Rattle.data.specs.Data.{expect, datumOf, typeFrom, leafFrom, typed, contentFrom, nameFrom, members, blockFrom, outermost, blockOf, spanOf, innerSpan}
-use Rattle.data.proofs.TreeReading.{SpanRead, ContentRead, BlockRead, expect-holds, expect-passes, type-holds, content-holds, block-holds}
+use Rattle.data.specs.Data.{expect, datumOf, typeFrom, leafFrom, typed, contentFrom, nameFrom, members, blockFrom, outermost, blockOf, spanOf}
+use Rattle.data.proofs.TreeReading.{ContentRead, content-holds, block-holds}
 use Rattle.grammar.specs.DataGrammar.{Next, next, NextType, nextType, namesOf, Distinct, noName, newName, levelsOf, memberLevels, contentLevels, DerivesLeaf, aString, aWord, DerivesDatum, DerivesMembers, noMember, oneMore, DerivesContent, aDatum, aLeaf, DerivesData, wholeText}
 use Rattle.grammar.specs.DataGrammar
-use Rattle.grammar.proofs.Leaves.{true-or-false, false-true, same-eq, same-self, or-cases, or-left, or-right, eq-same}
+use Rattle.grammar.proofs.Leaves.{true-or-false, false-true, same-eq, or-cases, or-left, or-right, eq-same}
 use Rattle.grammar.proofs.Given.{Gives, got-gives, refuse-gives, cond-gives, unless-gives, then-gives, given, gives-map}
 
 -- a name is listed exactly where it is one of the names

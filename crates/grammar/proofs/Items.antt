@@ -1,37 +1,36 @@
 -- A leaf is read exactly where the grammar derives it, before the `}` behind it. Assumes nothing.
-use mathlib.Core.Path.{_≡_, refl, sym, ap, _∙_, subst}
+use mathlib.Core.Path.{_≡_, refl, sym, _∙_, subst}
 use mathlib.Core.Logic.{_≢_}
 use mathlib.Core.Bool.{Bool, true, false, cond, not, _||_, _&&_}
 use mathlib.Core.Option.{Option, none, some}
 use mathlib.Core.List.{List, [], _∷_, List·Memᴰ, List·Memᴰ·head, List·Memᴰ·tail}
-use Prim.Native.Nat.{ℕ, zero, suc, _≤_, _<_, _+_, _-_}
+use Prim.Native.Nat.{ℕ, zero, suc, _≤_, _+_, _-_}
 use native.Mathlib.Omega.{arith}
-use lib.Dec.{eqb, leb, ltb, lit<}
+use lib.Dec.{eqb, leb, ltb}
 use lib.ListN.{length}
 use borrow.Author.Tests.{eqb-true, eqb-false, ltb-false, le-ltb, leb-true, le-leb, lt-leb, eq-eqb, ne-eqb}
 use Rattle.lexis.specs.Bytes.{within}
 use Rattle.lexis.specs.Runs.{listed}
 use Rattle.lexis.specs.Spelling.{bar, dots, less, greater, atMost, atLeast, plusMinus, comma, trueWord, falseWord, closeBrace}
-use Rattle.lexis.specs.Spelling
 use Rattle.lexis.specs.Tokens.{tokenAt, integer, date, string, spelling, inner}
 use Rattle.lexis.specs.declared.Token.{Token}
 use Rattle.lexis.proofs.Cases.{and-left, and-right, by-cond}
 use Rattle.values.specs.Integers.{Pair, pair, inside, around}
 use Rattle.refusals.specs.Limits.{recordLimit, poolLimit, stringLimit, itemLimit}
-use Rattle.refusals.specs.Reading.{Reading, refused, got, refuse, andThen, unless}
+use Rattle.refusals.specs.Reading.{Reading, got}
 use Rattle.refusals.specs.declared.Cause.the-variants.{Impossible, OutOfRange, EmptyInterval, TooLong, TooManyItems, TooManyRecords, Overlap, PoolTooLarge}
 use Rattle.refusals.specs.Steps.{syntaxCause, expect}
-use Rattle.meaning.specs.Constraints.{Range, Text, Leaf, booleans, integers, dates, datePattern, timePattern}
+use Rattle.meaning.specs.Constraints.{Range, Text, Leaf, booleans, datePattern, timePattern}
 use Rattle.meaning.specs.Constraints
 use Rattle.items.specs.Intervals.{Ends, ends, undecided, kindBy, least, most, after, valueOf, possible, empty, closed, withLiteral, between, Interval, interval}
 use Rattle.items.specs.Intervals
-use Rattle.items.specs.Ranges.{Start, start, item, meet, overlaps, Ranges, range, withFirst, goOn, ranges}
-use Rattle.items.specs.Strings.{startString, withText, goOnStrings, strings}
-use Rattle.items.specs.Leaves.{isBoolean, booleanFlag, secondBoolean, booleanList, rangeLeaf, patternFlag, leaf}
+use Rattle.items.specs.Ranges.{Start, start, item, meet, overlaps, Ranges, range, ranges}
+use Rattle.items.specs.Strings.{startString, strings}
+use Rattle.items.specs.Leaves.{isBoolean, booleanFlag, secondBoolean, booleanList, rangeLeaf, leaf}
 use Rattle.grammar.specs.DataGrammar.{Distinct, noName, newName}
 use Rattle.grammar.specs.LeafGrammar.{Next, next, Literal, literal, DerivesEnds, DerivesItem, aValue, anInterval, DerivesItems, lastItem, moreItems, Meet, Apart, noItem, newItem, DerivesStrings, lastString, moreStrings, textsOf, Boolean, aTrue, aFalse, DerivesLeaf}
 use Rattle.grammar.specs.LeafGrammar
-use Rattle.grammar.proofs.Leaves.{true-or-false, false-true, none-some, or-cases, or-left, or-right, and-both}
+use Rattle.grammar.proofs.Leaves.{true-or-false, false-true, or-cases, or-left, or-right, and-both}
 use Rattle.grammar.proofs.Given.{Gives, got-gives, refuse-gives, cond-gives, unless-gives, then-gives, given, gives-map}
 use Rattle.grammar.proofs.Derived.{not-listed, listed-not, other, head-new, tail-new}
 
@@ -58,7 +57,7 @@ decided (asked isInteger) t = kept isInteger
 decided (asked isDate) t = kept isDate
 
 -- what each part of the reader gives
-data Took (s : List ℕ) (sort from : ℕ) : Token → ℕ → Type 0 where
+pub data Took (s : List ℕ) (sort from : ℕ) : Token → ℕ → Type 0 where
   took : {t : Token} → Next s from sort t → Took s sort from t (t .end)
 
 data LiteralGiven (s : List ℕ) (kind from : ℕ) : ℕ → ℕ → Type 0 where
@@ -101,7 +100,7 @@ apart-overlap x (y ∷ ys) h =
     (λ e. e)
 
 module _ (s : List ℕ) where
-  expect-gives : (sort from : ℕ) → Gives (Took s sort from) (expect s sort from)
+  pub expect-gives : (sort from : ℕ) → Gives (Took s sort from) (expect s sort from)
   unfolding expect
   expect-gives sort from =
       let t = tokenAt s from in
@@ -369,7 +368,7 @@ module _ (s : List ℕ) where
       texts (stringsGiven d a b) = LeafGrammar.stringItems d a b
 
 -- the other way round: what is derived is read
-expect-got : {s : List ℕ} {sort from : ℕ} {t : Token} → Next s from sort t → expect s sort from ≡ got t (t .end)
+pub expect-got : {s : List ℕ} {sort from : ℕ} {t : Token} → Next s from sort t → expect s sort from ≡ got t (t .end)
 unfolding expect
 expect-got {sort = sort} (next e) = rw (other e sort, eq-eqb sort sort refl)
 

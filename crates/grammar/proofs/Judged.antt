@@ -1,11 +1,10 @@
 -- Judging is valid exactly where the object admits the datum, and tells a failure exactly where it is the first. Assumes nothing.
 use mathlib.Core.Path.{_≡_, refl, sym, ap, _∙_, subst, subst₂}
 use mathlib.Core.Logic.{_≢_, _↔_}
-use mathlib.Core.Bool.{Bool, true, false, cond}
+use mathlib.Core.Bool.{true, cond}
 use mathlib.Core.Option.{Option, none, some}
 use mathlib.Core.List.{List}
 use Prim.Native.Nat.{ℕ}
-use native.Mathlib.Omega.{arith}
 use lib.Dec.{eqb}
 use borrow.Author.Tests.{eqb-true, eqb-false, ne-eqb}
 use Rattle.lexis.specs.Runs.{same}
@@ -21,7 +20,7 @@ use Rattle.grammar.specs.Admits.{TypeSuits, AttributeOf, first, further,
 use Rattle.grammar.specs.Admits
 use Rattle.grammar.specs.FirstFailure.{LeafFails, FirstFailure, AttributesFail, AttributeFails, ValueFails}
 use Rattle.grammar.specs.FirstFailure
-use Rattle.grammar.proofs.Leaves.{false-true, none-some, same-eq, same-self, same-ne, ne-same, Stands, word-stands, string-stands, true-or-false}
+use Rattle.grammar.proofs.Leaves.{none-some, same-eq, same-self, same-ne, ne-same, Stands, word-stands, string-stands}
 
 -- the member of a name is the one that is looked up
 looked-up : (w : List ℕ) (ms : Members) (c : Content) → memberOf w ms ≡ some c → MemberOf w c ms

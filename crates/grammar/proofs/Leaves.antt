@@ -1,13 +1,13 @@
 -- What a leaf admits, by the relation and by the definition. Assumes nothing.
 use mathlib.Core.Path.{_≡_, refl, sym, ap, _∙_, subst}
 use mathlib.Core.Logic.{_≢_}
-use mathlib.Core.Bool.{Bool, true, false, cond, _&&_, _||_}
+use mathlib.Core.Bool.{Bool, true, false, _&&_, _||_}
 use mathlib.Core.Option.{Option, none, some}
 use mathlib.Core.List.{List, [], _∷_, List·Memᴰ, List·Memᴰ·head, List·Memᴰ·tail}
 use Prim.Native.Nat.{ℕ, zero, suc, _≤_, _-_}
 use native.Mathlib.Omega.{arith}
 use lib.Dec.{eqb, leb, eqb·suc-zero}
-use borrow.Author.Tests.{eqb-true, eqb-false, leb-true, le-leb, eq-eqb}
+use borrow.Author.Tests.{eqb-true, leb-true, le-leb, eq-eqb}
 use Rattle.lexis.specs.Runs.{same}
 use Rattle.lexis.proofs.Cases.{by-cond, and-left, and-right}
 use Rattle.values.specs.Integers.{integerOf}

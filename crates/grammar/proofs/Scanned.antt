@@ -1,6 +1,6 @@
 -- The refusal that reading a data text tells is the least of all its faults. Assumes nothing.
 use mathlib.Core.Path.{_≡_, refl, sym, ap, _∙_, subst}
-use mathlib.Core.Logic.{_≢_, _↔_, _⊎_, inl, inr}
+use mathlib.Core.Logic.{_↔_, _⊎_, inl, inr}
 use mathlib.Core.Bool.{Bool, true, false, cond, not}
 use mathlib.Core.Option.{Option, none, some}
 use mathlib.Core.List.{List, [], _∷_, _++_, List·Memᴰ, List·Memᴰ·head, List·Memᴰ·tail}
@@ -8,7 +8,7 @@ use Prim.Native.Nat.{ℕ, zero, suc, _≤_, _<_, _+_}
 use native.Mathlib.Omega.{arith}
 use lib.Dec.{eqb, ltb, lit<, lit≤}
 use lib.ListN.{length}
-use borrow.Author.Tests.{eqb-true, eqb-false, eq-eqb, ne-eqb}
+use borrow.Author.Tests.{eqb-true, eq-eqb, ne-eqb}
 use Rattle.lexis.specs.Runs.{listed}
 use Rattle.lexis.specs.Spelling.{less, greater}
 use Rattle.lexis.specs.Tokens.{textEnd, unreadable, typeName, name, spelling, inner}
@@ -23,19 +23,15 @@ use Rattle.refusals.specs.Limits.{textLimit, levelLimit, nameLimit, stringLimit
 use Rattle.refusals.specs.Reading.{Reading, refused, got, unless}
 use Rattle.refusals.specs.Reading
 use Rattle.refusals.specs.declared.Cause.{Cause}
-use Rattle.refusals.specs.declared.Cause.the-variants.{TextTooLong, TooDeep, TooLong, BadWord, RepeatedName, EndsEarly, CannotFollow, Unreadable}
+use Rattle.refusals.specs.declared.Cause.the-variants.{TextTooLong, TooDeep, TooLong, BadWord, RepeatedName}
 use Rattle.refusals.specs.declared.Refusal.{Refusal}
 use Rattle.refusals.specs.Refusals.{refusal, numberOf}
 use Rattle.refusals.specs.Steps.{syntaxCause}
 use Rattle.refusals.proofs.Tokens.{strict-of}
 use Rattle.data.specs.Placed.{Span, Block, block, Entries, noMore, entry, Content, string, word, inside}
 use Rattle.data.specs.Data.{expect, typeFrom, leafFrom, Down, typed, contentFrom, nameFrom, members, blockFrom, outermost, blockOf, spanOf, innerSpan}
-use Rattle.grammar.specs.DataGrammar.{Next, next}
 use Rattle.grammar.specs.DataFaults.{Scan, ended, passed, faultsIn, and, andThen, noting, syntax, scanToken, scanType, scanString, scanWord, scanContent, scanName, scanMembers, scanBlock, scanOutermost, faults, Precedes, Least}
-use Rattle.grammar.specs.DataFaults
-use Rattle.grammar.proofs.Leaves.{true-or-false, false-true}
-use Rattle.grammar.proofs.Given.{Gives, given}
-use Rattle.grammar.proofs.Derived.{Took, took, expect-gives}
+use Rattle.grammar.proofs.Leaves.{false-true}
 
 -- what holds of all faults of a list
 data All (P : Refusal → Type 0) : List Refusal → Type 0 where
