@@ -1,20 +1,24 @@
 -- A data text is read to a tree exactly where the grammar derives the tree. Assumes nothing.
 use mathlib.Core.Path.{_≡_, refl, sym, ap, _∙_}
-use mathlib.Core.Logic.{_↔_}
+use mathlib.Core.Logic.{_↔_, _≢_}
 use mathlib.Core.Bool.{true, false, not}
 use mathlib.Core.Option.{Option, none, some}
 use mathlib.Core.List.{List, [], _∷_, List·Memᴰ, List·Memᴰ·head, List·Memᴰ·tail}
 use Prim.Native.Nat.{ℕ, zero, suc, _≤_, _<_, _+_}
 use native.Mathlib.Omega.{arith}
-use lib.Dec.{eqb, ltb}
-use lib.ListN.{length}
-use borrow.Author.Tests.{eqb-true, ltb-false, le-ltb, not-false, eq-eqb}
-use Rattle.lexis.specs.Runs.{listed, same}
-use Rattle.lexis.specs.Spelling.{less, greater}
+use lib.Dec.{eqb, leb, ltb}
+use lib.ListN.{length, drop}
+use borrow.Author.Tests.{eqb-true, leb-true, ltb-false, le-ltb, not-false, eq-eqb}
+use Rattle.lexis.specs.Text.{byte}
+use Rattle.lexis.specs.Bytes.{is, small, wordByte, stringByte, runByte}
+use Rattle.lexis.specs.Runs.{past, byteAt, all, startsWith, listed, same}
+use Rattle.lexis.specs.Blanks.{tokenStart}
+use Rattle.lexis.specs.Spelling.{less, greater, wordSort, keywords}
 use Rattle.lexis.specs.Tokens.{textEnd, typeName, name, spelling, inner}
 use Rattle.lexis.specs.Tokens
-use Rattle.lexis.specs.DataTokens.{dataTokenAt, typeTokenAt, equals, openRound, closeRound, wordRun}
+use Rattle.lexis.specs.DataTokens.{dataTokenOn, runSort, dataTokenAt, typeTokenAt, equals, openRound, closeRound, wordRun}
 use Rattle.lexis.specs.declared.Token.{Token}
+use Rattle.lexis.proofs.Cases.{by-cond, either}
 use Rattle.lexis.proofs.Places.{Found}
 use Rattle.lexis.proofs.DataPlaces.{data-token-found, type-token-found}
 use Rattle.values.specs.Words.{good}
@@ -25,7 +29,7 @@ use Rattle.refusals.specs.Steps.{syntaxCause}
 use Rattle.refusals.proofs.Readings.{Holds}
 use Rattle.data.specs.Placed.{Span, Block, block, Entries, noMore, entry, Content, string, word, inside, spelledBlock}
 use Rattle.data.specs.Data.{expect, datumOf, typeFrom, leafFrom, typed, contentFrom, nameFrom, members, blockFrom, outermost, blockOf, spanOf}
-use Rattle.data.proofs.TreeReading.{ContentRead, content-holds, block-holds}
+use Rattle.data.proofs.TreeReading.{BlockRead, outermost-holds, ContentRead, content-holds, block-holds}
 use Rattle.grammar.specs.DataGrammar.{Next, next, NextType, nextType, namesOf, Distinct, noName, newName, levelsOf, memberLevels, contentLevels, DerivesLeaf, aString, aWord, DerivesDatum, DerivesMembers, noMember, oneMore, DerivesContent, aDatum, aLeaf, DerivesData, wholeText}
 use Rattle.grammar.specs.DataGrammar
 use Rattle.grammar.proofs.Leaves.{true-or-false, false-true, same-eq, or-cases, or-left, or-right, eq-same}
@@ -430,22 +434,65 @@ outermost-got s b p (DataGrammar.typed {o = u} {t = w} {c = v} {l = l} {g = t} {
     round-outermost s (block (l .start) (some (spanOf w)) ms) (t .end) u w v o x a c
     (typed-got s 15 (v .end) (spanOf w) ms l t n (members-got ms s (l .end) _ m 15 (length s + 1) [] t g d (omega arith) (f .inside) (omega arith)))
 
-data-got : (s : List ℕ) (b : Block) → DerivesData s b → (p : ℕ) × (blockOf s ≡ got b p)
-unfolding blockOf
-data-got s b (wholeText {e = e} l d n k) = (e .end, rw (le-ltb textLimit (length s) l, outermost-got s b _ d k, expect-got n))
+-- the text's end, as a token, ends where the text does
+abbrev AtEnd : List ℕ → Token → Type 0
+AtEnd s t = t .sort ≡ textEnd → length s ≤ t .end
 
--- a data text is read to a tree exactly where the grammar derives it
-pub read-derives : (s : List ℕ) (b : Block) → ((p : ℕ) × (blockOf s ≡ got b p)) ↔ DerivesData s b
-read-derives s b = (λ h. given (Derived s) (blockOf s) b (h .0) (data-gives s) (h .1), λ h. data-got s b h)
+run-other : (w : List ℕ) (first : ℕ) → runSort w first ≢ textEnd
+run-other w first =
+    let P : ℕ → Type 0 = λ x. x ≢ textEnd in
+    either P (is small first)
+    (either P (all wordByte w) (either P (eqb (wordSort keywords w name) name) (λ e. omega arith) (λ e. omega arith)) (λ e. omega arith))
+    (λ e. omega arith)
+
+data-at-end : (s : List ℕ) (at : ℕ) → AtEnd s (dataTokenOn runSort s at)
+unfolding dataTokenOn Tokens.spelled
+data-at-end s at =
+    let P = AtEnd s in
+    let bs = drop at s in
+    by-cond P (leb (length s) at) (λ h e. leb-true (length s) at h)
+    (λ h. either P (runByte (byteAt s at)) (λ e. absurd (run-other _ _ e))
+    (either P (eqb (byteAt s at) (byte "\"")) (either P (eqb (byteAt s (past stringByte (at + 1) (drop (at + 1) s))) (byte "\"")) (λ e. absurd (omega arith)) (λ e. absurd (omega arith)))
+    (either P (startsWith (byte "<" ∷ []) bs) (λ e. absurd (omega arith))
+    (either P (startsWith (byte ">" ∷ []) bs) (λ e. absurd (omega arith))
+    (either P (startsWith (byte "=" ∷ []) bs) (λ e. absurd (omega arith))
+    (either P (startsWith (byte "(" ∷ []) bs) (λ e. absurd (omega arith))
+    (either P (startsWith (byte ")" ∷ []) bs) (λ e. absurd (omega arith)) (λ e. absurd (omega arith)))))))))
+
+next-at-end : {s : List ℕ} {from : ℕ} {t : Token} → Next s from textEnd t → from ≤ length s → t .end ≡ length s
+unfolding dataTokenAt
+next-at-end {s} {from} (next e) h =
+    let a : length s ≤ dataTokenAt s from .end = data-at-end s (tokenStart s from) e in
+    let b : dataTokenAt s from .end ≤ length s = data-token-found s from h .inside in
+    omega arith
+
+-- a datum that is read ends in the text
+outermost-inside : (s : List ℕ) (b : Block) (p : ℕ) → outermost s ≡ got b p → p ≤ length s
+unfolding Holds
+outermost-inside s b p e = let r : BlockRead s 0 b p = rw e at (outermost-holds s) in r .most
+
+data-got : (s : List ℕ) (b : Block) → DerivesData s b → blockOf s ≡ got b (length s)
+unfolding blockOf
+data-got s b (wholeText {p = p} {e = e} l d n k) =
+    let o = outermost-got s b p d k in
+    rw (le-ltb textLimit (length s) l, o, expect-got n, next-at-end n (outermost-inside s b p o))
+
+-- a data text is read to a tree, up to its end, exactly where the grammar derives the tree
+pub read-derives : (s : List ℕ) (b : Block) → (blockOf s ≡ got b (length s)) ↔ DerivesData s b
+read-derives s b = (λ h. given (Derived s) (blockOf s) b (length s) (data-gives s) h, λ h. data-got s b h)
+
+-- a text that is read is read up to its end
+pub read-whole : (s : List ℕ) (b : Block) (p : ℕ) → blockOf s ≡ got b p → p ≡ length s
+read-whole s b p h = let x = data-got s b (given (Derived s) (blockOf s) b p (data-gives s) h) in cc
 
 -- a text derives at most one tree
 pub one-tree : (s : List ℕ) (a b : Block) → DerivesData s a → DerivesData s b → a ≡ b
 one-tree s a b h k =
-    let x = data-got s a h .1 in
-    let y = data-got s b k .1 in
+    let x = data-got s a h in
+    let y = data-got s b k in
     cc
 
 -- so the datum that a text says is the derived tree, spelled out
-pub says-derived : (s : List ℕ) (b : Block) → DerivesData s b → (p : ℕ) × (datumOf s ≡ got (spelledBlock b s) p)
+pub says-derived : (s : List ℕ) (b : Block) → DerivesData s b → datumOf s ≡ got (spelledBlock b s) (length s)
 unfolding datumOf
-says-derived s b h = let x = data-got s b h in (x .0, rw (x .1))
+says-derived s b h = rw (data-got s b h)
