@@ -1,0 +1,9 @@
+-- The relations and the definitions are one.
+pub mod Leaves
+pub mod Judged
+pub mod Given
+pub mod Derived
+pub mod Scanned
+pub mod FaultTable
+pub mod Items
+pub mod Constrained

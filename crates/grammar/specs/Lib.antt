@@ -1,0 +1,6 @@
+pub mod Admits
+pub mod FirstFailure
+pub mod DataGrammar
+pub mod DataFaults
+pub mod LeafGrammar
+pub mod ConstraintGrammar
