@@ -2,6 +2,7 @@
 
 use crate::lent::{input, Lending, Output};
 use crate::told;
+use second::api::{CheckAnswer, MeaningAnswer};
 use second::generator::{rules, CheckCase, CompileCase, Counts, Job, JudgeCase, ListCase, MergeCase, NameCase, Other, Step, LONGEST_TABLE};
 use std::fmt::Debug;
 
@@ -121,12 +122,26 @@ impl Compared for ListCase {
         check(desk, &carried)?;
         for data in &self.data {
             judge(desk, &carried, 1 + sum, data)?;
+            meant(desk, &self.text, &carried, sum, data)?;
         }
         self.asked.iter().try_for_each(|&number| {
             name(desk, &carried, number)?;
             judge(desk, &carried, number, self.data.first().map_or(b"<>", |data| data))
         })
     }
+}
+
+/// What the two texts alone mean, by the second implementation, is what the product says of the carried table at record 1 + sum.
+fn meant(desk: &mut Desk, text: &[u8], carried: &[u8], sum: u32, data: &[u8]) -> Agreement {
+    let mut expected = match second::meaning(text, data) {
+        MeaningAnswer::Answer(answer) => told::judged(answer),
+        refused => return Err(format!("the text was compiled, yet the meaning says {refused:?}")),
+    };
+    desk.counts.add(Job::Meaning, expected.number);
+    if expected.record != 0 {
+        expected.record += sum;
+    }
+    same(&format!("judge at {} and the meaning", 1 + sum), binding::judge(&input(carried), 1 + sum, &input(data)), expected)
 }
 
 /// One merge of a list; a refused one changes neither table nor sum.
@@ -136,7 +151,7 @@ fn merge_step(desk: &mut Desk, step: &Step, carried: &mut Vec<u8>, sum: &mut u32
         Other::Carried => carried.clone(),
     };
     let (first, second) = if step.carried_first { (&*carried, &other) } else { (&other, &*carried) };
-    let sound = matches!(second::check(&other), second::api::CheckAnswer::Passed);
+    let sound = matches!(second::check(&other), CheckAnswer::Passed);
     let needed = if sound { rules::merged_length(first, second) } else { first.len() + second.len() };
     let Some((written, shift)) = merge(desk, first, second, step.little, step.room.bytes(needed), step.fill)? else {
         return Ok(());

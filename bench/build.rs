@@ -1,0 +1,4 @@
+//! Links libxml2, which bench/run sees to.
+fn main() {
+    println!("cargo:rustc-link-lib=xml2");
+}
