@@ -12,7 +12,5 @@ pub mod AttributesSteps
 pub mod TableSteps
 pub mod CheckedCompiled
 pub mod Computes
-pub mod RefusalTable
 pub mod CompileTable
 pub mod Examples
-pub mod MadeTable

@@ -2,11 +2,8 @@
 pub mod TreeReading
 pub mod Computes
 pub mod Examples
-pub mod TextTable
-pub mod LeafTable
 pub mod FaultTable
 pub mod CountTable
-pub mod MadeTable
 pub mod ExistenceSteps
 pub mod HeadSteps
 pub mod OpeningSteps

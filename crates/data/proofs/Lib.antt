@@ -5,8 +5,6 @@ pub mod TreeReading
 pub mod TextTape
 pub mod Computes
 pub mod Examples
-pub mod DataTable
-pub mod MadeTable
 mod TokenSteps
 mod ContentSteps
 mod NameSteps

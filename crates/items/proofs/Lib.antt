@@ -11,4 +11,3 @@ pub mod StringSteps
 pub mod LeafSteps
 pub mod Computes
 pub mod Examples
-pub mod LeafTable

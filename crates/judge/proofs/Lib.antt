@@ -1,9 +1,6 @@
 -- The laws and examples of the definitions, and the steps of the functions.
 pub mod Computes
-pub mod RefusalTable
 pub mod Examples
-pub mod MadeTable
-pub mod JudgeTable
 pub mod ItemSteps
 pub mod TableLaws
 pub mod Depth

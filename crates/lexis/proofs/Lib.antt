@@ -10,11 +10,6 @@ pub mod ReadBack
 pub mod SpelledBack
 pub mod StartBack
 pub mod Examples
-pub mod ByteTable
-pub mod BlankTable
-pub mod RunTable
-pub mod TokenTable
-pub mod DataTokenTable
 pub mod ByteLaws
 pub mod RunSteps
 pub mod SpellingSteps

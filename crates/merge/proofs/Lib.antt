@@ -3,12 +3,8 @@ pub mod MergeLaws
 pub mod CheckedMerge
 pub mod Answers
 pub mod Computes
-pub mod RefusalTable
-pub mod MergeTable
 pub mod Examples
 pub mod StepTable
-pub mod MadeTable
-pub mod LimitTable
 pub mod MoveSteps
 pub mod CopySteps
 pub mod MovedLaws

@@ -8,14 +8,7 @@ pub mod TreeLaws
 pub mod FieldLaws
 pub mod Computes
 pub mod WalkLaws
-pub mod RecordTable
-pub mod OrderTable
-pub mod CheckTable
-pub mod FaultTable
-pub mod TreeTable
 pub mod Examples
-pub mod NameTable
-pub mod MadeTable
 pub mod Hex
 pub mod Chains
 pub mod OrderSteps

@@ -6,9 +6,6 @@ pub mod CalendarLaws
 pub mod DateLaws
 pub mod PatternLaws
 pub mod Examples
-pub mod WordTable
-pub mod NumberTable
-pub mod PatternTable
 mod CalendarSteps
 mod IntegerSteps
 mod ShapeSteps

@@ -58,13 +58,37 @@ pub struct Table {
     pub groups: Vec<Group>,
 }
 
+/// The tables that stand in the crate whose definitions they compute, since edits of these must be refused there. The others have a crate of
+/// their own, so that an edit of code does not compute them anew.
+const BESIDE: [(&str, &str); 9] = [
+    ("refusals", "RefusalTable"),
+    ("meaning", "LeafTable"),
+    ("meaning", "JudgeTable"),
+    ("meaning", "MadeTable"),
+    ("constraint", "CountTable"),
+    ("constraint", "FaultTable"),
+    ("merge", "StepTable"),
+    ("compile", "CompileTable"),
+    ("demands", "ListTable"),
+];
+
 impl Table {
     pub fn file(&self) -> File {
-        File {
-            path: format!("crates/{}/proofs/{}.antt", self.holder, self.module),
-            text: self.text(),
-            cases: self.groups.iter().map(|group| group.cases.len()).sum(),
+        let (path, text) = if BESIDE.contains(&(self.holder, self.module)) {
+            (format!("crates/{}/proofs/{}.antt", self.holder, self.module), self.text())
+        } else {
+            (format!("crates/examples/proofs/{}.antt", self.outside_name()), from_outside(self.holder, &self.text()))
+        };
+        File { path, text, cases: self.groups.iter().map(|group| group.cases.len()).sum() }
+    }
+
+    /// The module's name among the tables of all crates: it begins with the crate's.
+    fn outside_name(&self) -> String {
+        let holder = capitalized(self.holder);
+        if self.module.starts_with(&holder) {
+            return String::from(self.module);
         }
+        holder + self.module
     }
 
     /// The file's content.
@@ -87,4 +111,16 @@ impl Table {
         let _ = write!(out, "unfolding wrong {} cases {}\nnone-wrong = refl\n", self.right, self.unfolding);
         out
     }
+}
+
+/// A word with its first letter as a capital.
+fn capitalized(word: &str) -> String {
+    let (first, rest) = word.split_at(1);
+    first.to_uppercase() + rest
+}
+
+/// A file of a crate as another crate writes it: what the crate's own files name as their own is named by the crate.
+fn from_outside(holder: &str, text: &str) -> String {
+    text.replace(&format!("{holder}·proofs.proofs."), &format!("{holder}.proofs."))
+        .replace(&format!("{holder}·specs.specs."), &format!("{holder}.specs."))
 }

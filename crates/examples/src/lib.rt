@@ -1,0 +1,1 @@
+// Tables of examples that the checker computes from the definitions of the layers below. They stand in proofs/.
