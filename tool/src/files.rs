@@ -41,16 +41,17 @@ pub fn write(name: &OsStr, bytes: &[u8]) -> Result<()> {
     if name == STANDARD {
         return write_standard(bytes);
     }
-    let target = resolved(Path::new(name))?;
-    match fs::metadata(&target) {
+    let target = Path::new(name);
+    match fs::metadata(target) {
         Ok(old) if old.is_dir() => Err(Error::from(ErrorKind::IsADirectory)),
         Ok(old) if old.is_file() => {
             // a file that may not be written is not replaced either
-            OpenOptions::new().write(true).open(&target)?;
-            replace(&target, bytes, Some(old.permissions()))
+            OpenOptions::new().write(true).open(target)?;
+            // through a link, the file that it leads to is replaced, and the link stays
+            replace(&fs::canonicalize(target)?, bytes, Some(old.permissions()))
         }
-        Ok(_) => write_through(&target, bytes),
-        Err(error) if error.kind() == ErrorKind::NotFound => replace(&target, bytes, None),
+        Ok(_) => write_through(target, bytes),
+        Err(error) if error.kind() == ErrorKind::NotFound && !is_link(target) => replace(target, bytes, None),
         Err(error) => Err(error),
     }
 }
@@ -62,12 +63,9 @@ pub fn write_standard(bytes: &[u8]) -> Result<()> {
     out.flush()
 }
 
-/// The file that a link leads to, or the name itself where there is no link.
-fn resolved(name: &Path) -> Result<PathBuf> {
-    match fs::symlink_metadata(name) {
-        Ok(found) if found.is_symlink() => fs::canonicalize(name),
-        _ => Ok(name.to_path_buf()),
-    }
+/// Whether a name is a link, though it may lead nowhere.
+fn is_link(name: &Path) -> bool {
+    fs::symlink_metadata(name).is_ok_and(|found| found.is_symlink())
 }
 
 /// Writes into a device or a pipe: there is nothing to replace.

@@ -139,6 +139,9 @@ fn a_device_is_written_and_not_replaced() {
     let folder = folder("device");
     assert_eq!(folder.run("compile a.cadl -o /dev/null").status, 0);
     assert!(!fs::metadata("/dev/null").unwrap().is_file());
+    // standard output is a pipe here, and takes the answer behind the table
+    let ran = folder.run("compile a.cadl -o /dev/stdout");
+    assert_eq!((ran.status, &ran.bytes[..49]), (0, &hex(SMALLEST_TABLE)[..]));
 }
 
 #[test]

@@ -48,7 +48,7 @@ impl Judgement<'_> {
         let answer = binding::judge(self.bytes, self.root, &data);
         let (report, status) = match answer.number {
             0 => (self.valid(name), Status::Fine),
-            20.. => (self.invalid(name, &data, answer), Status::Refused),
+            20..=29 => (self.invalid(name, &data, answer), Status::Refused),
             number => (refusals::data(name, &data, number, answer.place), Status::Refused),
         };
         output.tell(report);
