@@ -1,7 +1,9 @@
 //! What the tool prints: answers on standard output, trouble on standard error.
 
+use std::ffi::OsStr;
 use std::io::{ErrorKind, Write};
 
+use crate::arguments::Command;
 use crate::files;
 use crate::json::Object;
 
@@ -22,6 +24,11 @@ pub struct Report {
     pub plain: String,
     /// One object.
     pub json: Object,
+}
+
+/// The beginning of every object: the command, its outcome, and the file that it is about.
+pub fn outcome(command: Command, outcome: &str, file: &OsStr) -> Object {
+    Object::new().text("command", command.word()).text("outcome", outcome).text("file", &file.to_string_lossy())
 }
 
 /// Where answers go, and how.

@@ -4,14 +4,9 @@ use std::ffi::OsStr;
 
 use crate::arguments::Command;
 use crate::json::Object;
-use crate::output::Report;
+use crate::output::{outcome, Report};
 use crate::places::{excerpt, spot};
 use crate::{shown, words};
-
-/// The beginning of every object: the command, its outcome, and the file that it is about.
-pub fn outcome(command: Command, outcome: &str, file: &OsStr) -> Object {
-    Object::new().text("command", command.word()).text("outcome", outcome).text("file", &file.to_string_lossy())
-}
 
 /// A place in a text, as it begins a report and as it is shown behind it.
 pub struct Placed {

@@ -224,4 +224,31 @@ mod tests {
         bytes[24] = 0;
         assert_eq!(of_table(13, &bytes, 1).1.as_deref(), Some("record 1: mark 00AD is neither C0AD nor ADC0"));
     }
+
+    /// Bytes by chance, most of them ones that texts have, from a seed.
+    fn chance(seed: u32, length: usize) -> Vec<u8> {
+        const COMMON: &[u8] = b"<>=(){}|,*\"[]-.:+/ \t\r\n09azATF_?\xE2\x88\x88\x00\xFF";
+        let mut state = seed;
+        let mut byte = || {
+            state = state.wrapping_mul(1_664_525).wrapping_add(1_013_904_223);
+            COMMON[(state >> 16) as usize % COMMON.len()]
+        };
+        (0..length).map(|_| byte()).collect()
+    }
+
+    #[test]
+    fn there_are_words_and_an_excerpt_for_any_bytes_at_any_place() {
+        for seed in 0..300 {
+            let text = chance(seed, seed as usize % 150);
+            for place in 0..=text.len() {
+                for number in 0..25 {
+                    assert!(!of_constraint(number, &text, place).is_empty());
+                    assert!(!of_data(number, &text, place).is_empty());
+                    assert!(!of_table(number, &text, place as u64).0.is_empty());
+                }
+                let shown = crate::places::excerpt(&text, &crate::places::spot(&text, place));
+                assert!(shown.caret.ends_with('^') && shown.caret.len() <= shown.line.chars().count() + 1);
+            }
+        }
+    }
 }

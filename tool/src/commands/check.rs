@@ -4,9 +4,9 @@ use std::ffi::OsStr;
 
 use super::size;
 use crate::arguments::Command;
-use crate::output::{Output, Report, Status};
+use crate::output::{outcome, Output, Report, Status};
 use crate::records::{orders, summary, Table};
-use crate::refusals::{self, outcome};
+use crate::refusals;
 use crate::shown;
 
 /// Checks a table.

@@ -5,9 +5,9 @@ use std::ffi::OsStr;
 use super::{size, text, write};
 use crate::arguments::Command;
 use crate::limits;
-use crate::output::{Output, Report, Status};
+use crate::output::{outcome, Output, Report, Status};
 use crate::records::{summary, Table};
-use crate::refusals::{self, outcome};
+use crate::refusals;
 use crate::shown;
 
 /// Compiles a text and writes its table.

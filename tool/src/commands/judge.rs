@@ -4,10 +4,10 @@ use std::ffi::{OsStr, OsString};
 
 use super::{check, text};
 use crate::arguments::Command;
-use crate::output::{Output, Report, Status};
+use crate::output::{outcome, Output, Report, Status};
 use crate::paths;
 use crate::records::Table;
-use crate::refusals::{self, outcome, Placed};
+use crate::refusals::{self, Placed};
 use crate::shown;
 use crate::verdicts;
 

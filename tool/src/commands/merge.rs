@@ -6,9 +6,9 @@ use super::{size, write};
 use crate::arguments::Command;
 use crate::json::Object;
 use crate::limits;
-use crate::output::{Output, Report, Status};
+use crate::output::{outcome, Output, Report, Status};
 use crate::records::{summary, Table};
-use crate::refusals::{self, outcome};
+use crate::refusals;
 use crate::shown;
 
 /// Where a table of a merge went: its root, and by how much its records and names moved.

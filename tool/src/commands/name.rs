@@ -3,8 +3,8 @@
 use std::ffi::OsStr;
 
 use crate::arguments::Command;
-use crate::output::{Output, Report, Status};
-use crate::refusals::{self, outcome};
+use crate::output::{outcome, Output, Report, Status};
+use crate::refusals;
 use crate::shown;
 
 /// Hands out a record's name.

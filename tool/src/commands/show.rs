@@ -6,9 +6,8 @@ use super::check;
 use crate::arguments::Command;
 use crate::json::Object;
 use crate::leaves;
-use crate::output::{Output, Report, Status};
+use crate::output::{outcome, Output, Report, Status};
 use crate::records::{Order, Record, Table};
-use crate::refusals::outcome;
 use crate::shown;
 
 /// Shows all records of a table.
