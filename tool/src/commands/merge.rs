@@ -48,19 +48,15 @@ fn read_all(names: &[OsString]) -> Option<Vec<Vec<u8>>> {
 fn merged<'n>(names: &'n [OsString], tables: &[Vec<u8>], little: bool) -> Result<(Vec<u8>, Vec<Moved<'n>>), Report> {
     let mut whole = tables.first().cloned().unwrap_or_default();
     let mut moved = Vec::new();
-    for (index, (name, table)) in names.iter().zip(tables).enumerate().skip(1) {
+    for (pair, table) in names.windows(2).zip(tables.iter().skip(1)) {
+        let (before, name) = (&pair[0], &pair[1]);
         let mut out = vec![0; limits::TABLE];
         let answer = binding::merge(&whole, table, little, &mut out);
-        match (answer.number, answer.which) {
-            (0, _) => {}
-            (12 | 13, 1) => {
-                return Err(refusals::table(Command::Merge, &names[index - 1], &whole, answer.number, answer.place))
-            }
-            (12 | 13, _) => return Err(refusals::table(Command::Merge, name, table, answer.number, answer.place)),
-            _ => return Err(too_much(name, answer.number, &whole, table)),
+        if answer.number != 0 {
+            return Err(refused(answer, before, &whole, name, table));
         }
-        if index == 1 {
-            moved.push(Moved { name: &names[0], root: root(&whole), records: 0, names: 0 });
+        if moved.is_empty() {
+            moved.push(Moved { name: before, root: root(&whole), records: 0, names: 0 });
         }
         let (records, pool) = (answer.record_shift, answer.pool_shift);
         moved.push(Moved { name, root: root(table).saturating_add(records), records, names: pool });
@@ -68,6 +64,15 @@ fn merged<'n>(names: &'n [OsString], tables: &[Vec<u8>], little: bool) -> Result
         whole = out;
     }
     Ok((whole, moved))
+}
+
+/// The report of a merge that is refused. Only the first merge can refuse the table before: a whole is always a table.
+fn refused(answer: binding::Merged, before: &OsStr, whole: &[u8], name: &OsStr, table: &[u8]) -> Report {
+    match (answer.number, answer.which) {
+        (12 | 13, 1) => refusals::table(Command::Merge, before, whole, answer.number, answer.place),
+        (12 | 13, _) => refusals::table(Command::Merge, name, table, answer.number, answer.place),
+        _ => too_much(name, answer.number, whole, table),
+    }
 }
 
 /// The root in a table's header.
