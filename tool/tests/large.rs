@@ -50,6 +50,56 @@ fn the_longest_table_is_read_whole_and_one_byte_more_is_none() {
 }
 
 #[test]
+fn what_is_read_of_a_long_text_is_answered_as_the_whole() {
+    let table = hex(SMALLEST_TABLE);
+    let mut out = vec![0; 65_536];
+    for beginning in ["", SMALLEST, "<>", "?", "A matches {a matches {5, 5"] {
+        for (length, filling) in [(16_385, b' '), (16_386, 0), (100_000, b'\n'), (1_000_000, b'x')] {
+            let mut whole = beginning.as_bytes().to_vec();
+            whole.resize(length, filling);
+            let part = &whole[..16_385];
+            for little in [false, true] {
+                assert_eq!(binding::compile(&whole, little, &mut out), binding::compile(part, little, &mut out));
+            }
+            for root in [0, 1, 2] {
+                assert_eq!(binding::judge(&table, root, &whole), binding::judge(&table, root, part));
+            }
+        }
+    }
+}
+
+#[test]
+fn what_is_read_of_a_long_table_is_answered_as_the_whole() {
+    let smallest = hex(SMALLEST_TABLE);
+    let mut out = vec![0; 65_536];
+    let object = common::record(1, 0, [0, 1, 0, 0, 0]);
+    let beginnings = [
+        vec![],
+        smallest.clone(),
+        common::table(&vec![object.clone(); 2_047], &[b'A'; 16_384]),
+        // as long as its header says, with too many names or too many records
+        common::table(&vec![object.clone(); 2_047], &[b'A'; 16_385]),
+        common::table(std::slice::from_ref(&object), &[b'A'; 99_952]),
+        common::table(&vec![object; 5_000], b"A"),
+    ];
+    for beginning in beginnings {
+        for length in [65_537, 65_538, 100_000, 1_000_000] {
+            let mut whole = beginning.clone();
+            whole.resize(length, b'A');
+            let part = &whole[..65_537];
+            assert_eq!(binding::check(&whole), binding::check(part));
+            for record in [0, 1, 2_047, u32::MAX] {
+                assert_eq!(binding::name(&whole, record), binding::name(part, record));
+                assert_eq!(binding::judge(&whole, record, b"<>"), binding::judge(part, record, b"<>"));
+            }
+            let mut merge = |first: &[u8], second: &[u8]| binding::merge(first, second, false, &mut out);
+            assert_eq!(merge(&whole, &smallest), merge(part, &smallest));
+            assert_eq!(merge(&smallest, &whole), merge(&smallest, part));
+        }
+    }
+}
+
+#[test]
 fn hundred_megabytes_are_answered_at_once() {
     let folder = Folder::new("hundred_megabytes");
     folder.put("a.table", hex(SMALLEST_TABLE));

@@ -110,7 +110,7 @@ fn files_that_cannot_be_written() {
 #[test]
 fn files_without_permission() {
     let folder = folder("permission");
-    fs::set_permissions(folder.path("a.cadl"), Permissions::from_mode(0)).unwrap();
+    fs::set_permissions(folder.path("a.cadl"), Permissions::from_mode(0o000)).unwrap();
     if File::open(folder.path("a.cadl")).is_ok() {
         return; // whoever runs the tests may read and write everything
     }
