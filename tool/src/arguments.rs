@@ -353,7 +353,7 @@ mod tests {
         for bad in ["99999999999", "4294967296", "-1", "+1", "1x", "x"] {
             assert_eq!(wrong(&format!("judge t d --root {bad}")), format!("{outside}{bad}"));
         }
-        assert_eq!(wrong("judge t d --root="), outside);
+        assert_eq!(wrong("judge t d --root="), format!("{outside}''"));
     }
 
     #[test]

@@ -114,7 +114,7 @@ pub fn reason(error: &Error) -> String {
         ErrorKind::NotFound => "no such file or directory".to_string(),
         ErrorKind::PermissionDenied => "no permission".to_string(),
         ErrorKind::IsADirectory => "is a directory".to_string(),
-        ErrorKind::NotADirectory => "leads through a file that is no directory".to_string(),
+        ErrorKind::NotADirectory => "not a directory".to_string(),
         _ => error.to_string(),
     }
 }

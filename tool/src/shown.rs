@@ -17,8 +17,11 @@ pub fn bytes(bytes: &[u8]) -> String {
     out
 }
 
-/// A file's name, with control characters as `\xHH`.
+/// A file's name, with control characters as `\xHH`, and quotes where it is empty.
 pub fn file(name: &OsStr) -> String {
+    if name.is_empty() {
+        return "''".to_string();
+    }
     let mut out = String::new();
     for character in name.to_string_lossy().chars() {
         if character.is_control() {
@@ -61,6 +64,7 @@ mod tests {
     #[test]
     fn a_file_name_keeps_its_letters() {
         assert_eq!(file(OsStr::new("é\n.table")), "é\\x0A.table");
+        assert_eq!(file(OsStr::new("")), "''");
     }
 
     #[test]

@@ -346,7 +346,7 @@ fn show_prints_each_record() {
   17 big    Boolean       True
   18 big    attribute     old 0..0: any value
 ";
-    folder.run("show form.table").answers(0, &shown);
+    folder.run("show form.table").answers(0, shown);
     folder.put("empty", "");
     folder.run("show empty").answers(1, "empty: refused 12: not a table: no bytes\n");
     folder.compile("a", SMALLEST, "little");

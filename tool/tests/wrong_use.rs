@@ -79,11 +79,11 @@ fn files_that_cannot_be_read() {
         let run = |file: &str| folder.run(&command.replace("FILE", file));
         run("none").troubles("dubrakosh: none: no such file or directory\n");
         run("folder").troubles("dubrakosh: folder: is a directory\n");
-        run("a.table/none").troubles("dubrakosh: a.table/none: leads through a file that is no directory\n");
+        run("a.table/none").troubles("dubrakosh: a.table/none: not a directory\n");
     }
     let odd = OsString::from_vec(vec![b'n', 0xFF, b'\n']);
     folder.run_with([OsString::from("check"), odd]).troubles("dubrakosh: n\u{FFFD}\\x0A: no such file or directory\n");
-    folder.run_with(["check", ""]).troubles("dubrakosh: : no such file or directory\n");
+    folder.run_with(["check", ""]).troubles("dubrakosh: '': no such file or directory\n");
     assert_eq!(folder.files(), ["a.cadl", "a.dadl", "a.table", "folder"]);
 }
 
@@ -96,7 +96,7 @@ fn files_that_cannot_be_written() {
         run("folder").troubles("dubrakosh: folder: is a directory\n");
         run(".").troubles("dubrakosh: .: is a directory\n");
         run("none/x").troubles("dubrakosh: none/x: no such file or directory\n");
-        run("a.cadl/x").troubles("dubrakosh: a.cadl/x: leads through a file that is no directory\n");
+        run("a.cadl/x").troubles("dubrakosh: a.cadl/x: not a directory\n");
         run("/dev/full").troubles("dubrakosh: /dev/full: No space left on device (os error 28)\n");
         let long = "n".repeat(256);
         run(&long).troubles(&format!("dubrakosh: {long}: File name too long (os error 36)\n"));
