@@ -195,6 +195,27 @@ mod tests {
     }
 
     #[test]
+    fn the_three_ways_to_be_number_2() {
+        let constraint = |text: &str, place| of_constraint(2, text.as_bytes(), place);
+        assert_eq!(constraint("A ? matches {*}", 2), "unreadable");
+        assert_eq!(constraint("A A matches {*}", 2), "cannot follow here");
+        assert_eq!(constraint("A matches {*", 12), "text ends here too early");
+        assert_eq!(constraint("A matches {a matches {\"x", 22), "unreadable");
+        assert_eq!(constraint("A matches {yyyy-mm-d matches {*}}", 15), "unreadable");
+        assert_eq!(constraint("A matches {a matches {yyyy-mm-d}}", 22), "cannot follow here");
+        assert_eq!(constraint("A matches {a matches {5.5}}", 23), "unreadable");
+        assert_eq!(constraint("A matches {a matches {|5..<=9|}}", 26), "cannot follow here");
+        assert_eq!(constraint("A matches {a matches {2004-05-20}}", 22), "cannot follow here");
+        let data = |text: &str, place| of_data(2, text.as_bytes(), place);
+        assert_eq!(data("<matches = <5>>", 1), "unreadable");
+        assert_eq!(data("(t)<>", 1), "unreadable");
+        assert_eq!(data("<a = <b>>", 7), "cannot follow here");
+        assert_eq!(data("<5x>", 1), "cannot follow here");
+        assert_eq!(data("<a = <?>>", 6), "unreadable");
+        assert_eq!(data("<a = <5>", 8), "text ends here too early");
+    }
+
+    #[test]
     fn what_a_file_lacks_to_be_a_table() {
         let said = |bytes: &[u8]| of_table(12, bytes, 0).0;
         let good = table(&[big(1, 0, [0, 1, 0, 0, 0])], b"A");
