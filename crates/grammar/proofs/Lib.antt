@@ -3,6 +3,7 @@ pub mod Leaves
 pub mod Judged
 pub mod Given
 pub mod Derived
+pub mod Scans
 pub mod Scanned
 pub mod FaultTable
 pub mod Items
