@@ -7,4 +7,7 @@ pub mod Scans
 pub mod Scanned
 pub mod FaultTable
 pub mod Items
+pub mod LeafScanned
+pub mod ConstraintScanned
+pub mod ConstraintFaultTable
 pub mod Constrained

@@ -5,3 +5,5 @@ pub mod Faults
 pub mod DataFaults
 pub mod LeafGrammar
 pub mod ConstraintGrammar
+pub mod LeafFaults
+pub mod ConstraintFaults
