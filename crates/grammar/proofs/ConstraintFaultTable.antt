@@ -40,6 +40,10 @@ pub past-items : told (faults (bytes "A matches {a matches {1,2,3,4,5,6,7,8,9,10
 unfolding scansCompute
 past-items = refl
 
+pub past-strings : told (faults (bytes "A matches {a matches {\"a\",\"b\",\"c\",\"d\",\"e\",\"f\",\"g\",\"h\",\"i\",\"j\",\"k\",\"l\",\"m\",\"n\",\"o\",\"p\",\"q\",\"r\",\"r\"}}")) ≡ 7 ∷ 86 ∷ 9 ∷ 94 ∷ []
+unfolding scansCompute
+past-strings = refl
+
 -- a 17th item with a fault of its own, and a name that stood before
 pub past-names : told (faults (bytes "A matches {a matches {1,2,3,4,5,6,7,8,9,10,11,12,13,14,15,16,|017|,17,17} a matches {007}}")) ≡ 7 ∷ 61 ∷ 5 ∷ 62 ∷ 9 ∷ 70 ∷ 9 ∷ 74 ∷ 5 ∷ 85 ∷ []
 unfolding scansCompute

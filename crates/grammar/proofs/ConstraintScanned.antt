@@ -34,11 +34,8 @@ use Rattle.grammar.specs.LeafFaults.{scanToken}
 use Rattle.grammar.specs.ConstraintFaults.{scanOpening, scanBounds, scanExistence, scanType, scanCode, scanName, scanContent, behind, scanAttribute, scanAttributes, scanBody, scanObject, faults}
 use Rattle.grammar.proofs.Leaves.{false-true}
 use Rattle.grammar.proofs.Given.{Gives, refuse-gives, any-gives, given}
-use Rattle.grammar.proofs.Scans.{All, Lies, Within, within-passed, within-weaken, within-noting, within-next, within-cond, syntax-within, wanted-within, wanted-then, Later, samePlace, Agree, later-none, later-noting, agree-cond, agree-or, agree-noting, agree-map, agree-syntax, agree-passed, agree-then, wanted-agree, wanted-then-agree, text-faultless, text-least, text-lies, text-refused}
+use Rattle.grammar.proofs.Scans.{All, Lies, Within, within-passed, within-weaken, within-note, within-next, within-cond, syntax-within, wanted-within, wanted-then, Later, samePlace, Agree, later-none, later-noting, agree-cond, agree-or, agree-noting, agree-map, agree-syntax, agree-passed, agree-then, wanted-agree, wanted-then-agree, unit, text-faultless, text-least, text-lies, text-refused}
 use Rattle.grammar.proofs.LeafScanned.{behindLeaf, none-count, leaf-within, leaf-agree}
-
-abbrev unit : {A : Type 0} → A → Unit {0}
-unit a = tt
 
 abbrev same : Token → Token
 same t = t
@@ -153,11 +150,6 @@ module _ (s : List ℕ) where
       (λ z r w u v. agree-passed unit k tt r refl))))
       (λ e. agree-passed unit required tt from refl)
 
-  -- notes at a token that is passed
-  note : {A : Type 0} (from : ℕ) (t : Token) (b : Bool) (cause : Cause) (w : Scan A) → Found s from t → t .start < t .end → 2 ≤ numberOf cause → Within s from (t .end) w
-      → Within s from (t .end) (noting b cause (t .start) w)
-  note from t b cause w f m n x = within-noting s from (t .end) b cause (t .start) w (f .start) m (omega (arith, f .inside)) n x
-
   type-within : (level : ℕ) (c : Count) (from : ℕ) → from ≤ length s → Within s from (from + 1) (scanType s level c from)
   unfolding scanType numberOf
   type-within level c from h =
@@ -165,7 +157,7 @@ module _ (s : List ℕ) where
       let f = token-found s from h in
       wanted-then s t typeName from (from + 1) t _ f (λ e. let m = strict-of typeName (lit< tt) t s from f e in
       within-weaken s from (t .end) from (from + 1) _ (omega arith) (omega (arith, f .start))
-      (note from t _ TooDeep _ f m (lit≤ tt) (note from t _ TooLong _ f m (lit≤ tt) (note from t _ TooManyRecords _ f m (lit≤ tt) (note from t _ PoolTooLarge _ f m (lit≤ tt)
+      (within-note s from t _ TooDeep _ f m (lit≤ tt) (within-note s from t _ TooLong _ f m (lit≤ tt) (within-note s from t _ TooManyRecords _ f m (lit≤ tt) (within-note s from t _ PoolTooLarge _ f m (lit≤ tt)
       (within-passed s from (t .end) t (t .end) (omega arith) (f .inside)))))))
 
   name-within : (seen : List (List ℕ)) (c : Count) (from : ℕ) → from ≤ length s → Within s from (from + 1) (scanName s seen c from)
@@ -175,7 +167,7 @@ module _ (s : List ℕ) where
       let f = token-found s from h in
       wanted-then s t name from (from + 1) t _ f (λ e. let m = strict-of name (lit< tt) t s from f e in
       within-weaken s from (t .end) from (from + 1) _ (omega arith) (omega (arith, f .start))
-      (note from t _ TooLong _ f m (lit≤ tt) (note from t _ TooManyRecords _ f m (lit≤ tt) (note from t _ RepeatedName _ f m (lit≤ tt) (note from t _ PoolTooLarge _ f m (lit≤ tt)
+      (within-note s from t _ TooLong _ f m (lit≤ tt) (within-note s from t _ TooManyRecords _ f m (lit≤ tt) (within-note s from t _ RepeatedName _ f m (lit≤ tt) (within-note s from t _ PoolTooLarge _ f m (lit≤ tt)
       (within-passed s from (t .end) t (t .end) (omega arith) (f .inside)))))))
 
   code-within : (c : Count) (from : ℕ) → from ≤ length s → Within s from from (scanCode s c from)
@@ -186,7 +178,7 @@ module _ (s : List ℕ) where
       within-cond s from from (eqb (t .sort) code) _ _
       (λ e. let m = strict-of code (lit< tt) t s from f (eqb-true _ _ e) in
       within-weaken s from (t .end) from from _ (omega arith) (omega (arith, f .start))
-      (note from t _ TooLong _ f m (lit≤ tt) (note from t _ PoolTooLarge _ f m (lit≤ tt) (within-passed s from (t .end) _ (t .end) (omega arith) (f .inside)))))
+      (within-note s from t _ TooLong _ f m (lit≤ tt) (within-note s from t _ PoolTooLarge _ f m (lit≤ tt) (within-passed s from (t .end) _ (t .end) (omega arith) (f .inside)))))
       (λ e. within-passed s from from c from (omega arith) h)
 
   level-same : (levels level : ℕ) → levels + level ≡ levelLimit + 1 → eqb levels 0 ≡ eqb level (levelLimit + 1)

@@ -36,19 +36,18 @@ use Rattle.items.specs.Strings.{startString, strings, goOnStrings}
 use Rattle.items.specs.Leaves.{isBoolean, booleanFlag, secondBoolean, booleanList, rangeLeaf, patternFlag, leaf}
 use Rattle.constraint.specs.Objects.{Count, count}
 use Rattle.grammar.specs.Faults.{Scan, ended, passed, faultsIn, and, andThen, noting, syntax, wanted}
-use Rattle.grammar.specs.LeafFaults.{scanToken, unknown, scanLiteral, known, scanUpTo, scanAbove, outside, scanSpread, scanFrom, scanEnds, isEmpty, scanInterval, point, scanValue, sound, overlapping, keep, scanItem, scanMore, scanItems, firstLiteral, listKind, scanStrings, scanSecond, scanBooleans, scanPattern, isPattern, scanLeaf}
+use Rattle.grammar.specs.LeafFaults.{scanToken, unknown, scanLiteral, known, scanUpTo, scanAbove, outside, scanSpread, scanFrom, scanEnds, isEmpty, scanInterval, point, scanValue, sound, overlapping, keep, scanItem, scanMore, scanItems, firstLiteral, listKind, scanString, scanStrings, scanSecond, scanBooleans, scanPattern, isPattern, scanLeaf}
 use Rattle.grammar.specs.LeafFaults
 use Rattle.grammar.proofs.Leaves.{false-true, or-cases}
 use Rattle.grammar.proofs.Given.{Gives, got-gives, refuse-gives, cond-gives, unless-gives, then-gives, any-gives, given}
 use Rattle.grammar.proofs.Items.{Kind, isInteger, isDate}
-use Rattle.grammar.proofs.Scans.{All, allNone, Within, withinEnded, withinPassed, within-passed, within-weaken, within-noting, within-unmade, within-then, within-next, within-cond, syntax-within, wanted-then, Later, samePlace, First, firstOf, Agree, bothRefuse, bothPass, later-within, later-none, later-noting, later-then, first-noting, first-and, first-under, and-none, passes-low, agree-cond, agree-or, agree-noting, made-agree, unmade-agree, agree-map, agree-syntax, agree-passed, agree-then, wanted-then-agree}
+use Rattle.grammar.proofs.Scans.{All, allNone, Within, withinEnded, withinPassed, within-passed, within-weaken, within-noting, within-note, within-unmade, within-then, within-next, within-cond, syntax-within, wanted-then, Later, samePlace, First, firstOf, Agree, bothRefuse, bothPass, later-within, later-none, later-noting, later-then, first-noting, first-and, first-under, and-none, passes-low, agree-cond, agree-or, agree-noting, made-agree, unmade-agree, agree-map, agree-syntax, agree-passed, agree-then, wanted-then-agree}
 
 module _ (s : List ℕ) where
   -- a note at a token that is passed
   pub noted-within : {A : Type 0} (from : ℕ) (t : Token) (b : Bool) (cause : Cause) (a : A) → Found s from t → t .start < t .end → 2 ≤ numberOf cause
       → Within s from (t .end) (noting b cause (t .start) (passed [] a (t .end)))
-  noted-within from t b cause a f k n =
-      within-noting s from (t .end) b cause (t .start) _ (f .start) k (omega (arith, f .inside)) n (within-passed s from (t .end) a (t .end) (omega arith) (f .inside))
+  noted-within from t b cause a f k n = within-note s from t b cause _ f k n (within-passed s from (t .end) a (t .end) (omega arith) (f .inside))
 
   literal-passes : (kind from : ℕ) → 1 < kind → from ≤ length s → Within s from (tokenAt s from .start + 1) (scanLiteral s kind from)
   unfolding scanLiteral numberOf
@@ -153,8 +152,8 @@ module _ (s : List ℕ) where
       → Within s from (t .end) (scanItem t n c seen own more)
   unfolding numberOf
   item-within from n c seen t own more f k w b =
-      within-noting s from (t .end) (eqb n (itemLimit + 1)) TooManyItems (t .start) _ (f .start) k (omega (arith, f .inside)) (lit≤ tt)
-      (within-noting s from (t .end) (eqb (c .next) recordLimit) TooManyRecords (t .start) _ (f .start) k (omega (arith, f .inside)) (lit≤ tt)
+      within-note s from t _ TooManyItems _ f k (lit≤ tt)
+      (within-note s from t _ TooManyRecords _ f k (lit≤ tt)
       (within-then s from (t .end) (sound own) _ (sound-within from (t .end) own w) (λ x p l m.
       within-noting s from p (overlapping x seen) Overlap (t .start) _ (f .start) (omega arith) (omega arith) (lit≤ tt)
       (within-weaken s p p from p (more x p) (omega (arith, f .start)) (omega arith) (b x p l m)))))
@@ -193,13 +192,11 @@ module _ (s : List ℕ) where
       let t = tokenAt s from in
       let f = token-found s from h in
       let w = inner s t in
-      let long = ltb stringLimit (length w) in
       within-cond s from from (eqb (t .sort) string) _ _
       (λ e. let m = strict-of string (lit< tt) t s from f (eqb-true _ _ e) in
-      let note : (b : Bool) (cause : Cause) (v : Scan Count) → 2 ≤ numberOf cause → Within s from (t .end) v → Within s from (t .end) (noting b cause (t .start) v) =
-      λ b cause v z x. within-noting s from (t .end) b cause (t .start) v (f .start) m (omega (arith, f .inside)) z x in
       within-weaken s from (t .end) from from _ (omega arith) (omega (arith, f .start))
-      (note long TooLong _ (lit≤ tt) (note (eqb n (itemLimit + 1)) TooManyItems _ (lit≤ tt) (note (eqb (c .next) recordLimit) TooManyRecords _ (lit≤ tt) (note (not long && listed w seen) Overlap _ (lit≤ tt) (note (ltb poolLimit (c .pool + length w)) PoolTooLarge _ (lit≤ tt)
+      (within-note s from t _ TooLong _ f m (lit≤ tt) (within-note s from t _ TooManyItems _ f m (lit≤ tt) (within-note s from t _ TooManyRecords _ f m (lit≤ tt)
+      (within-note s from t _ Overlap _ f m (lit≤ tt) (within-note s from t _ PoolTooLarge _ f m (lit≤ tt)
       (within-weaken s (t .end) (t .end) from (t .end) _ (omega (arith, f .start)) (omega arith)
       (more-within (t .end) _ _ (f .inside) (λ y a b. strings-within fuel (n + 1) (count (c .next + 1) (c .pool + length w)) (cond (ltb stringLimit (length w)) seen (w ∷ seen)) y b (omega (arith, f .start)))))))))))
       (λ e. syntax-within s from from t f)
@@ -243,7 +240,7 @@ module _ (s : List ℕ) where
       let f = token-found s from h in
       let m = sort-strict from t f (boolean-sort t e) in
       within-weaken s from (t .end) from from _ (omega arith) (omega (arith, f .start))
-      (within-noting s from (t .end) (eqb (c .next) recordLimit) TooManyRecords (t .start) _ (f .start) m (omega (arith, f .inside)) (lit≤ tt)
+      (within-note s from t _ TooManyRecords _ f m (lit≤ tt)
       (within-weaken s (t .end) (t .end) from (t .end) _ (omega (arith, f .start)) (omega arith) (booleans-rest c t (t .end) (f .inside))))
 
   list-strict : (from : ℕ) → 1 < listKind s from
@@ -529,6 +526,13 @@ module _ (s : List ℕ) where
   unfolding literal expect
   value-literal from e = rw e refl
 
+  -- what is behind an item lies behind it
+  items-rest : (kind fuel n : ℕ) (c : Count) (seen : List Pair) (from : ℕ) → 1 < kind → from ≤ length s → length s < from + suc fuel → tokenAt s from .start < tokenAt s from .end
+      → (x : Option Pair) (p : ℕ) → tokenAt s from .end ≤ p → p ≤ length s → Within s p p (scanMore s (scanItems s kind fuel n c (keep x seen)) c p)
+  items-rest kind fuel n c seen from k h q m x p l j =
+      let f = token-found s from h in
+      more-within s p _ _ j (λ y u v. items-within s kind fuel n c (keep x seen) y k v (omega (arith, f .start)))
+
   items-agree : (kind : ℕ) → Kind kind → (left fuel n asked : ℕ) (c : Count) (seen : List Pair) (from : ℕ) → left + n ≡ itemLimit + 1 → from ≤ length s → length s < from + fuel
       → (tokenAt s from .sort ≡ bar → kindBy asked (firstLiteral s (tokenAt s from .end)) ≡ kind)
       → (eqb (tokenAt s from .sort) integer && not (eqb asked date)) ≡ (eqb (tokenAt s from .sort) integer && not (eqb kind date))
@@ -540,9 +544,7 @@ module _ (s : List ℕ) where
       let t = tokenAt s from in
       let f = token-found s from h in
       let next = count (c .next + 1) (c .pool) in
-      let rest : t .start < t .end → (x : Option Pair) (p : ℕ) → t .end ≤ p → p ≤ length s → Within s p p (scanMore s (scanItems s kind fuel (n + 1) next (keep x seen)) next p) =
-      λ m x p l j. more-within s p _ _ j (λ y u v. items-within s kind fuel (n + 1) next (keep x seen) y (kind-strict k) v (omega (arith, f .start)))
-      in
+      let rest = items-rest kind fuel (n + 1) next seen from (kind-strict k) h q in
       rw b
       (start-agree (eqb (t .sort) bar) (eqb (t .sort) integer && not (eqb kind date)) t _ _ _ _
       (λ e. let m = strict-of bar (lit< tt) t s from f (eqb-true _ _ e) in
@@ -556,9 +558,7 @@ module _ (s : List ℕ) where
       let t = tokenAt s from in
       let f = token-found s from h in
       let next = count (c .next + 1) (c .pool) in
-      let rest : t .start < t .end → (x : Option Pair) (p : ℕ) → t .end ≤ p → p ≤ length s → Within s p p (scanMore s (scanItems s kind fuel (n + 1) next (keep x seen)) next p) =
-      λ m x p l j. more-within s p _ _ j (λ y u v. items-within s kind fuel (n + 1) next (keep x seen) y (kind-strict k) v (omega (arith, f .start)))
-      in
+      let rest = items-rest kind fuel (n + 1) next seen from (kind-strict k) h q in
       let early : eqb n 17 ≡ false = ne-eqb n 17 (λ x. omega arith) in
       let on : t .start < t .end → (i : Interval) (p : ℕ) → kind ≡ i .kind → t .end ≤ p → p ≤ length s
       → Agree (behindItems c) (Ranges.goOn s (c .next) i (ranges s left (i .kind) (c .next + 1) (i .pair ∷ seen)) p) (scanMore s (scanItems s kind fuel (n + 1) next (i .pair ∷ seen)) next p) =
@@ -620,75 +620,98 @@ list-value false a h = refl
 bar-integer : bar ≡ integer → ⊥
 bar-integer e = omega arith
 
--- a string, which may be too long
-string-start : {f : List Text → Count} (b : Bool) (t : Token) (a : Token → ℕ → Reading Token) (g : Token → ℕ → Reading (List Text)) (v : Scan Count)
-    → (b ≡ true → Agree f (Reading.andThen (a t (t .end)) g) v)
-    → Agree f (Reading.andThen (Reading.andThen (cond b (got t (t .end)) (syntaxFault t)) a) g) (cond b v (syntax t))
-string-start true t a g v h = h refl
-string-start {f} false t a g v h = agree-syntax f t
-
-long-agree : {f : List Text → Count} (b : Bool) (t : Token) (g : Token → ℕ → Reading (List Text)) (w : Bool → Scan Count) → All (Later (refusal TooLong (t .start))) (faultsIn (w true))
-    → Agree f (g t (t .end)) (w false)
-    → Agree f (Reading.andThen (unless b TooLong (t .start) (got t (t .end))) g) (noting b TooLong (t .start) (w b))
-long-agree true t g w l h = made-agree true TooLong (t .start) (w true) refl l
-long-agree false t g w l h = unmade-agree false TooLong (t .start) (g t (t .end)) (w false) refl h
-
 text-count : (c : Count) (w : List ℕ) (n : ℕ) (l : List Text) → behindTexts c (record { number = n; text = w } ∷ l) ≡ behindTexts (count (c .next + 1) (c .pool + length w)) l
 text-count c w n l =
     let a : c .next + suc (length l) ≡ c .next + 1 + length l = omega arith in
     let b : c .pool + length (w ++ textPool l) ≡ c .pool + length w + length (textPool l) = rw length-append (omega arith) in
     λ i. record { next = a i; pool = b i }
 
+-- a string's token, and what follows it
+string-start : {f : List Text → Count} (b : Bool) (t : Token) (a : Token → ℕ → Reading Token) (g : Token → ℕ → Reading (List Text)) (v : Scan Count)
+    → (b ≡ true → Agree f (Reading.andThen (a t (t .end)) g) v)
+    → Agree f (Reading.andThen (Reading.andThen (cond b (got t (t .end)) (syntaxFault t)) a) g) (cond b v (syntax t))
+string-start true t a g v h = h refl
+string-start {f} false t a g v h = agree-syntax f t
+
+unless-then : {f : List Text → Count} (b : Bool) (t : Token) (g : Token → ℕ → Reading (List Text)) (v : Scan Count) → Agree f (unless b TooLong (t .start) (g t (t .end))) v
+    → Agree f (Reading.andThen (unless b TooLong (t .start) (got t (t .end))) g) v
+unless-then true t g v h = h
+unless-then false t g v h = h
+
+module _ (s : List ℕ) (n : ℕ) (c : Count) (seen : List (List ℕ)) (t : Token) (more : Scan Count) (behind : (cause : Cause) → All (Later (refusal cause (t .start))) (faultsIn more)) where
+  string-later : (cause : Cause) → numberOf cause ≤ 8
+      → All (Later (refusal cause (t .start))) (faultsIn (noting (eqb (c .next) recordLimit) TooManyRecords (t .start) (noting (listed (inner s t) seen) Overlap (t .start)
+      (noting (ltb poolLimit (c .pool + length (inner s t))) PoolTooLarge (t .start) more))))
+  unfolding numberOf
+  string-later cause j =
+      later-noting (refusal cause (t .start)) _ TooManyRecords (t .start) _ (samePlace refl j) (later-noting (refusal cause (t .start)) _ Overlap (t .start) _ (samePlace refl (omega arith))
+      (later-noting (refusal cause (t .start)) _ PoolTooLarge (t .start) more (samePlace refl (omega arith)) (behind cause)))
+
+  -- a 17th string
+  full-string : n ≡ itemLimit + 1 → Agree (behindTexts c) (unless (ltb stringLimit (length (inner s t))) TooLong (t .start) (refuse TooManyItems (t .start))) (scanString s t n c seen more)
+  unfolding numberOf
+  full-string e =
+      agree-noting (ltb stringLimit (length (inner s t))) TooLong (t .start) _ _
+      (λ x. made-agree (eqb n (itemLimit + 1)) TooManyItems (t .start) _ (eq-eqb n 17 e) (string-later TooManyItems (lit≤ tt)))
+      (later-noting (refusal TooLong (t .start)) _ TooManyItems (t .start) _ (samePlace refl (lit≤ tt)) (string-later TooLong (lit≤ tt)))
+
+  -- a string before the 17th
+  string-agree : (r : Reading (List Text)) → eqb n (itemLimit + 1) ≡ false → (ltb stringLimit (length (inner s t)) ≡ false → Agree (behindTexts c) r more)
+      → Agree (behindTexts c) (unless (ltb stringLimit (length (inner s t))) TooLong (t .start) (unless (eqb (c .next) recordLimit) TooManyRecords (t .start)
+      (unless (listed (inner s t) seen) Overlap (t .start) (unless (ltb poolLimit (c .pool + length (inner s t))) PoolTooLarge (t .start) r)))) (scanString s t n c seen more)
+  unfolding numberOf
+  string-agree r e a =
+      agree-noting (ltb stringLimit (length (inner s t))) TooLong (t .start) _ _
+      (λ x. unmade-agree (eqb n (itemLimit + 1)) TooManyItems (t .start) _ _ e
+      (agree-noting (eqb (c .next) recordLimit) TooManyRecords (t .start) _ _
+      (λ y. agree-noting (listed (inner s t) seen) Overlap (t .start) _ _
+      (λ z. agree-noting (ltb poolLimit (c .pool + length (inner s t))) PoolTooLarge (t .start) r more (λ v. a x) (behind PoolTooLarge))
+      (later-noting (refusal Overlap (t .start)) _ PoolTooLarge (t .start) more (samePlace refl (lit≤ tt)) (behind Overlap)))
+      (later-noting (refusal TooManyRecords (t .start)) _ Overlap (t .start) _ (samePlace refl (lit≤ tt))
+      (later-noting (refusal TooManyRecords (t .start)) _ PoolTooLarge (t .start) more (samePlace refl (lit≤ tt)) (behind TooManyRecords)))))
+      (later-noting (refusal TooLong (t .start)) _ TooManyItems (t .start) _ (samePlace refl (lit≤ tt)) (string-later TooLong (lit≤ tt)))
+
+kept : {A : Type 0} (b : Bool) (x y : A) → b ≡ false → cond b x y ≡ y
+kept true x y e = absurd (false-true (sym e))
+kept false x y e = refl
+
 module _ (s : List ℕ) where
+  -- what is behind a string comes after it
+  strings-later : (fuel n : ℕ) (c : Count) (seen : List (List ℕ)) (from : ℕ) → from ≤ length s → length s < from + suc fuel → tokenAt s from .start < tokenAt s from .end
+      → (cause : Cause) → All (Later (refusal cause (tokenAt s from .start))) (faultsIn (scanMore s (scanStrings s fuel n c seen) c (tokenAt s from .end)))
+  strings-later fuel n c seen from h q m cause =
+      let t = tokenAt s from in
+      let f = token-found s from h in
+      later-within s (refusal cause (t .start)) (t .end) (t .end) _ m (more-within s (t .end) _ _ (f .inside) (λ y a d. strings-within s fuel n c seen y d (omega (arith, f .start))))
+
   strings-agree : (left fuel n : ℕ) (c : Count) (seen : List (List ℕ)) (from : ℕ) → left + n ≡ itemLimit + 1 → from ≤ length s → length s < from + fuel
       → Agree (behindTexts c) (strings s left (c .next) (c .pool) seen from) (scanStrings s fuel n c seen from)
-  unfolding strings startString expect scanStrings numberOf
+  unfolding strings startString expect scanStrings
   strings-agree zero zero n c seen from z h q = absurd (omega arith)
   strings-agree (suc left) zero n c seen from z h q = absurd (omega arith)
   strings-agree zero (suc fuel) n c seen from z h q =
       let t = tokenAt s from in
       let f = token-found s from h in
       let w = inner s t in
-      let next = count (c .next + 1) (c .pool + length w) in
-      let more : Bool → Scan Count = λ b. scanMore s (scanStrings s fuel (n + 1) next (cond b seen (w ∷ seen))) next (t .end) in
-      let rest : t .start < t .end → (b : Bool) (cause : Cause) → numberOf cause ≤ 8
-      → All (Later (refusal cause (t .start))) (faultsIn (noting (eqb (c .next) recordLimit) TooManyRecords (t .start) (noting (not b && listed w seen) Overlap (t .start) (noting (ltb poolLimit (c .pool + length w)) PoolTooLarge (t .start) (more b))))) =
-      λ m b cause j. let x = refusal cause (t .start) in
-      later-noting x _ TooManyRecords (t .start) _ (samePlace refl j) (later-noting x _ Overlap (t .start) _ (samePlace refl (omega arith)) (later-noting x _ PoolTooLarge (t .start) (more b) (samePlace refl (omega arith))
-      (later-within s x (t .end) (t .end) (more b) m (more-within s (t .end) _ _ (f .inside) (λ y a d. strings-within s fuel (n + 1) next (cond b seen (w ∷ seen)) y d (omega (arith, f .start)))))))
-      in
-      string-start (eqb (t .sort) string) t _ _ _ (λ e. let m = strict-of string (lit< tt) t s from f (eqb-true _ _ e) in
-      long-agree (ltb stringLimit (length w)) t _ (λ b. noting (eqb n 17) TooManyItems (t .start) (noting (eqb (c .next) recordLimit) TooManyRecords (t .start) (noting (not b && listed w seen) Overlap (t .start) (noting (ltb poolLimit (c .pool + length w)) PoolTooLarge (t .start) (more b)))))
-      (later-noting (refusal TooLong (t .start)) _ TooManyItems (t .start) _ (samePlace refl (lit≤ tt)) (rest m true TooLong (lit≤ tt)))
-      (made-agree (eqb n 17) TooManyItems (t .start) _ (eq-eqb n 17 (omega arith)) (rest m false TooManyItems (lit≤ tt))))
+      string-start (eqb (t .sort) string) t _ _ _ (λ e. unless-then (ltb stringLimit (length w)) t _ _
+      (full-string s n c seen t _ (strings-later fuel (n + 1) (count (c .next + 1) (c .pool + length w)) (cond (ltb stringLimit (length w)) seen (w ∷ seen)) from h q (strict-of string (lit< tt) t s from f (eqb-true _ _ e)))
+      (omega arith)))
   strings-agree (suc left) (suc fuel) n c seen from z h q =
       let t = tokenAt s from in
       let f = token-found s from h in
       let w = inner s t in
       let next = count (c .next + 1) (c .pool + length w) in
-      let more : Bool → Scan Count = λ b. scanMore s (scanStrings s fuel (n + 1) next (cond b seen (w ∷ seen))) next (t .end) in
-      let last : t .start < t .end → (b : Bool) (cause : Cause) → All (Later (refusal cause (t .start))) (faultsIn (more b)) =
-      λ m b cause. later-within s (refusal cause (t .start)) (t .end) (t .end) (more b) m (more-within s (t .end) _ _ (f .inside) (λ y a d. strings-within s fuel (n + 1) next (cond b seen (w ∷ seen)) y d (omega (arith, f .start))))
-      in
-      string-start (eqb (t .sort) string) t _ _ _ (λ e. let m = strict-of string (lit< tt) t s from f (eqb-true _ _ e) in
-      long-agree (ltb stringLimit (length w)) t _ (λ b. noting (eqb n 17) TooManyItems (t .start) (noting (eqb (c .next) recordLimit) TooManyRecords (t .start) (noting (not b && listed w seen) Overlap (t .start) (noting (ltb poolLimit (c .pool + length w)) PoolTooLarge (t .start) (more b)))))
-      (let x = refusal TooLong (t .start) in
-      later-noting x _ TooManyItems (t .start) _ (samePlace refl (lit≤ tt)) (later-noting x _ TooManyRecords (t .start) _ (samePlace refl (lit≤ tt)) (later-noting x _ Overlap (t .start) _ (samePlace refl (lit≤ tt))
-      (later-noting x _ PoolTooLarge (t .start) (more true) (samePlace refl (lit≤ tt)) (last m true TooLong)))))
-      (unmade-agree (eqb n 17) TooManyItems (t .start) _ _ (ne-eqb n 17 (λ x. omega arith))
-      (agree-noting (eqb (c .next) recordLimit) TooManyRecords (t .start) _ _
-      (λ x. agree-noting (listed w seen) Overlap (t .start) _ _
-      (λ y. agree-noting (ltb poolLimit (c .pool + length w)) PoolTooLarge (t .start) _ (more false)
-      (λ v. let u = tokenAt s (t .end) in
+      let u = tokenAt s (t .end) in
       let g = token-found s (t .end) (f .inside) in
-      agree-cond (eqb (u .sort) comma) _ _ _ _
+      string-start (eqb (t .sort) string) t _ _ _ (λ e. let m = strict-of string (lit< tt) t s from f (eqb-true _ _ e) in
+      unless-then (ltb stringLimit (length w)) t _ _
+      (string-agree s n c seen t _ (strings-later fuel (n + 1) next (cond (ltb stringLimit (length w)) seen (w ∷ seen)) from h q m) _ (ne-eqb n 17 (λ x. omega arith)) (λ x.
+      subst (λ v. Agree (behindTexts c) (goOnStrings s (record { number = c .next; text = w }) (strings s left (c .next + 1) (c .pool + length w) (w ∷ seen)) (t .end)) (scanMore s (scanStrings s fuel (n + 1) next v) next (t .end)))
+      (sym (kept (ltb stringLimit (length w)) seen (w ∷ seen) x))
+      (agree-cond (eqb (u .sort) comma) _ _ _ _
       (λ d. agree-map (strings s left (c .next + 1) (c .pool + length w) (w ∷ seen) (u .end)) (λ l. record { number = c .next; text = w } ∷ l) _ (λ l. text-count c w (c .next) l)
       (strings-agree left fuel (n + 1) next (w ∷ seen) (u .end) (omega arith) (g .inside) (omega (arith, f .start, g .start, g .order))))
-      (λ d. agree-passed (behindTexts c) _ _ (t .end) (sym (text-count c w (c .next) [] ∙ none-count next))))
-      (last m false PoolTooLarge))
-      (later-noting (refusal Overlap (t .start)) _ PoolTooLarge (t .start) (more false) (samePlace refl (lit≤ tt)) (last m false Overlap)))
-      (let x = refusal TooManyRecords (t .start) in
-      later-noting x _ Overlap (t .start) _ (samePlace refl (lit≤ tt)) (later-noting x _ PoolTooLarge (t .start) (more false) (samePlace refl (lit≤ tt)) (last m false TooManyRecords))))))
+      (λ d. agree-passed (behindTexts c) _ _ (t .end) (sym (text-count c w (c .next) [] ∙ none-count next)))))))
 
   boolean-list-agree : (c : Count) (from : ℕ) → from ≤ length s → isBoolean (tokenAt s from) ≡ true
       → Agree (behindLeaf c) (unless (eqb (c .next) recordLimit) TooManyRecords (tokenAt s from .start) (booleanList s (c .next) (tokenAt s from))) (scanBooleans s c (tokenAt s from))

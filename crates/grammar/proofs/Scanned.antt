@@ -31,11 +31,7 @@ use Rattle.data.specs.Data.{expect, typeFrom, leafFrom, Down, typed, contentFro
 use Rattle.grammar.specs.Faults.{andThen, noting, Least, Alike}
 use Rattle.grammar.specs.DataFaults.{Part, scanToken, scanType, scanString, scanWord, scanContent, scanName, scanMembers, scanBlock, scanOutermost, faults}
 use Rattle.grammar.proofs.Leaves.{false-true}
-use Rattle.grammar.proofs.Scans.{Lies, Within, within-passed, within-weaken, within-noting, within-next, within-cond, syntax-within, wanted-within, wanted-then, samePlace, Agree, later-within, later-noting, agree-cond, agree-noting, agree-map, agree-syntax, agree-passed, agree-then, wanted-agree, wanted-then-agree, text-faultless, text-least, text-lies, text-refused}
-
--- the parts behind need no value
-abbrev unit : {A : Type 0} → A → Unit {0}
-unit a = tt
+use Rattle.grammar.proofs.Scans.{Lies, Within, within-passed, within-weaken, within-noting, within-next, within-cond, syntax-within, wanted-within, wanted-then, samePlace, Agree, later-within, later-noting, agree-cond, agree-noting, agree-map, agree-syntax, agree-passed, agree-then, wanted-agree, wanted-then-agree, unit, text-faultless, text-least, text-lies, text-refused}
 
 module _ (s : List ℕ) where
   token-within : (sort from : ℕ) → from ≤ length s → Within s from from (scanToken s sort from)

@@ -76,6 +76,11 @@ module _ (s : List ℕ) where
       within-and from low (refusal cause p ∷ []) w (allMore (record { low = h; high = m; number = n }) allNone) (allMore (record { under = k }) allNone) x
   within-noting from low false cause p w h k m n x = within-and from low [] w allNone allNone x
 
+  -- a note at a token
+  pub within-note : {A : Type 0} (from : ℕ) (t : Token) (b : Bool) (cause : Cause) (w : Scan A) → Found s from t → t .start < t .end → 2 ≤ numberOf cause → Within s from (t .end) w
+      → Within s from (t .end) (noting b cause (t .start) w)
+  within-note from t b cause w f m n x = within-noting from (t .end) b cause (t .start) w (f .start) m (omega (arith, f .inside)) n x
+
   pub within-unmade : {A : Type 0} (from low : ℕ) (cause : Cause) (p : ℕ) (w : Scan A) → Within s from low w → Within s from low (noting false cause p w)
   unfolding noting
   within-unmade from low cause p w x = within-and from low [] w allNone allNone x
@@ -322,6 +327,10 @@ long-lies s false (passed fs c p) x a m = inr (all-mem x (within-lies (passed fs
 -- a text's reading, where the text is not too long
 abbrev pub textReading : {A : Type 0} → List ℕ → Reading A → Reading A
 textReading s r = unless (ltb textLimit (length s)) TextTooLong textLimit r
+
+-- no value
+abbrev pub unit : {A : Type 0} → A → Unit {0}
+unit a = tt
 
 module _ {A B : Type 0} (s : List ℕ) (f : A → B) (r : Reading A) (w : Scan B) (inside : Within s 0 0 w) (agrees : Agree f r w) where
   outcome : Outcome (textReading s r) (textFaults s w)

@@ -166,22 +166,26 @@ firstLiteral s from =
 abbrev pub listKind : List ℕ → ℕ → ℕ
 listKind s from = let t = tokenAt s from in cond (eqb (t .sort) bar && eqb (firstLiteral s (t .end) .sort) date) date integer
 
--- the strings from a place on, the first of which is the n-th; `seen` are those before it that are not too long
+-- the n-th string, the token t, which counts from there; `seen` are those before it that are not too long
+abbrev pub scanString : List ℕ → Token → ℕ → Count → List (List ℕ) → Scan Count → Scan Count
+scanString s t n c seen more =
+    let w = inner s t in
+    noting (ltb stringLimit (length w)) TooLong (t .start)
+    (noting (eqb n (itemLimit + 1)) TooManyItems (t .start)
+    (noting (eqb (c .next) recordLimit) TooManyRecords (t .start)
+    (noting (listed w seen) Overlap (t .start)
+    (noting (ltb poolLimit (c .pool + length w)) PoolTooLarge (t .start)
+    more))))
+
+-- the strings from a place on, the first of which is the n-th; `fuel` is as above
 unfoldable pub scanStrings : List ℕ → ℕ → ℕ → Count → List (List ℕ) → ℕ → Scan Count
 scanStrings s zero n c seen from = ended (refusal EndsEarly (length s + 1) ∷ [])
 scanStrings s (suc fuel) n c seen from =
     let t = tokenAt s from in
     let w = inner s t in
-    let long = ltb stringLimit (length w) in
     let behind = count (c .next + 1) (c .pool + length w) in
-    cond (eqb (t .sort) string)
-    (noting long TooLong (t .start)
-    (noting (eqb n (itemLimit + 1)) TooManyItems (t .start)
-    (noting (eqb (c .next) recordLimit) TooManyRecords (t .start)
-    (noting (not long && listed w seen) Overlap (t .start)
-    (noting (ltb poolLimit (c .pool + length w)) PoolTooLarge (t .start)
-    (scanMore s (scanStrings s fuel (n + 1) behind (cond long seen (w ∷ seen))) behind (t .end)))))))
-    (syntax t)
+    let kept = cond (ltb stringLimit (length w)) seen (w ∷ seen) in
+    cond (eqb (t .sort) string) (scanString s t n c seen (scanMore s (scanStrings s fuel (n + 1) behind kept) behind (t .end))) (syntax t)
 
 -- the second Boolean, behind a comma; one record holds both
 unfoldable pub scanSecond : List ℕ → Count → Token → ℕ → Scan Count
