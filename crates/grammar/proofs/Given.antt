@@ -32,6 +32,12 @@ module _ {A : Type 0} (P : A → ℕ → Type 0) where
   then-gives Q (refused x) go h k = tt
   then-gives Q (got b p) go h k = k b p h
 
+  -- whatever the first reading gives
+  pub any-gives : {B : Type 0} (r : Reading B) (go : B → ℕ → Reading A) → ((b : B) (p : ℕ) → Gives P (go b p)) → Gives P (andThen r go)
+  unfolding Gives
+  any-gives (refused x) go k = tt
+  any-gives (got b p) go k = k b p
+
   -- what holds of what a reading gives holds of a value that it is
   pub given : (r : Reading A) (a : A) (p : ℕ) → Gives P r → r ≡ got a p → P a p
   unfolding Gives

@@ -35,7 +35,7 @@ use Rattle.grammar.proofs.Given.{Gives, got-gives, refuse-gives, cond-g
 use Rattle.grammar.proofs.Derived.{not-listed, listed-not, other, head-new, tail-new}
 
 -- the kinds of lists, and how a list's kind is decided
-data Kind : ℕ → Type 0 where
+pub data Kind : ℕ → Type 0 where
   isInteger : Kind integer
   isDate : Kind date
 
