@@ -1,4 +1,4 @@
--- Demands 1 and 2, as far as the definitions go. Assumes nothing.
+-- Demand 1: the numbers, and the output buffers. Assumes nothing.
 use mathlib.Core.Path.{_≡_, refl}
 use mathlib.Core.Bool.{Bool, true, false, cond}
 use mathlib.Core.Option.{Option, none, some}
@@ -26,7 +26,7 @@ use Rattle.merge.specs.Answer
 use Rattle.compile.specs.Answer.{compileAnswer, tableOf, write}
 use Rattle.compile.specs.Answer as Compile
 use Rattle.judge.specs.Answer.{judgeAnswer}
-use Rattle.demands.specs.Demands.{Demand1, Demand2}
+use Rattle.demands.specs.Demands.{Demand1}
 
 compile-kept : (text : List ℕ) (little : Bool) (out : List ℕ) (r : Refusal) → compileAnswer text little out .answer ≡ Compile.refused r → compileAnswer text little out .out ≡ out
 unfolding compileAnswer
@@ -100,17 +100,3 @@ numbered NoName = (omega arith, omega arith)
 pub demand1 : Demand1
 unfolding Kept
 demand1 = record { numbered = numbered; compiling = compile-kept; merging = merge-kept }
-
-pub demand2 : Demand2
-unfolding compileAnswer judgeAnswer
-demand2 = record {
-  accepted = λ text tree end little out e h.
-      let b : ltb (length out) (length (tableOf little tree)) ≡ false = le-ltb (length out) (length (tableOf little tree)) h in
-      rw (e, b) (refl, take-append-seam (tableOf little tree) (drop (length (tableOf little tree)) out), drop-append-seam (tableOf little tree) (drop (length (tableOf little tree)) out));
-  refused = λ text r little out e. rw e;
-  too-short = λ text tree end little out e h. rw (e, lt-ltb (length out) (length (tableOf little tree)) h);
-  verdict = λ table root form o d end a b c. rw (a, b, c);
-  no-table = λ table root form r a. rw a;
-  no-object = λ table root form a b. rw (a, b);
-  no-datum = λ table root form o r a b c. rw (a, b, c);
-}

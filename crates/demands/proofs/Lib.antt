@@ -1,5 +1,6 @@
 -- The proofs of the demands.
 pub mod Buffers
+pub mod Rules
 pub mod Merges
 pub mod Marked
 pub mod Examples

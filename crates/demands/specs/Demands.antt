@@ -2,9 +2,10 @@
 -- contracts, each an equation for every input: compile's answer and output are compileAnswer's, merge's are mergeAnswer's, judge's answer is judgeAnswer's, check's is tableFault's, and
 -- name's are nameAnswer's. Assumes nothing.
 use mathlib.Core.Path.{_≡_}
+use mathlib.Core.Logic.{_↔_, _⊎_}
 use mathlib.Core.Bool.{Bool}
 use mathlib.Core.Option.{none, some}
-use mathlib.Core.List.{List}
+use mathlib.Core.List.{List, _++_}
 use Prim.Native.Nat.{ℕ, _+_, _≤_, _<_}
 use lib.ListN.{length, take, drop}
 use Rattle.refusals.specs.Reading
@@ -14,9 +15,8 @@ use Rattle.refusals.specs.Refusals.{numberOf, refusal}
 use Rattle.refusals.specs.declared.Cause.{Cause}
 use Rattle.refusals.specs.declared.Cause.the-variants.{OutputTooShort, NotAnObject}
 use Rattle.meaning.specs.Constraints.{Object}
-use Rattle.meaning.specs.Data.{Datum}
-use Rattle.meaning.specs.Judging.{judge}
-use Rattle.data.specs.Data.{datumOf}
+use Rattle.meaning.specs.Verdicts
+use Rattle.data.specs.Placed.{Block, spelledBlock}
 use Rattle.table.specs.Records.{imageOf}
 use Rattle.table.specs.Check.{tableFault}
 use Rattle.table.specs.Trees.{objectAt}
@@ -28,6 +28,13 @@ use Rattle.compile.specs.Answer.{compileAnswer, tableOf}
 use Rattle.compile.specs.Answer as Compile
 use Rattle.judge.specs.Answer.{JudgeAnswer, judgeText, judgeAnswer, movedAnswer}
 use Rattle.judge.specs.Answer as Judge
+use Rattle.grammar.specs.ConstraintGrammar.{DerivesConstraint}
+use Rattle.grammar.specs.DataGrammar.{DerivesData}
+use Rattle.grammar.specs.Admits.{Admits}
+use Rattle.grammar.specs.FirstFailure.{FirstFailure}
+use Rattle.grammar.specs.Faults.{Least, Alike}
+use Rattle.grammar.specs.ConstraintFaults
+use Rattle.grammar.specs.DataFaults
 
 -- what two texts alone mean: no table is made on the way. (A constraint text that is refused has no meaning; its refusal stands in, and demand 3 never asks for it.)
 abbrev pub meaningBy : Reading Object → List ℕ → JudgeAnswer
@@ -45,25 +52,53 @@ pub record Demand1 : Type 0 where
   pub merging : (first second : List ℕ) (little : Bool) (out : List ℕ) (table : ℕ) (r : Refusal)
       → mergeAnswer first second little out .answer ≡ Answer.refused table r → mergeAnswer first second little out .out ≡ out
 
--- Demand 2: a text is accepted exactly when the rules read a tree from it; then, where the output has room, the table written is that tree's, and what lies behind it stays. A datum
--- under an object of a checked table gets the verdict of the meaning; each other answer is given exactly when its rule says so, in the order table, root, data text. The cases leave none out.
--- Carried by the contracts of compile and judge.
+-- a text without fault whose table the output has no room for: 11, at the text's end
+pub record TooShort (text : List ℕ) (little : Bool) (out : List ℕ) (r : Refusal) : Type 0 where
+  pub tree : Object
+  pub derived : DerivesConstraint text tree
+  pub short : length out < length (tableOf little tree)
+  pub told : r ≡ refusal OutputTooShort (length text)
+
+-- the root asked is an object of a table that passes the check
+pub record RootIs (table : List ℕ) (root : ℕ) (o : Object) : Type 0 where
+  pub checked : tableFault table ≡ none
+  pub object : objectAt (imageOf table) root ≡ some o
+
+-- Demand 2: a constraint text is accepted exactly when the rules accept it, a datum is valid exactly when they admit it, and each refusal, with its place, is given when its rule says so and at
+-- no other time. The rules are document 01's, as relations: the productions of crates/grammar/specs/ConstraintGrammar.antt and DataGrammar.antt, the faults of ConstraintFaults.antt and
+-- DataFaults.antt, and Admits.antt with FirstFailure.antt. Carried by the contracts of compile and judge.
 pub record Demand2 : Type 0 where
-  pub accepted : (text : List ℕ) (tree : Object) (end : ℕ) (little : Bool) (out : List ℕ)
-      → constraintOf text ≡ got tree end → length (tableOf little tree) ≤ length out
-      → (compileAnswer text little out .answer ≡ Compile.done (length (tableOf little tree)))
-      × (take (length (tableOf little tree)) (compileAnswer text little out .out) ≡ tableOf little tree)
-      × (drop (length (tableOf little tree)) (compileAnswer text little out .out) ≡ drop (length (tableOf little tree)) out)
-  pub refused : (text : List ℕ) (r : Refusal) (little : Bool) (out : List ℕ) → constraintOf text ≡ Reading.refused r → compileAnswer text little out .answer ≡ Compile.refused r
-  pub too-short : (text : List ℕ) (tree : Object) (end : ℕ) (little : Bool) (out : List ℕ)
-      → constraintOf text ≡ got tree end → length out < length (tableOf little tree) → compileAnswer text little out .answer ≡ Compile.refused (refusal OutputTooShort (length text))
-  pub verdict : (table : List ℕ) (root : ℕ) (form : List ℕ) (o : Object) (d : Datum) (end : ℕ)
-      → tableFault table ≡ none → objectAt (imageOf table) root ≡ some o → datumOf form ≡ got d end → judgeAnswer table root form ≡ Judge.judged (judge o d)
+  -- 'Constraint text': "object: TYPE, optional [code], `matches {`, then `*` or one or more attributes, `}`. The text is one object". Accepted exactly where the productions derive a tree whose
+  -- table the output has room for; they derive at most one.
+  pub accepted : (text : List ℕ) (little : Bool) (out : List ℕ) (size : ℕ)
+      → (compileAnswer text little out .answer ≡ Compile.done size) ↔ ((tree : Object) × DerivesConstraint text tree × (size ≡ length (tableOf little tree)) × (size ≤ length out))
+  pub one-tree : (text : List ℕ) (a b : Object) → DerivesConstraint text a → DerivesConstraint text b → a ≡ b
+  -- 'Table': "Compiling numbers records and fills the pool in text order"; "on success only bytes past the table's end stay".
+  pub written : (text : List ℕ) (tree : Object) (little : Bool) (out : List ℕ)
+      → DerivesConstraint text tree → length (tableOf little tree) ≤ length out
+      → compileAnswer text little out .out ≡ tableOf little tree ++ drop (length (tableOf little tree)) out
+  -- 'Numbers of refusal': "In one text the smallest place wins, then the smallest number; 1 comes before all, 11 after all". A refusal is the least of the text's faults or, where it has none,
+  -- 11 at its end; and the least fault is told.
+  pub refused : (text : List ℕ) (little : Bool) (out : List ℕ) (r : Refusal)
+      → compileAnswer text little out .answer ≡ Compile.refused r → Least r (ConstraintFaults.faults text) ⊎ TooShort text little out r
+  pub least-refused : (text : List ℕ) (little : Bool) (out : List ℕ) (x : Refusal)
+      → Least x (ConstraintFaults.faults text) → (r : Refusal) × (compileAnswer text little out .answer ≡ Compile.refused r) × Alike x r
+  pub short-refused : (text : List ℕ) (little : Bool) (out : List ℕ) (r : Refusal) → TooShort text little out r → compileAnswer text little out .answer ≡ Compile.refused r
+  -- 'Meaning': "An object admits a block whose type, if written, is its own and whose members satisfy each attribute". Under an object of a checked table a data text is valid exactly where the
+  -- productions of 'Data text' derive a datum that the object admits.
+  pub valid : (table : List ℕ) (root : ℕ) (form : List ℕ) (o : Object)
+      → RootIs table root o → (judgeAnswer table root form ≡ Judge.judged Verdicts.valid) ↔ ((b : Block) × DerivesData form b × Admits o (spelledBlock b form))
+  -- "Judging walks type first, then attributes in table order, each finished before the next; the first failure is told".
+  pub fails : (table : List ℕ) (root : ℕ) (form : List ℕ) (o : Object) (reason number place : ℕ)
+      → RootIs table root o
+      → (judgeAnswer table root form ≡ Judge.judged (Verdicts.fails reason number place)) ↔ ((b : Block) × DerivesData form b × FirstFailure o (spelledBlock b form) reason number place)
+  -- "Judge: table, 14, then the whole data text (1 to 5, 9), then 20 to 24".
+  pub unread : (table : List ℕ) (root : ℕ) (form : List ℕ) (o : Object) (r : Refusal) → RootIs table root o → judgeAnswer table root form ≡ Judge.refused r → Least r (DataFaults.faults form)
+  pub least-unread : (table : List ℕ) (root : ℕ) (form : List ℕ) (o : Object) (x : Refusal)
+      → RootIs table root o → Least x (DataFaults.faults form) → (r : Refusal) × (judgeAnswer table root form ≡ Judge.refused r) × Alike x r
   pub no-table : (table : List ℕ) (root : ℕ) (form : List ℕ) (r : Refusal) → tableFault table ≡ some r → judgeAnswer table root form ≡ Judge.refused r
   pub no-object : (table : List ℕ) (root : ℕ) (form : List ℕ)
       → tableFault table ≡ none → objectAt (imageOf table) root ≡ none → judgeAnswer table root form ≡ Judge.refused (refusal NotAnObject root)
-  pub no-datum : (table : List ℕ) (root : ℕ) (form : List ℕ) (o : Object) (r : Refusal)
-      → tableFault table ≡ none → objectAt (imageOf table) root ≡ some o → datumOf form ≡ Reading.refused r → judgeAnswer table root form ≡ Judge.refused r
 
 -- Demand 3: take any text that compiling accepts, into either order, then any list of merges, refused ones included. Judging any data by the carried table, lent alone, at record
 -- 1 + the sum gives what the two texts alone mean, with the record moved by the sum. Carried by the contracts of compile, merge and judge.
