@@ -25,7 +25,7 @@ use Rattle.meaning.specs.Constraints.{Object}
 use Rattle.constraint.specs.Objects.{count, objectFrom}
 use Rattle.constraint.specs.Texts.{constraintOf}
 use Rattle.constraint.proofs.TreeReading.{ObjectRead, object-holds}
-use Rattle.grammar.specs.LeafGrammar.{Next, next}
+use Rattle.grammar.specs.LeafGrammar.{next}
 use Rattle.grammar.proofs.Given.{Gives, got-gives, refuse-gives, unless-gives, then-gives, given}
 use Rattle.grammar.proofs.Items.{Took, took, expect-gives}
 use Rattle.grammar.proofs.Derived.{AtEnd}
