@@ -76,15 +76,25 @@ pub past-counts : told-from 2_046 16_380 (bytes "A[at1] matches {bc matches {1, 
 unfolding scansCompute
 past-counts = refl
 
--- the token that starts record 2,048, and what is left when a record is one token before it
-pub each-record : told-from 2_048 0 (bytes "A matches {b matches {*}}") ++ told-from 2_047 0 (bytes "A matches {b matches {*}}") ++ told-from 2_046 0 (bytes "A matches {a matches {True, False}}")
-    ++ told-from 2_046 0 (bytes "A matches {a matches {yyyy-mm-dd}}") ++ told-from 2_046 0 (bytes "A matches {a matches {\"b\"}}") ++ told-from 2_046 0 (bytes "A matches {a matches {|1|}}")
-    ++ told-from 2_046 0 (bytes "A matches {a matches {B matches {*}}}") ++ told-from 2_045 0 (bytes "A matches {a matches {True, False}}")
-    ≡ 8 ∷ 0 ∷ 8 ∷ 11 ∷ 8 ∷ 22 ∷ 8 ∷ 22 ∷ 8 ∷ 22 ∷ 8 ∷ 22 ∷ 8 ∷ 22 ∷ []
+-- a full pool at a type, a code and a name
+pub past-pool : told-from 5 16_384 (bytes "A[at1] matches {b matches {007}}") ≡ 10 ∷ 0 ∷ 10 ∷ 1 ∷ 10 ∷ 16 ∷ 5 ∷ 27 ∷ []
 unfolding scansCompute
-each-record = refl
+past-pool = refl
+
+-- each token that may start record 2,048, and a fault behind it; two Booleans are one record
+pub past-records : told-from 2_048 0 (bytes "A matches {b matches {007}}") ++ told-from 2_047 0 (bytes "A matches {b matches {007}}") ++ told-from 2_046 0 (bytes "A matches {a matches {True, True}}")
+    ++ told-from 2_046 0 (bytes "A matches {a matches {yyyy-mm-dd} a matches {*}}") ++ told-from 2_046 0 (bytes "A matches {a matches {\"b\", \"b\"}}") ++ told-from 2_046 0 (bytes "A matches {a matches {|1|, 1}}")
+    ++ told-from 2_046 0 (bytes "A matches {a matches {B matches {b matches {007}}}}") ++ told-from 2_045 0 (bytes "A matches {a matches {True, False} b matches {*}}")
+    ≡ 8 ∷ 0 ∷ 5 ∷ 22 ∷ 8 ∷ 11 ∷ 5 ∷ 22 ∷ 8 ∷ 22 ∷ 9 ∷ 28 ∷ 8 ∷ 22 ∷ 9 ∷ 34 ∷ 8 ∷ 22 ∷ 9 ∷ 27 ∷ 8 ∷ 22 ∷ 9 ∷ 27 ∷ 8 ∷ 22 ∷ 5 ∷ 44 ∷ 8 ∷ 35 ∷ []
+unfolding scansCompute
+past-records = refl
+
+-- a text that is too long is scanned all the same
+pub past-the-limit : told (faults (replicate 16_384 0x20)) ++ told (faults (replicate 16_384 0x20 ++ bytes "A matches {a matches {007}}")) ≡ 2 ∷ 16_384 ∷ 1 ∷ 16_384 ∷ 5 ∷ 16_406 ∷ []
+unfolding scansCompute
+past-the-limit = refl
 
 -- nothing is scanned behind a syntax fault
-pub up-to-syntax : told (faults (bytes "A matches {a matches {007} a existence matches {2} matches {007}}")) ≡ 5 ∷ 22 ∷ 9 ∷ 27 ∷ 2 ∷ 48 ∷ []
+pub up-to-syntax : told (faults (bytes "A matches {b existence matches {0..1} matches {007} b existence matches {2} matches {007}}")) ≡ 5 ∷ 47 ∷ 9 ∷ 52 ∷ 2 ∷ 73 ∷ []
 unfolding scansCompute
 up-to-syntax = refl

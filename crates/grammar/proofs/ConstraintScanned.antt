@@ -1,7 +1,7 @@
 -- The refusal that reading a constraint text tells is the least of all its faults. Assumes nothing.
-use mathlib.Core.Path.{_≡_, refl, sym, _∙_, subst}
+use mathlib.Core.Path.{_≡_, refl, sym, _∙_}
 use mathlib.Core.Logic.{_↔_, _⊎_}
-use mathlib.Core.Bool.{Bool, true, false, cond, _||_}
+use mathlib.Core.Bool.{Bool, cond, _||_}
 use mathlib.Core.List.{List, [], _∷_, _++_, List·Memᴰ}
 use Prim.Native.Nat.{ℕ, zero, suc, _≤_, _<_, _+_}
 use native.Mathlib.Omega.{arith}
@@ -12,11 +12,10 @@ use Rattle.lexis.specs.Runs.{listed}
 use Rattle.lexis.specs.Spelling.{matches, existence, openBrace, closeBrace, dots, star}
 use Rattle.lexis.specs.Tokens.{tokenAt, textEnd, typeName, name, code, spelling, inner}
 use Rattle.lexis.specs.declared.Token.{Token}
-use Rattle.lexis.proofs.Places.{Found, token-found}
+use Rattle.lexis.proofs.Places.{token-found}
 use Rattle.refusals.specs.Limits.{textLimit, levelLimit, recordLimit, poolLimit, nameLimit, codeLimit}
 use Rattle.refusals.specs.Reading.{Reading, refused, got}
 use Rattle.refusals.specs.Reading
-use Rattle.refusals.specs.declared.Cause.{Cause}
 use Rattle.refusals.specs.declared.Cause.the-variants.{TextTooLong, TooDeep, TooLong, TooManyRecords, RepeatedName, PoolTooLarge}
 use Rattle.refusals.specs.declared.Refusal.{Refusal}
 use Rattle.refusals.specs.Refusals.{refusal, numberOf}
@@ -27,18 +26,17 @@ use Rattle.meaning.specs.Constraints
 use Rattle.meaning.specs.Counting.{objectRecords, objectPool, attributeRecords, attributePool, valueRecords, valuePool}
 use Rattle.items.specs.Leaves
 use Rattle.constraint.specs.Existence.{opening, isNought, isOne, fromNought, fromOne, bounds, existenceFrom}
-use Rattle.constraint.specs.Objects.{Count, count, objectType, objectCode, attributeName, value, Attribute, attributeFrom, past, attributes, body, objectBy, objectFrom}
+use Rattle.constraint.specs.Objects.{Count, count, objectType, objectCode, attributeName, value, Attribute, attributeFrom, past, attributes, body, objectFrom}
 use Rattle.constraint.specs.Texts.{constraintOf}
-use Rattle.grammar.specs.Faults.{Scan, passed, faultsIn, andThen, noting, syntax, wanted, Least, Alike}
+use Rattle.grammar.specs.Faults.{Scan, passed, andThen, syntax, wanted, Least, Alike}
 use Rattle.grammar.specs.LeafFaults.{scanToken}
 use Rattle.grammar.specs.ConstraintFaults.{scanOpening, scanBounds, scanExistence, scanType, scanCode, scanName, scanContent, behind, scanAttribute, scanAttributes, scanBody, scanObject, faults}
-use Rattle.grammar.proofs.Leaves.{false-true}
 use Rattle.grammar.proofs.Given.{Gives, refuse-gives, any-gives, given}
-use Rattle.grammar.proofs.Scans.{All, Lies, Within, within-passed, within-weaken, within-note, within-next, within-cond, syntax-within, wanted-within, wanted-then, Later, samePlace, Agree, later-none, later-noting, agree-cond, agree-or, agree-noting, agree-map, agree-syntax, agree-passed, agree-then, wanted-agree, wanted-then-agree, unit, text-faultless, text-least, text-lies, text-refused}
-use Rattle.grammar.proofs.LeafScanned.{behindLeaf, none-count, leaf-within, leaf-agree}
+use Rattle.grammar.proofs.Scans.{Lies, Within, within-passed, within-weaken, within-note, within-next, within-cond, syntax-within, wanted-within, wanted-then, samePlace, Agree, later-none, later-noting, agree-cond, agree-or, agree-noting, agree-map, agree-syntax, agree-passed, agree-then, wanted-agree, wanted-then-agree, unit, text-faultless, text-least, text-lies, text-refused}
+use Rattle.grammar.proofs.LeafScanned.{none-count, leaf-within, leaf-agree}
 
-abbrev same : Token → Token
-same t = t
+abbrev itself : Token → Token
+itself t = t
 
 -- the counts behind an object, attributes and a value
 abbrev behindObject : Count → Object → Count
@@ -55,7 +53,6 @@ unfolding attributeRecords attributePool
 attribute-count c a xs =
     let v = a .value in
     let x : c .next + suc (valueRecords v + attributeRecords xs) ≡ c .next + 1 + valueRecords v + attributeRecords xs = omega arith in
-    let e = length-append (valuePool v) (attributePool xs) in
     let y : c .pool + length (a .name ++ (valuePool v ++ attributePool xs)) ≡ c .pool + length (a .name) + length (valuePool v) + length (attributePool xs) = rw (length-append, length-append) (omega arith) in
     λ i. record { next = x i; pool = y i }
 
@@ -74,15 +71,15 @@ module _ (s : List ℕ) where
   token-within : (sort from : ℕ) → from ≤ length s → Within s from from (scanToken s sort from)
   token-within sort from h = wanted-within s (tokenAt s from) sort from (tokenAt s from) (token-found s from h)
 
-  token-agree : (sort from : ℕ) → Agree same (expect s sort from) (scanToken s sort from)
+  token-agree : (sort from : ℕ) → Agree itself (expect s sort from) (scanToken s sort from)
   unfolding expect
-  token-agree sort from = wanted-agree same sort (tokenAt s from)
+  token-agree sort from = wanted-agree itself sort (tokenAt s from)
 
   opening-within : (from : ℕ) → from ≤ length s → Within s from from (scanOpening s from)
   unfolding scanOpening
   opening-within from h = within-next s from from (scanToken s matches from) _ (omega arith) (token-within matches from h) (λ t p l m. token-within openBrace p m)
 
-  opening-agree : (from : ℕ) → from ≤ length s → Agree same (opening s from) (scanOpening s from)
+  opening-agree : (from : ℕ) → from ≤ length s → Agree itself (opening s from) (scanOpening s from)
   unfolding opening scanOpening
   opening-agree from h =
       agree-then s from from (expect s matches from) _ (scanToken s matches from) _ (token-agree matches from) (token-within matches from h) (λ t p l m. token-within openBrace p m)
@@ -185,7 +182,7 @@ module _ (s : List ℕ) where
   level-same zero level e = sym (eq-eqb level 17 (omega arith))
   level-same (suc levels) level e = ne-eqb (suc levels) 0 (λ z. omega arith) ∙ sym (ne-eqb level 17 (λ z. omega arith))
 
-  type-agree : (levels level : ℕ) (c : Count) (from : ℕ) → levels + level ≡ levelLimit + 1 → Agree same (objectType s levels c from) (scanType s level c from)
+  type-agree : (levels level : ℕ) (c : Count) (from : ℕ) → levels + level ≡ levelLimit + 1 → Agree itself (objectType s levels c from) (scanType s level c from)
   unfolding objectType scanType expect numberOf
   type-agree levels level c from z =
       let t = tokenAt s from in
@@ -193,12 +190,12 @@ module _ (s : List ℕ) where
       (agree-noting (eqb level 17) TooDeep (t .start) _ _
       (λ a. agree-noting (ltb nameLimit (length (spelling s t))) TooLong (t .start) _ _
       (λ b. agree-noting (eqb (c .next) recordLimit) TooManyRecords (t .start) _ _
-      (λ d. agree-noting (ltb poolLimit (c .pool + length (spelling s t))) PoolTooLarge (t .start) _ _ (λ x. agree-passed same t t (t .end) refl) (later-none t (t .end)))
+      (λ d. agree-noting (ltb poolLimit (c .pool + length (spelling s t))) PoolTooLarge (t .start) _ _ (λ x. agree-passed itself t t (t .end) refl) (later-none t (t .end)))
       (later-noting (refusal TooManyRecords (t .start)) _ PoolTooLarge (t .start) (passed [] t (t .end)) (samePlace refl (lit≤ tt)) (later-none t (t .end))))
       (later-noting (refusal TooLong (t .start)) _ TooManyRecords (t .start) _ (samePlace refl (lit≤ tt)) (later-noting (refusal TooLong (t .start)) _ PoolTooLarge (t .start) (passed [] t (t .end)) (samePlace refl (lit≤ tt)) (later-none t (t .end)))))
       (later-noting (refusal TooDeep (t .start)) _ TooLong (t .start) _ (samePlace refl (lit≤ tt)) (later-noting (refusal TooDeep (t .start)) _ TooManyRecords (t .start) _ (samePlace refl (lit≤ tt)) (later-noting (refusal TooDeep (t .start)) _ PoolTooLarge (t .start) (passed [] t (t .end)) (samePlace refl (lit≤ tt)) (later-none t (t .end)))))))
 
-  name-agree : (seen : List (List ℕ)) (c : Count) (from : ℕ) → Agree same (attributeName s seen c from) (scanName s seen c from)
+  name-agree : (seen : List (List ℕ)) (c : Count) (from : ℕ) → Agree itself (attributeName s seen c from) (scanName s seen c from)
   unfolding attributeName scanName expect numberOf
   name-agree seen c from =
       let t = tokenAt s from in
@@ -206,7 +203,7 @@ module _ (s : List ℕ) where
       agree-noting (ltb nameLimit (length (spelling s t))) TooLong (t .start) _ _
       (λ b. agree-noting (eqb (c .next) recordLimit) TooManyRecords (t .start) _ _
       (λ d. agree-noting (listed (spelling s t) seen) RepeatedName (t .start) _ _
-      (λ a. agree-noting (ltb poolLimit (c .pool + length (spelling s t))) PoolTooLarge (t .start) _ _ (λ x. agree-passed same t t (t .end) refl) (later-none t (t .end)))
+      (λ a. agree-noting (ltb poolLimit (c .pool + length (spelling s t))) PoolTooLarge (t .start) _ _ (λ x. agree-passed itself t t (t .end) refl) (later-none t (t .end)))
       (later-noting (refusal RepeatedName (t .start)) _ PoolTooLarge (t .start) (passed [] t (t .end)) (samePlace refl (lit≤ tt)) (later-none t (t .end))))
       (later-noting (refusal TooManyRecords (t .start)) _ RepeatedName (t .start) _ (samePlace refl (lit≤ tt)) (later-noting (refusal TooManyRecords (t .start)) _ PoolTooLarge (t .start) (passed [] t (t .end)) (samePlace refl (lit≤ tt)) (later-none t (t .end)))))
       (later-noting (refusal TooLong (t .start)) _ TooManyRecords (t .start) _ (samePlace refl (lit≤ tt)) (later-noting (refusal TooLong (t .start)) _ RepeatedName (t .start) _ (samePlace refl (lit≤ tt)) (later-noting (refusal TooLong (t .start)) _ PoolTooLarge (t .start) (passed [] t (t .end)) (samePlace refl (lit≤ tt)) (later-none t (t .end))))))
@@ -316,8 +313,8 @@ module _ (s : List ℕ) (reads : Count → ℕ → Reading Object) (down : Count
       (λ o r z d f. agree-then s r r (value s reads (behind s c t) r) _ (scanContent s down (behind s c t) r) _ (content-agree (behind s c t) r (omega arith) f) (content-within s down low below (behind s c t) r (omega arith) f)
       (λ g v m n. close-rest s down low below (spelling s t) g v n)
       (λ g v w m n. agree-then s v v (expect s closeBrace v) _ (scanToken s closeBrace v) _ (token-agree s closeBrace v) (token-within s closeBrace v n)
-      (λ u y₁ k₁ k₂. within-passed s y₁ y₁ _ y₁ (omega arith) k₂)
-      (λ u y₁ e₁ k₁ k₂. agree-passed _ (record { existence = e; name = spelling s t; value = g }) _ y₁ refl)))))
+      (λ u k i' j'. within-passed s k k _ k (omega arith) j')
+      (λ u k y' i' j'. agree-passed _ (record { existence = e; name = spelling s t; value = g }) _ k refl)))))
 
   attributes-agree : (fuel : ℕ) (seen : List (List ℕ)) (c : Count) (from : ℕ) → low ≤ from → from ≤ length s → length s < from + fuel
       → Agree (behindAttributes c) (attributes s reads fuel seen c from) (scanAttributes s down fuel seen c from)

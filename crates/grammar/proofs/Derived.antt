@@ -435,7 +435,7 @@ outermost-got s b p (DataGrammar.typed {o = u} {t = w} {c = v} {l = l} {g = t} {
     (typed-got s 15 (v .end) (spanOf w) ms l t n (members-got ms s (l .end) _ m 15 (length s + 1) [] t g d (omega arith) (f .inside) (omega arith)))
 
 -- the text's end, as a token, ends where the text does
-abbrev AtEnd : List ℕ → Token → Type 0
+abbrev pub AtEnd : List ℕ → Token → Type 0
 AtEnd s t = t .sort ≡ textEnd → length s ≤ t .end
 
 run-other : (w : List ℕ) (first : ℕ) → runSort w first ≢ textEnd

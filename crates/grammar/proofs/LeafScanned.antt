@@ -25,18 +25,18 @@ use Rattle.refusals.specs.declared.Refusal.{Refusal}
 use Rattle.refusals.specs.Refusals.{refusal, numberOf}
 use Rattle.refusals.specs.Steps.{syntaxCause, syntaxFault, expect}
 use Rattle.refusals.proofs.Tokens.{strict-of}
-use Rattle.meaning.specs.Constraints.{Range, Text, Leaf, booleans, integers, dates}
+use Rattle.meaning.specs.Constraints.{Text, Leaf, booleans, integers, dates}
 use Rattle.meaning.specs.Constraints
 use Rattle.meaning.specs.Counting.{leafRecords, leafPool, textPool}
 use Rattle.items.specs.Intervals.{Ends, ends, undecided, kindBy, least, most, after, valueOf, possible, literal, upTo, above, withLiteral, between, empty, closed, Interval, interval}
 use Rattle.items.specs.Intervals
-use Rattle.items.specs.Ranges.{Start, start, item, overlaps, Ranges, range, ranges}
+use Rattle.items.specs.Ranges.{Start, start, overlaps, Ranges, range, ranges}
 use Rattle.items.specs.Ranges
 use Rattle.items.specs.Strings.{startString, strings, goOnStrings}
 use Rattle.items.specs.Leaves.{isBoolean, booleanFlag, secondBoolean, booleanList, rangeLeaf, patternFlag, leaf}
 use Rattle.constraint.specs.Objects.{Count, count}
 use Rattle.grammar.specs.Faults.{Scan, ended, passed, faultsIn, and, andThen, noting, syntax, wanted}
-use Rattle.grammar.specs.LeafFaults.{scanToken, unknown, scanLiteral, known, scanUpTo, scanAbove, outside, scanSpread, scanFrom, scanEnds, isEmpty, scanInterval, point, scanValue, sound, overlapping, keep, scanItem, scanMore, scanItems, firstLiteral, listKind, scanString, scanStrings, scanSecond, scanBooleans, scanPattern, isPattern, scanLeaf}
+use Rattle.grammar.specs.LeafFaults.{scanToken, unknown, scanLiteral, scanUpTo, scanAbove, outside, scanSpread, scanFrom, scanEnds, isEmpty, scanInterval, point, scanValue, sound, overlapping, keep, scanItem, scanMore, scanItems, firstLiteral, listKind, scanString, scanStrings, scanSecond, scanBooleans, scanPattern, isPattern, scanLeaf}
 use Rattle.grammar.specs.LeafFaults
 use Rattle.grammar.proofs.Leaves.{false-true, or-cases}
 use Rattle.grammar.proofs.Given.{Gives, got-gives, refuse-gives, cond-gives, unless-gives, then-gives, any-gives, given}

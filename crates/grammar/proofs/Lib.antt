@@ -11,3 +11,4 @@ pub mod LeafScanned
 pub mod ConstraintScanned
 pub mod ConstraintFaultTable
 pub mod Constrained
+pub mod Whole

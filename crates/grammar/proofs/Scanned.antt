@@ -26,7 +26,7 @@ use Rattle.refusals.specs.declared.Cause.the-variants.{TextTooLong, TooDeep, To
 use Rattle.refusals.specs.declared.Refusal.{Refusal}
 use Rattle.refusals.specs.Refusals.{refusal, numberOf}
 use Rattle.refusals.proofs.Tokens.{strict-of}
-use Rattle.data.specs.Placed.{Span, Block, block, Entries, noMore, entry, Content, string, word, inside}
+use Rattle.data.specs.Placed.{Span, Block, block, noMore, entry, string, word, inside}
 use Rattle.data.specs.Data.{expect, typeFrom, leafFrom, Down, typed, contentFrom, nameFrom, members, blockFrom, outermost, blockOf, spanOf, innerSpan}
 use Rattle.grammar.specs.Faults.{andThen, noting, Least, Alike}
 use Rattle.grammar.specs.DataFaults.{Part, scanToken, scanType, scanString, scanWord, scanContent, scanName, scanMembers, scanBlock, scanOutermost, faults}
