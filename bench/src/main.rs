@@ -16,7 +16,9 @@ const SCHEMA: &str = include_str!("../forms/vital_signs.rng");
 const ROOM: usize = 24 * 2_048 + 16_384;
 
 fn main() {
-    println!("judge, compile, check and merge of one form; each line is the median of 15 rounds, both measured in turn");
+    println!(
+        "judge, compile, check and merge of one form; each line is the median of 15 rounds, both measured in turn"
+    );
     against_second();
     against_xml();
     against_copy();
@@ -34,7 +36,12 @@ fn table(text: &[u8]) -> Vec<u8> {
 
 fn line(what: &str, one: &mut dyn FnMut(), other_name: &str, other: &mut dyn FnMut()) {
     let got = compare(one, other);
-    println!("{what:<34} {:>9.2} us   {other_name:<18} {:>9.2} us   {:>7.2} times as fast", got.one * 1e6, got.other * 1e6, got.ratio);
+    println!(
+        "{what:<34} {:>9.2} us   {other_name:<18} {:>9.2} us   {:>7.2} times as fast",
+        got.one * 1e6,
+        got.other * 1e6,
+        got.ratio
+    );
 }
 
 /// The five jobs against the second implementation.
@@ -119,7 +126,13 @@ fn against_copy() {
             black_box(binding::check(black_box(&full)));
         },
     );
-    println!("check of 2,048 records: {:.2} us, {:.2} times the time of copying its {} bytes ({:.2} us)", got.other * 1e6, got.ratio, full.len(), got.one * 1e6);
+    println!(
+        "check of 2,048 records: {:.2} us, {:.2} times the time of copying its {} bytes ({:.2} us)",
+        got.other * 1e6,
+        got.ratio,
+        full.len(),
+        got.one * 1e6
+    );
     let got = compare(
         &mut || {
             copy.copy_from_slice(black_box(&full));
@@ -129,7 +142,13 @@ fn against_copy() {
             black_box(binding::merge(black_box(&first), black_box(&last), true, &mut out));
         },
     );
-    println!("merge to 2,048 records: {:.2} us, {:.2} times the time of copying the {} bytes written ({:.2} us)", got.other * 1e6, got.ratio, full.len(), got.one * 1e6);
+    println!(
+        "merge to 2,048 records: {:.2} us, {:.2} times the time of copying the {} bytes written ({:.2} us)",
+        got.other * 1e6,
+        got.ratio,
+        full.len(),
+        got.one * 1e6
+    );
 }
 
 /// How the time of judging grows with members and with records.
@@ -145,7 +164,12 @@ fn growth() {
         let time = alone(&mut || {
             black_box(binding::judge(black_box(&by), 1, black_box(b"(A)<aa=<5>>")));
         });
-        println!("judge by a table of {:>5} records: {:>9.2} us, {:>6.2} ns a record", records_of(&by), time * 1e6, time * 1e9 / records_of(&by) as f64);
+        println!(
+            "judge by a table of {:>5} records: {:>9.2} us, {:>6.2} ns a record",
+            records_of(&by),
+            time * 1e6,
+            time * 1e9 / records_of(&by) as f64
+        );
     }
 }
 
@@ -157,7 +181,11 @@ fn grown(shape: &str, members: usize, text: &str, form: &str) {
     let time = alone(&mut || {
         black_box(binding::judge(black_box(&by), 1, black_box(form.as_bytes())));
     });
-    println!("judge over {members:>5} members {shape}: {:>9.2} us, {:>6.2} ns a byte of form and table ({both})", time * 1e6, time * 1e9 / both as f64);
+    println!(
+        "judge over {members:>5} members {shape}: {:>9.2} us, {:>6.2} ns a byte of form and table ({both})",
+        time * 1e6,
+        time * 1e9 / both as f64
+    );
 }
 
 /// A name of three letters for a number below 17,576.
@@ -179,20 +207,24 @@ fn flat_form(count: usize) -> String {
 /// A text and a form of objects with ten members each, so many in all.
 fn blocks_text(count: usize) -> String {
     let block: Vec<String> = (0..10).map(|number| format!("{}\u{2208}{{*}}", name(number))).collect();
-    let attributes: Vec<String> = (0..count / 10).map(|number| format!("{}\u{2208}{{B\u{2208}{{{}}}}}", name(number), block.join("\n"))).collect();
+    let attributes: Vec<String> = (0..count / 10)
+        .map(|number| format!("{}\u{2208}{{B\u{2208}{{{}}}}}", name(number), block.join("\n")))
+        .collect();
     format!("A\u{2208}{{{}}}", attributes.join("\n"))
 }
 
 fn blocks_form(count: usize) -> String {
     let block: Vec<String> = (0..10).map(|number| format!("{}=<{}>", name(number), number * 7)).collect();
-    let members: Vec<String> = (0..count / 10).map(|number| format!("{}=(B)<{}>", name(number), block.join("\n"))).collect();
+    let members: Vec<String> =
+        (0..count / 10).map(|number| format!("{}=(B)<{}>", name(number), block.join("\n"))).collect();
     format!("(A)<{}>", members.join("\n"))
 }
 
 /// Two tables that make up one of 2,048 records and a long pool.
 fn halves() -> (Vec<u8>, Vec<u8>) {
     let part = |more: &str| {
-        let attributes: Vec<String> = (0..511).map(|number| format!("{}_padded matches {{|0..9|}}", name(number))).collect();
+        let attributes: Vec<String> =
+            (0..511).map(|number| format!("{}_padded matches {{|0..9|}}", name(number))).collect();
         table(format!("A matches {{{} {more}}}", attributes.join("\n")).replace(" matches ", "\u{2208}").as_bytes())
     };
     (part(""), part("more matches {*}"))

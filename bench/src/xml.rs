@@ -3,7 +3,13 @@
 use std::ffi::{c_char, c_int, c_void};
 
 extern "C" {
-    fn xmlReadMemory(buffer: *const c_char, size: c_int, url: *const c_char, encoding: *const c_char, options: c_int) -> *mut c_void;
+    fn xmlReadMemory(
+        buffer: *const c_char,
+        size: c_int,
+        url: *const c_char,
+        encoding: *const c_char,
+        options: c_int,
+    ) -> *mut c_void;
     fn xmlFreeDoc(doc: *mut c_void);
     fn xmlRelaxNGNewMemParserCtxt(buffer: *const c_char, size: c_int) -> *mut c_void;
     fn xmlRelaxNGFreeParserCtxt(context: *mut c_void);
@@ -32,7 +38,8 @@ impl Schema {
     pub fn validates(&self, document: &str) -> bool {
         // The text lives through the calls; the document and the context are freed once.
         unsafe {
-            let doc = xmlReadMemory(document.as_ptr().cast(), document.len() as c_int, std::ptr::null(), std::ptr::null(), 0);
+            let doc =
+                xmlReadMemory(document.as_ptr().cast(), document.len() as c_int, std::ptr::null(), std::ptr::null(), 0);
             assert!(!doc.is_null(), "the document is no XML");
             let context = xmlRelaxNGNewValidCtxt(self.0);
             let answer = xmlRelaxNGValidateDoc(context, doc);

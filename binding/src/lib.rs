@@ -4,7 +4,14 @@
 
 mod c {
     extern "C" {
-        pub fn dk_compile(text: *const u8, text_len: usize, little: bool, out: *mut u8, out_len: usize, place: *mut u64) -> u32;
+        pub fn dk_compile(
+            text: *const u8,
+            text_len: usize,
+            little: bool,
+            out: *mut u8,
+            out_len: usize,
+            place: *mut u64,
+        ) -> u32;
         pub fn dk_check(table: *const u8, table_len: usize, place: *mut u64) -> u32;
         pub fn dk_merge(
             first: *const u8,
@@ -19,7 +26,15 @@ mod c {
             pool_shift: *mut u32,
             which: *mut u32,
         ) -> u32;
-        pub fn dk_judge(table: *const u8, table_len: usize, root: u32, data: *const u8, data_len: usize, record: *mut u32, place: *mut u64) -> u32;
+        pub fn dk_judge(
+            table: *const u8,
+            table_len: usize,
+            root: u32,
+            data: *const u8,
+            data_len: usize,
+            record: *mut u32,
+            place: *mut u64,
+        ) -> u32;
         pub fn dk_name(table: *const u8, table_len: usize, record: u32, start: *mut u64, len: *mut u64) -> u32;
     }
 }
@@ -105,7 +120,8 @@ pub fn judge(table: &[u8], root: u32, data: &[u8]) -> Judged {
     let mut place = UNSET;
     let mut record = UNSET_32;
     // Both parts live through the call with the lengths given.
-    let number = unsafe { c::dk_judge(table.as_ptr(), table.len(), root, data.as_ptr(), data.len(), &mut record, &mut place) };
+    let number =
+        unsafe { c::dk_judge(table.as_ptr(), table.len(), root, data.as_ptr(), data.len(), &mut record, &mut place) };
     Judged { number, record, place }
 }
 

@@ -3,7 +3,9 @@
 use crate::lent::{input, Lending, Output};
 use crate::told;
 use second::api::{CheckAnswer, MeaningAnswer};
-use second::generator::{rules, CheckCase, CompileCase, Counts, Job, JudgeCase, ListCase, MergeCase, NameCase, Other, Step, LONGEST_TABLE};
+use second::generator::{
+    rules, CheckCase, CompileCase, Counts, Job, JudgeCase, ListCase, MergeCase, NameCase, Other, Step, LONGEST_TABLE,
+};
 use std::fmt::Debug;
 
 /// The words for a difference, or nothing.
@@ -52,7 +54,14 @@ fn check(desk: &mut Desk, table: &[u8]) -> Agreement {
 }
 
 /// Merges by both; the table written and the record shift.
-fn merge(desk: &mut Desk, first: &[u8], second: &[u8], little: bool, room: usize, fill: u8) -> Result<Option<(Vec<u8>, u32)>, String> {
+fn merge(
+    desk: &mut Desk,
+    first: &[u8],
+    second: &[u8],
+    little: bool,
+    room: usize,
+    fill: u8,
+) -> Result<Option<(Vec<u8>, u32)>, String> {
     let (first, second) = (input(first), input(second));
     let mut out = Output::new(desk.lending, fill, room);
     let mut expected = out.before();
@@ -141,7 +150,11 @@ fn meant(desk: &mut Desk, text: &[u8], carried: &[u8], sum: u32, data: &[u8]) ->
     if expected.record != 0 {
         expected.record += sum;
     }
-    same(&format!("judge at {} and the meaning", 1 + sum), binding::judge(&input(carried), 1 + sum, &input(data)), expected)
+    same(
+        &format!("judge at {} and the meaning", 1 + sum),
+        binding::judge(&input(carried), 1 + sum, &input(data)),
+        expected,
+    )
 }
 
 /// One merge of a list; a refused one changes neither table nor sum.

@@ -12,7 +12,7 @@ mod told;
 
 use compare::{Agreement, Compared, Desk};
 use lent::Lending;
-use second::generator::{lines, law::Jobs, show, shrink, Counts, Maker, Smaller};
+use second::generator::{law::Jobs, lines, show, shrink, Counts, Maker, Smaller};
 use std::panic::{catch_unwind, AssertUnwindSafe};
 use std::process::ExitCode;
 use std::sync::atomic::{AtomicU64, Ordering};
@@ -98,7 +98,12 @@ fn run(options: &Options) -> ExitCode {
     }
     let counts = shared.counts.into_inner().unwrap_or_else(|poisoned| poisoned.into_inner());
     print!("{counts}");
-    println!("{} cases of seed {}, no difference, in {:.1} s", options.cases, options.seed, begun.elapsed().as_secs_f64());
+    println!(
+        "{} cases of seed {}, no difference, in {:.1} s",
+        options.cases,
+        options.seed,
+        begun.elapsed().as_secs_f64()
+    );
     ExitCode::SUCCESS
 }
 
@@ -146,7 +151,8 @@ fn one(maker: &Maker, number: u64, taker: &mut impl Taker) {
 }
 
 fn compared<C: Compared>(case: &C, desk: &mut Desk) -> Agreement {
-    catch_unwind(AssertUnwindSafe(|| case.compare(desk))).unwrap_or_else(|_| Err(String::from("the second implementation panicked")))
+    catch_unwind(AssertUnwindSafe(|| case.compare(desk)))
+        .unwrap_or_else(|_| Err(String::from("the second implementation panicked")))
 }
 
 /// Compares each case.

@@ -19,8 +19,12 @@ pub fn checked(answer: CheckAnswer) -> Placed {
 
 pub fn merged(answer: MergeAnswer) -> Merged {
     match answer {
-        MergeAnswer::Done { length, record_shift, pool_shift } => Merged { number: 0, place: length, record_shift, pool_shift, which: 0 },
-        MergeAnswer::Refused { number, place, table } => Merged { number, place, record_shift: 0, pool_shift: 0, which: table },
+        MergeAnswer::Done { length, record_shift, pool_shift } => {
+            Merged { number: 0, place: length, record_shift, pool_shift, which: 0 }
+        }
+        MergeAnswer::Refused { number, place, table } => {
+            Merged { number, place, record_shift: 0, pool_shift: 0, which: table }
+        }
     }
 }
 
