@@ -35,6 +35,11 @@ pub own-faults : told (faults (bytes "A matches {a matches {|9..3|, |1..9|, |005
 unfolding scansCompute
 own-faults = refl
 
+-- open and missing ends touch and do not overlap; a result of `+/-` around an impossible literal is not known
+pub past-ends : told (faults (bytes "A matches {a matches {|<=0|, |>=40|, |>0..<2|, |>38..39|, |007+/-1|, |<0|, |>39|, |1|}}")) ≡ 5 ∷ 59 ∷ 9 ∷ 69 ∷ 9 ∷ 75 ∷ 9 ∷ 82 ∷ []
+unfolding scansCompute
+past-ends = refl
+
 -- past the 17th item, up to a syntax fault in an item
 pub past-items : told (faults (bytes "A matches {a matches {1,2,3,4,5,6,7,8,9,10,11,12,13,14,15,16,17,18,18,|007|,|20..19|,|1..x")) ≡ 7 ∷ 61 ∷ 9 ∷ 67 ∷ 5 ∷ 71 ∷ 6 ∷ 83 ∷ 2 ∷ 89 ∷ []
 unfolding scansCompute
