@@ -3,7 +3,7 @@ use mathlib.Core.Path.{_≡_, refl, sym, ap, subst}
 use mathlib.Core.Logic.{_↔_, _⊎_, inl, inr}
 use mathlib.Core.Bool.{Bool, true, false, cond}
 use mathlib.Core.Option.{none, some}
-use mathlib.Core.List.{List, _++_}
+use mathlib.Core.List.{List, [], _++_}
 use Prim.Native.Nat.{ℕ, _≤_, _<_}
 use lib.Dec.{ltb}
 use lib.ListN.{length, drop}
@@ -189,17 +189,33 @@ module _ (table : List ℕ) (root : ℕ) (form : List ℕ) (o : Object) (h : Roo
       let y = Scanned.least-refused form x l in
       (y .0, refused-answer (y .0) (y .1), y .2)
 
+-- a tree is derived exactly where there is no fault
+derived-faultless : (text : List ℕ) → ((tree : Object) × DerivesConstraint text tree) ↔ (ConstraintFaults.faults text ≡ [])
+derived-faultless text = (λ x. let y = Constrained.read-derives text (x .0) .1 (x .1) in ConstraintScanned.read-faultless text .0 (x .0, y .0, y .1), λ e. back (ConstraintScanned.read-faultless text .1 e))
+  where
+    back : (o : Object) × (p : ℕ) × (constraintOf text ≡ got o p) → (tree : Object) × DerivesConstraint text tree
+    back (o, p, e) = (o, Constrained.read-derives text o .0 (p, e))
+
+derived-readable : (form : List ℕ) → ((b : Block) × DerivesData form b) ↔ (DataFaults.faults form ≡ [])
+derived-readable form = (λ x. Scanned.read-faultless form .0 (x .0, length form, Derived.read-derives form (x .0) .1 (x .1)), λ e. back (Scanned.read-faultless form .1 e))
+  where
+    back : (b : Block) × (p : ℕ) × (blockOf form ≡ got b p) → (b : Block) × DerivesData form b
+    back (b, p, e) = (b, Derived.read-derives form b .0 (subst (λ (q : ℕ). blockOf form ≡ got b q) (Derived.read-whole form b p e) e))
+
 pub demand2 : Demand2
 unfolding judgeAnswer
 demand2 = record {
   accepted = λ text little out size. (accepted-only text little out size, accepted-all text little out size);
   one-tree = Constrained.one-tree;
   written = λ text tree little out. written text little out tree;
+  faultless = derived-faultless;
   refused = refused-only;
   least-refused = least-refused;
   short-refused = short-refused;
   valid = λ table root form o h. verdict-told table root form o h Verdicts.valid (λ d. Admits o d) (λ d. valid-admits o d);
   fails = λ table root form o r n p h. verdict-told table root form o h (Verdicts.fails r n p) (λ d. FirstFailure o d r n p) (λ d. fails-first o d r n p);
+  one-datum = Derived.one-tree;
+  readable = derived-readable;
   unread = λ table root form o r h. unread-least table root form o h r;
   least-unread = λ table root form o x h. least-unread table root form o h x;
   no-table = λ table root form r a. rw a;

@@ -5,7 +5,7 @@ use mathlib.Core.Path.{_≡_}
 use mathlib.Core.Logic.{_↔_, _⊎_}
 use mathlib.Core.Bool.{Bool}
 use mathlib.Core.Option.{none, some}
-use mathlib.Core.List.{List, _++_}
+use mathlib.Core.List.{List, [], _++_}
 use Prim.Native.Nat.{ℕ, _+_, _≤_, _<_}
 use lib.ListN.{length, take, drop}
 use Rattle.refusals.specs.Reading
@@ -77,8 +77,9 @@ pub record Demand2 : Type 0 where
   pub written : (text : List ℕ) (tree : Object) (little : Bool) (out : List ℕ)
       → DerivesConstraint text tree → length (tableOf little tree) ≤ length out
       → compileAnswer text little out .out ≡ tableOf little tree ++ drop (length (tableOf little tree)) out
-  -- 'Numbers of refusal': "In one text the smallest place wins, then the smallest number; 1 comes before all, 11 after all". A refusal is the least of the text's faults or, where it has none,
-  -- 11 at its end; and the least fault is told.
+  -- 'Numbers of refusal': "In one text the smallest place wins, then the smallest number; 1 comes before all, 11 after all". A tree is derived exactly where the text has no fault. A refusal is the
+  -- least of its faults or, where it has none, 11 at its end; and the least fault is told.
+  pub faultless : (text : List ℕ) → ((tree : Object) × DerivesConstraint text tree) ↔ (ConstraintFaults.faults text ≡ [])
   pub refused : (text : List ℕ) (little : Bool) (out : List ℕ) (r : Refusal)
       → compileAnswer text little out .answer ≡ Compile.refused r → Least r (ConstraintFaults.faults text) ⊎ TooShort text little out r
   pub least-refused : (text : List ℕ) (little : Bool) (out : List ℕ) (x : Refusal)
@@ -92,7 +93,9 @@ pub record Demand2 : Type 0 where
   pub fails : (table : List ℕ) (root : ℕ) (form : List ℕ) (o : Object) (reason number place : ℕ)
       → RootIs table root o
       → (judgeAnswer table root form ≡ Judge.judged (Verdicts.fails reason number place)) ↔ ((b : Block) × DerivesData form b × FirstFailure o (spelledBlock b form) reason number place)
-  -- "Judge: table, 14, then the whole data text (1 to 5, 9), then 20 to 24".
+  pub one-datum : (form : List ℕ) (a b : Block) → DerivesData form a → DerivesData form b → a ≡ b
+  -- "Judge: table, 14, then the whole data text (1 to 5, 9), then 20 to 24". A refusal of the data text is the least of its faults, and the least fault is told.
+  pub readable : (form : List ℕ) → ((b : Block) × DerivesData form b) ↔ (DataFaults.faults form ≡ [])
   pub unread : (table : List ℕ) (root : ℕ) (form : List ℕ) (o : Object) (r : Refusal) → RootIs table root o → judgeAnswer table root form ≡ Judge.refused r → Least r (DataFaults.faults form)
   pub least-unread : (table : List ℕ) (root : ℕ) (form : List ℕ) (o : Object) (x : Refusal)
       → RootIs table root o → Least x (DataFaults.faults form) → (r : Refusal) × (judgeAnswer table root form ≡ Judge.refused r) × Alike x r
