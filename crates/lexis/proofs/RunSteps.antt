@@ -53,15 +53,8 @@ module _ (s : List ℕ) (at : ℕ) (inside : Bool) where
   pub open-other : inside ≡ false → (byteAt s at ≡ byte "-" → ⊥) → false ≡ commentOpen inside (byteAt s at) (drop (at + 1) s)
   open-other i n = rw (i, ne-eqb (byteAt s at) (byte "-") n)
 
-  pub open-two : inside ≡ false → byteAt s at ≡ byte "-" → eqb (byteAt s (at + 1)) (byte "-") ≡ commentOpen inside (byteAt s at) (drop (at + 1) s)
-  open-two i e = rw (i, eq-eqb (byteAt s at) (byte "-") e, getD-drop (at + 1) s 0 0, add-zero)
-
-  pub open-last : inside ≡ false → length s ≤ at + 1 → false ≡ commentOpen inside (byteAt s at) (drop (at + 1) s)
-  open-last i h = rw (i, drop-of-length-le s h) (no-two (eqb (byteAt s at) (byte "-")))
-    where
-      no-two : (k : Bool) → false ≡ (k && false)
-      no-two true = refl
-      no-two false = refl
+  pub open-two : (b : ℕ) → inside ≡ false → byteAt s at ≡ byte "-" → b ≡ byteAt s (at + 1) → eqb b (byte "-") ≡ commentOpen inside (byteAt s at) (drop (at + 1) s)
+  open-two b i e q = rw (i, eq-eqb (byteAt s at) (byte "-") e, getD-drop (at + 1) s 0 0, add-zero, ← q)
 
 skip-end : (inside : Bool) (at : ℕ) → skip inside at [] ≡ at
 unfolding skip
@@ -94,9 +87,6 @@ not-blank b h =
 
 -- whether a token starts at a byte
 module _ (s : List ℕ) (at : ℕ) (inside : Bool) where
-  pub here-inside : inside ≡ true → false ≡ tokenHere inside (byteAt s at) (drop (at + 1) s)
-  here-inside i = rw i
-
   pub here-far : inside ≡ false → byte "-" < byteAt s at → true ≡ tokenHere inside (byteAt s at) (drop (at + 1) s)
   here-far i h = rw (i, not-blank (byteAt s at) h, ne-eqb (byteAt s at) (byte "-") (λ e. omega arith))
 

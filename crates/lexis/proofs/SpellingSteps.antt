@@ -8,7 +8,7 @@ use native.Mathlib.Nat.{add-zero}
 use lib.Dec.{eqb}
 use lib.ListN.{length, drop, getD}
 use lib.Seq.{getD-drop}
-use borrow.Author.Tests.{eq-eqb, ne-eqb}
+use borrow.Author.Tests.{ne-eqb}
 use Rattle.lexis.specs.Text.{bytes}
 use Rattle.lexis.specs.Runs.{byteAt, startsWith}
 use Rattle.lexis.specs.Spelling.{marks, elementSign, datePatterns, timePatterns}

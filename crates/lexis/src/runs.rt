@@ -59,11 +59,7 @@ fn comment_open(s: &[u8], at: usize, inside: bool) -> bool
     if s[at] != b'-' {
         return false;
     }
-    if at + 1 < s.len() {
-        s[at + 1] == b'-'
-    } else {
-        false
-    }
+    byte_at(s, at + 1) == b'-'
 }
 
 // Whether a token starts at a byte: no comment is open before it or behind it, and it is no blank. No byte above `-` is a blank or opens a comment.

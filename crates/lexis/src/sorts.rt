@@ -41,23 +41,24 @@ fn sorts_of(high: u8) -> u64
     requires { ⌜ high < 16 ⌝ }
     ensures { λ r. ⌜ r ≡ sortsOf high ⌝ }
 {
+    let sorts = SORTS;
     match high {
-        0 => SORTS[0],
-        1 => SORTS[1],
-        2 => SORTS[2],
-        3 => SORTS[3],
-        4 => SORTS[4],
-        5 => SORTS[5],
-        6 => SORTS[6],
-        7 => SORTS[7],
-        8 => SORTS[8],
-        9 => SORTS[9],
-        10 => SORTS[10],
-        11 => SORTS[11],
-        12 => SORTS[12],
-        13 => SORTS[13],
-        14 => SORTS[14],
-        15..=255 => SORTS[15],
+        0 => sorts[0],
+        1 => sorts[1],
+        2 => sorts[2],
+        3 => sorts[3],
+        4 => sorts[4],
+        5 => sorts[5],
+        6 => sorts[6],
+        7 => sorts[7],
+        8 => sorts[8],
+        9 => sorts[9],
+        10 => sorts[10],
+        11 => sorts[11],
+        12 => sorts[12],
+        13 => sorts[13],
+        14 => sorts[14],
+        15..=255 => sorts[15],
     }
 }
 

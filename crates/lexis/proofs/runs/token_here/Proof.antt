@@ -1,5 +1,5 @@
 -- `lexis::runs::token_here` meets its contract. Assumes nothing.
-use Rattle.lexis.proofs.RunSteps.{here-inside, here-far, here-two, here-other}
+use Rattle.lexis.proofs.RunSteps.{here-far, here-two, here-other}
 use borrow.Author.Needs.{needs}
 use Rattle.lexis.proofs.runs.token_here.Statement.{statement}
 use Rattle.lexis.proofs.runs.token_here.Tie as tie
