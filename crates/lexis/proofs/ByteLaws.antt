@@ -1,14 +1,13 @@
 -- A rule of numbers in a row, shown of all of them by one test that antt computes; the steps of the tests on bytes. Assumes nothing.
 use mathlib.Core.Path.{_≡_, refl, sym}
 use mathlib.Core.Bool.{Bool, true, false, cond, not, _&&_, _||_}
-use mathlib.Core.List.{List, [], _∷_}
-use Prim.Native.Nat.{ℕ, zero, suc, _+_, _≤_, _<_}
+use Prim.Native.Nat.{ℕ, zero, suc, _+_, _*_, _/_, _%_, _^_, _≤_, _<_}
 use native.Mathlib.Omega.{arith}
 use native.Mathlib.Decide.{decLt}
 use lib.Dec.{eqb, leb}
-use lib.ListN.{getD}
-use borrow.Author.Tests.{ne-eqb, le-leb}
-use Rattle.lexis.specs.Bytes.{wordByte, stringByte, runByte}
+use borrow.Author.Tests.{eqb-true, ne-eqb, le-leb}
+use Rattle.lexis.specs.Bytes.{sortOf, wordByte, stringByte, runByte}
+use Rattle.lexis.specs.Postconditions.{sortsOf}
 use Rattle.lexis.proofs.Cases.{and-left, and-right}
 
 -- two tests answer the same
@@ -37,19 +36,9 @@ agree g f low (suc n) t b h k =
     by-place (yes l) p q = q l
     by-place (no l) p q = let e : low ≡ b = omega arith in rw e at p
 
--- a table of what a rule says of n numbers from one on
-abbrev pub tabled : (ℕ → ℕ) → ℕ → ℕ → List ℕ
-tabled rule low zero = []
-tabled rule low (suc n) = rule low ∷ tabled rule (suc low) n
-
-entry-from : (rule : ℕ → ℕ) (low n k : ℕ) → k < n → getD (tabled rule low n) k 0 ≡ rule (low + k)
-entry-from rule low zero k h = absurd (omega arith)
-entry-from rule low (suc n) zero h = let e : low + zero ≡ low = omega arith in rw e
-entry-from rule low (suc n) (suc k) h = let e : low + suc k ≡ suc low + k = omega arith in rw e (entry-from rule (suc low) n k (omega arith))
-
--- each entry of such a table is what the rule says of its number
-pub entry : (rule : ℕ → ℕ) (n k : ℕ) → k < n → getD (tabled rule 0 n) k 0 ≡ rule k
-entry rule n k h = let e : 0 + k ≡ k = omega arith in rw e at (entry-from rule 0 n k h)
+-- two rules that say the same of each of a row of numbers, by one test over all of them
+pub entry : (g f : ℕ → ℕ) (low n : ℕ) → passes (λ x. eqb (g x) (f x)) low n ≡ true → (b : ℕ) → low ≤ b → b < low + n → g b ≡ f b
+entry g f low n t b h k = eqb-true (g b) (f b) (sym (agree (λ x. true) (λ x. eqb (g x) (f x)) low n t b h k))
 
 and-true : (x : Bool) → x ≡ (x && true)
 and-true true = refl
@@ -73,3 +62,20 @@ run-last b r h e n m k = rw (← h, e, ne-eqb b 43 n, ne-eqb b 45 m, ne-eqb b 46
     or-false : (x : Bool) → x ≡ (x || false)
     or-false true = refl
     or-false false = refl
+
+-- a row of the table of sorts is what is said of its number; the last is the only one left
+pub row : (k high r : ℕ) → high ≡ k → r ≡ sortsOf k → r ≡ sortsOf high
+row k high r e q = rw e q
+
+above : (k high : ℕ) → k ≤ high → (high ≡ k → ⊥) → suc k ≤ high
+above k high h n = omega arith
+
+pub row-last : (high : ℕ) → high < 16 → (high ≡ 0 → ⊥) → (high ≡ 1 → ⊥) → (high ≡ 2 → ⊥) → (high ≡ 3 → ⊥) → (high ≡ 4 → ⊥) → (high ≡ 5 → ⊥) → (high ≡ 6 → ⊥) → (high ≡ 7 → ⊥) → (high ≡ 8 → ⊥) → (high ≡ 9 → ⊥) → (high ≡ 10 → ⊥) → (high ≡ 11 → ⊥) → (high ≡ 12 → ⊥) → (high ≡ 13 → ⊥) → (high ≡ 14 → ⊥) → high ≡ 15
+row-last high h a b c d e f g i j k l m n o p =
+    let l = above 14 high (above 13 high (above 12 high (above 11 high (above 10 high (above 9 high (above 8 high (above 7 high (above 6 high (above 5 high (above 4 high (above 3 high (above 2 high (above 1 high (above 0 high (omega arith) a) b) c) d) e) f) g) i) j) k) l) m) n) o) p in
+    omega arith
+
+-- the hex digits of a row are the sorts of its bytes: one test over all bytes, and what it says of each
+pub sort-entry : (b r : ℕ) → b < 256 → r ≡ sortsOf (b / 16) → (r / 2 ^ (b % 16 * 4)) % 16 ≡ sortOf b
+unfolding sortOf
+sort-entry b r h q = rw q (entry (λ x. (sortsOf (x / 16) / 2 ^ (x % 16 * 4)) % 16) sortOf 0 256 refl b (omega arith) h)

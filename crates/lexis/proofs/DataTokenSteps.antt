@@ -1,13 +1,13 @@
 -- The steps of reading a token of data text: a lemma for each way out, in the form that `search` takes. Assumes nothing.
-use mathlib.Core.Path.{_≡_}
-use mathlib.Core.Bool.{Bool, true, false, cond, _&&_}
+use mathlib.Core.Path.{_≡_, refl, sym, _∙_}
+use mathlib.Core.Bool.{Bool, true, false, not}
 use mathlib.Core.List.{List, [], _∷_}
-use Prim.Native.Nat.{ℕ, suc, _+_, _≤_, _<_}
+use Prim.Native.Nat.{ℕ, suc, _+_, _-_, _≤_, _<_}
 use native.Mathlib.Omega.{arith}
-use native.Mathlib.Nat.{zero-add}
 use lib.Dec.{eqb}
-use lib.ListN.{length, drop}
-use borrow.Author.Tests.{eq-eqb, ne-eqb, le-leb, lt-leb}
+use lib.ListN.{length, take, drop}
+use lib.Seq.{drop-drop, drop-nil}
+use borrow.Author.Tests.{eq-eqb, ne-eqb, le-leb, lt-leb, not-true, not-false}
 use Rattle.lexis.specs.Text.{byte}
 use Rattle.lexis.specs.Bytes.{sortOf, wordByte, runByte}
 use Rattle.lexis.specs.Runs.{past, byteAt, part, all}
@@ -17,33 +17,75 @@ use Rattle.lexis.specs.Tokens.{token, noToken, spelled, quoted, textEnd,
 use Rattle.lexis.specs.DataTokens.{dataMarks, nameSort, runSort, typeSort, run, dataTokenOn, dataTokenAt, typeTokenAt}
 use Rattle.lexis.specs.Postconditions.{PlaceIs, TokenIs, sorting}
 use Rattle.lexis.specs.declared.Token.{Token}
+use Rattle.lexis.proofs.Places.{past-between}
+use Rattle.lexis.proofs.ByteLaws.{run-word}
 use Rattle.lexis.proofs.DataPlaces.{data-token-found, type-token-found}
 use Rattle.lexis.proofs.TokenSteps.{promised}
 
--- all bytes pass a test where the run of them ends with the last
-pub all-run : (test : ℕ → Bool) (at : ℕ) (w : List ℕ) → eqb (past test at w) (at + length w) ≡ all test w
-unfolding past all
-all-run test at [] = eq-eqb at (at + 0) (omega arith)
-all-run test at (b ∷ w) = here (test b) (all-run test (at + 1) w)
-  where
-    here : (k : Bool) → eqb (past test (at + 1) w) (at + 1 + length w) ≡ all test w → eqb (cond k (past test (at + 1) w) at) (at + suc (length w)) ≡ (k && all test w)
-    here true ih = let e : at + suc (length w) ≡ at + 1 + length w = omega arith in rw e ih
-    here false ih = ne-eqb at (at + suc (length w)) (λ e. omega arith)
-
 -- a run that may be a NAME or a TYPE
-module _ (ls : List Literal) (w : List ℕ) (sort r : ℕ) (p : PlaceIs w 0 (past wordByte 0 w) r) where
-  words : eqb r (length w) ≡ all wordByte w
-  words = rw zero-add at (rw (← p .is) at (all-run wordByte 0 w))
+module _ (ls : List Literal) (w : List ℕ) (sort : ℕ) (whole : Bool) (p : whole ≡ all wordByte w) where
+  pub name-broken : not whole ≡ true → 1 ≡ nameSort ls sort w
+  name-broken n = rw (← p, not-true whole n)
 
-  pub name-broken : (r ≡ length w → ⊥) → 1 ≡ nameSort ls sort w
-  name-broken n = rw (← words, ne-eqb r (length w) n)
-
-  module _ (k : ℕ) (q : k ≡ wordSort ls w sort) (e : r ≡ length w) where
+  module _ (k : ℕ) (q : k ≡ wordSort ls w sort) (e : not whole ≡ false) where
     pub name-spelled : (k ≡ sort → ⊥) → 1 ≡ nameSort ls sort w
-    name-spelled n = rw (← words, eq-eqb r (length w) e, ← q, ne-eqb k sort n)
+    name-spelled n = rw (← p, not-false whole e, ← q, ne-eqb k sort n)
 
     pub name-is : k ≡ sort → sort ≡ nameSort ls sort w
-    name-is m = rw (← words, eq-eqb r (length w) e, ← q, eq-eqb k sort m)
+    name-is m = rw (← p, not-false whole e, ← q, eq-eqb k sort m)
+
+-- a byte of words is one of runs
+word-runs : (b : ℕ) → wordByte b ≡ true → runByte b ≡ true
+word-runs b e = sym (run-word b (wordByte b) refl e)
+
+-- the run at a place goes on behind the word there
+run-behind : (at : ℕ) (bs : List ℕ) → past runByte (past wordByte at bs) (drop (past wordByte at bs - at) bs) ≡ past runByte at bs
+unfolding past
+run-behind at [] = rw drop-nil
+run-behind at (b ∷ bs) = by-byte (run-behind (at + 1) bs) (wordByte b) refl
+  where
+    by-byte : past runByte (past wordByte (at + 1) bs) (drop (past wordByte (at + 1) bs - (at + 1)) bs) ≡ past runByte (at + 1) bs
+        → (k : Bool) → wordByte b ≡ k → past runByte (past wordByte at (b ∷ bs)) (drop (past wordByte at (b ∷ bs) - at) (b ∷ bs)) ≡ past runByte at (b ∷ bs)
+    by-byte ih true e =
+        let l = past-between wordByte (at + 1) bs .least in
+        let n : past wordByte (at + 1) bs - at ≡ suc (past wordByte (at + 1) bs - (at + 1)) = omega arith in
+        rw (e, word-runs b e, n) ih
+    by-byte ih false e = let n : at - at ≡ 0 = omega arith in rw (e, n)
+
+-- a run is a word where the word at its place ends with it
+run-words : (at : ℕ) (bs : List ℕ) → eqb (past wordByte at bs) (past runByte at bs) ≡ all wordByte (take (past runByte at bs - at) bs)
+unfolding past all
+run-words at [] = let n : at - at ≡ 0 = omega arith in rw n (eq-eqb at at refl)
+run-words at (b ∷ bs) = by-byte (run-words (at + 1) bs) (wordByte b) refl (runByte b) refl
+  where
+    by-byte : eqb (past wordByte (at + 1) bs) (past runByte (at + 1) bs) ≡ all wordByte (take (past runByte (at + 1) bs - (at + 1)) bs)
+        → (k : Bool) → wordByte b ≡ k → (r : Bool) → runByte b ≡ r → eqb (past wordByte at (b ∷ bs)) (past runByte at (b ∷ bs)) ≡ all wordByte (take (past runByte at (b ∷ bs) - at) (b ∷ bs))
+    by-byte ih true e r f =
+        let l = past-between runByte (at + 1) bs .least in
+        let n : past runByte (at + 1) bs - at ≡ suc (past runByte (at + 1) bs - (at + 1)) = omega arith in
+        rw (word-runs b e, n, e) ih
+    by-byte ih false e true f =
+        let l = past-between runByte (at + 1) bs .least in
+        let n : past runByte (at + 1) bs - at ≡ suc (past runByte (at + 1) bs - (at + 1)) = omega arith in
+        rw (f, n, e) (ne-eqb at (past runByte (at + 1) bs) (λ k. omega arith))
+    by-byte ih false e false f = let n : at - at ≡ 0 = omega arith in rw (f, e, n) (eq-eqb at at refl)
+
+-- the end of the word at a place and the end of the run there
+module _ (s : List ℕ) (at w : ℕ) (p : PlaceIs s at (past wordByte at (drop at s)) w) where
+  behind-word : past runByte w (drop w s) ≡ past runByte at (drop at s)
+  behind-word =
+      let e : at + (w - at) ≡ w = omega (arith, p .low) in
+      rw (← p .is, drop-drop, e) at (run-behind at (drop at s))
+
+  module _ (end : ℕ) (q : PlaceIs s w (past runByte w (drop w s)) end) where
+    run-end : end ≡ past runByte at (drop at s)
+    run-end = q .is ∙ behind-word
+
+    pub run-whole : eqb w end ≡ all wordByte (part s at end)
+    run-whole = rw (p .is, run-end) (run-words at (drop at s))
+
+    pub run-is : (sorted : List ℕ → ℕ → ℕ) (k : ℕ) → k ≡ sorted (part s at end) (byteAt s at) → token k at end ≡ run sorted s at
+    run-is sorted k e = rw (e, run-end)
 
 -- the sort of a run
 module _ (behind : Bool) (w : List ℕ) (first k : ℕ) (q : k ≡ sortOf first) where
@@ -58,10 +100,6 @@ module _ (behind : Bool) (w : List ℕ) (first k : ℕ) (q : k ≡ sortOf first)
 
   pub sorting-word : behind ≡ false → (k ≡ 2 → ⊥) → 26 ≡ sorting behind w first
   sorting-word b n = rw (b, ← q, ne-eqb k 2 n)
-
-pub run-is : (sorted : List ℕ → ℕ → ℕ) (s : List ℕ) (at end k : ℕ) → PlaceIs s at (past runByte at (drop at s)) end
-    → k ≡ sorted (part s at end) (byteAt s at) → token k at end ≡ run sorted s at
-run-is sorted s at end k p q = rw (q, p .is)
 
 -- the token that starts at a place
 module _ (sorted : List ℕ → ℕ → ℕ) (s : List ℕ) (at : ℕ) where

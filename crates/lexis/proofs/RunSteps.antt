@@ -1,6 +1,6 @@
 -- The steps of the loops over bytes: a lemma for each way out and for each turn, in the form that `search` takes. Assumes nothing.
 use mathlib.Core.Path.{_≡_, refl, sym, ap, _∙_}
-use mathlib.Core.Bool.{Bool, true, false, not, _&&_, _||_, false≢true, or-true}
+use mathlib.Core.Bool.{Bool, true, false, cond, not, _&&_, _||_, false≢true}
 use mathlib.Core.List.{List, [], _∷_}
 use Prim.Native.Nat.{ℕ, suc, _+_, _-_, _≤_, _<_}
 use native.Mathlib.Omega.{arith}
@@ -10,7 +10,7 @@ use lib.ListN.{length, drop, length-drop, drop-of-length-le, List·getD-eq-defau
 use lib.Seq.{getD-drop}
 use borrow.Author.Tests.{eq-eqb, ne-eqb, not-true, not-false}
 use Rattle.lexis.specs.Text.{byte}
-use Rattle.lexis.specs.Bytes.{is, blank, digit, wordByte, stringByte, runByte, lineEnd}
+use Rattle.lexis.specs.Bytes.{within, among, marks, sortOf, is, blank, digit, small, capital, mark, other, wordByte, stringByte, runByte, lineEnd}
 use Rattle.lexis.specs.Runs.{past, byteAt, same, startsWith, shaped, allows}
 use Rattle.lexis.specs.Blanks.{skip, opensComment, tokenStart}
 use Rattle.lexis.specs.Postconditions.{PlaceIs, testOf, commentOpen, tokenHere, admits, beginsBy}
@@ -53,42 +53,54 @@ module _ (s : List ℕ) (at : ℕ) (inside : Bool) where
   pub open-other : inside ≡ false → (byteAt s at ≡ byte "-" → ⊥) → false ≡ commentOpen inside (byteAt s at) (drop (at + 1) s)
   open-other i n = rw (i, ne-eqb (byteAt s at) (byte "-") n)
 
-  pub open-two : inside ≡ false → byteAt s at ≡ byte "-" → eqb (byteAt s (at + 1)) (byte "-") ≡ commentOpen inside (byteAt s at) (drop (at + 1) s)
-  open-two i e = rw (i, eq-eqb (byteAt s at) (byte "-") e, getD-drop (at + 1) s 0 0, add-zero)
-
-  pub open-last : inside ≡ false → length s ≤ at + 1 → false ≡ commentOpen inside (byteAt s at) (drop (at + 1) s)
-  open-last i h = rw (i, drop-of-length-le s h) (no-two (eqb (byteAt s at) (byte "-")))
-    where
-      no-two : (k : Bool) → false ≡ (k && false)
-      no-two true = refl
-      no-two false = refl
-
--- where a token starts, neither a blank stands nor a comment opens
-here-clear : (after : Bool) (b : ℕ) → tokenHere false after b ≡ true → (is blank b || after) ≡ false
-here-clear true b h = absurd (false≢true h)
-here-clear false b h = rw (not-true (is blank b) h)
-
-here-not : (after : Bool) (b : ℕ) → tokenHere false after b ≡ false → (is blank b || after) ≡ true
-here-not true b h = or-true (is blank b)
-here-not false b h = rw (not-false (is blank b) h)
+  pub open-two : (b : ℕ) → inside ≡ false → byteAt s at ≡ byte "-" → b ≡ byteAt s (at + 1) → eqb b (byte "-") ≡ commentOpen inside (byteAt s at) (drop (at + 1) s)
+  open-two b i e q = rw (i, eq-eqb (byteAt s at) (byte "-") e, getD-drop (at + 1) s 0 0, add-zero, ← q)
 
 skip-end : (inside : Bool) (at : ℕ) → skip inside at [] ≡ at
 unfolding skip
 skip-end true at = refl
 skip-end false at = refl
 
-skip-here : (inside : Bool) (at b : ℕ) (bs : List ℕ) → tokenHere inside (commentOpen inside b bs) b ≡ true → skip inside at (b ∷ bs) ≡ at
+skip-here : (inside : Bool) (at b : ℕ) (bs : List ℕ) → tokenHere inside b bs ≡ true → skip inside at (b ∷ bs) ≡ at
 unfolding skip
 skip-here true at b bs h = absurd (false≢true h)
-skip-here false at b bs h = rw (here-clear (opensComment b bs) b h)
+skip-here false at b bs h = rw (not-true (is blank b || opensComment b bs) h)
 
-skip-more : (inside : Bool) (at b : ℕ) (bs : List ℕ) → tokenHere inside (commentOpen inside b bs) b ≡ false → skip inside at (b ∷ bs) ≡ skip (commentOpen inside b bs) (at + 1) bs
+skip-more : (inside : Bool) (at b : ℕ) (bs : List ℕ) → tokenHere inside b bs ≡ false → skip inside at (b ∷ bs) ≡ skip (commentOpen inside b bs) (at + 1) bs
 unfolding skip
 skip-more true at b bs h = refl
-skip-more false at b bs h = rw (here-not (opensComment b bs) b h)
+skip-more false at b bs h = rw (not-false (is blank b || opensComment b bs) h)
 
-pub here-last : (inside after : Bool) (b : ℕ) (r : Bool) → inside ≡ false → after ≡ false → r ≡ is blank b → not r ≡ tokenHere inside after b
-here-last inside after b r i a q = rw (i, a, q)
+-- no byte above `-` is a blank
+not-blank : (b : ℕ) → byte "-" < b → is blank b ≡ false
+unfolding sortOf
+not-blank b h =
+    rw (ne-eqb b 32 (λ e. omega arith), ne-eqb b 9 (λ e. omega arith), ne-eqb b 13 (λ e. omega arith), ne-eqb b 10 (λ e. omega arith))
+    (later (within (byte "0") (byte "9") b) (within (byte "a") (byte "z") b) (within (byte "A") (byte "Z") b) (among b marks))
+  where
+    later : (p q r t : Bool) → eqb (cond p digit (cond q small (cond r capital (cond t mark other)))) blank ≡ false
+    later true q r t = refl
+    later false true r t = refl
+    later false false true t = refl
+    later false false false true = refl
+    later false false false false = refl
+
+-- whether a token starts at a byte
+module _ (s : List ℕ) (at : ℕ) (inside : Bool) where
+  pub here-far : inside ≡ false → byte "-" < byteAt s at → true ≡ tokenHere inside (byteAt s at) (drop (at + 1) s)
+  here-far i h = rw (i, not-blank (byteAt s at) h, ne-eqb (byteAt s at) (byte "-") (λ e. omega arith))
+
+  pub here-two : (b : ℕ) → inside ≡ false → byteAt s at ≡ byte "-" → b ≡ byteAt s (at + 1)
+      → not (eqb b (byte "-")) ≡ tokenHere inside (byteAt s at) (drop (at + 1) s)
+  unfolding sortOf
+  here-two b i e q = rw (i, e, getD-drop (at + 1) s 0 0, add-zero, ← q)
+
+  pub here-other : (r : Bool) → inside ≡ false → (byteAt s at ≡ byte "-" → ⊥) → r ≡ is blank (byteAt s at) → not r ≡ tokenHere inside (byteAt s at) (drop (at + 1) s)
+  here-other r i n q = rw (i, ne-eqb (byteAt s at) (byte "-") n, q) (clear (is blank (byteAt s at)))
+    where
+      clear : (k : Bool) → not k ≡ not (k || false)
+      clear true = refl
+      clear false = refl
 
 -- in blanks and comments: what is left of them ends where the next token starts
 pub record InBlanks (s : List ℕ) (from x at : ℕ) (inside : Bool) : Type 0 where
@@ -103,15 +115,15 @@ module _ (s : List ℕ) (from x at : ℕ) (inside : Bool) (inv : InBlanks s from
   pub blanks-end : length s ≤ at → PlaceIs s from x at
   blanks-end h = record { is = sym (skip-end inside at) ∙ (rw (drop-of-length-le s h) at (inv .is)); low = inv .low; high = inv .high }
 
-  module _ (after r : Bool) (h : at < length s) (q : after ≡ commentOpen inside (byteAt s at) (drop (at + 1) s)) (t : r ≡ tokenHere inside after (byteAt s at)) where
+  module _ (r : Bool) (h : at < length s) (t : r ≡ tokenHere inside (byteAt s at) (drop (at + 1) s)) where
     pub blanks-out : r ≡ true → PlaceIs s from x at
     blanks-out e =
-        let k = skip-here inside at (byteAt s at) (drop (at + 1) s) (rw (← q, ← t) e) in
+        let k = skip-here inside at (byteAt s at) (drop (at + 1) s) (sym t ∙ e) in
         record { is = sym k ∙ (rw (drop-in s at h) at (inv .is)); low = inv .low; high = inv .high }
 
-    pub blanks-on : r ≡ false → InBlanks s from x (at + 1) after
-    blanks-on e =
-        let k = skip-more inside at (byteAt s at) (drop (at + 1) s) (rw (← q, ← t) e) in
+    pub blanks-on : (after : Bool) → r ≡ false → after ≡ commentOpen inside (byteAt s at) (drop (at + 1) s) → InBlanks s from x (at + 1) after
+    blanks-on after e q =
+        let k = skip-more inside at (byteAt s at) (drop (at + 1) s) (sym t ∙ e) in
         record { low = omega arith; high = omega arith; is = rw q (sym k ∙ (rw (drop-in s at h) at (inv .is))) }
 
 -- a byte of a spelling and a byte of the text

@@ -1,127 +1,208 @@
--- The steps of the search for a spelling in a table of spellings. Assumes nothing.
-use mathlib.Core.Path.{_≡_, refl, sym, ap, _∙_}
-use mathlib.Core.Bool.{Bool, true, false}
-use mathlib.Core.List.{List, [], _∷_, _++_, map}
-use Prim.Native.Nat.{ℕ, zero, suc, _+_, _-_, _≤_, _<_}
+-- The steps of telling the tokens that are spelled in one way: a lemma for each way out, in the form that `search` takes. Assumes nothing.
+use mathlib.Core.Path.{_≡_, refl, sym, _∙_}
+use mathlib.Core.Bool.{Bool, true, false, cond, _&&_}
+use mathlib.Core.List.{List, [], _∷_}
+use Prim.Native.Nat.{ℕ, _+_, _<_}
 use native.Mathlib.Omega.{arith}
-use native.Mathlib.Numerals.{add-one}
-use lib.Dec.{leb}
-use lib.ListN.{length, take, drop, getD, replicate, length-drop, length-append, List·getD-map}
-use lib.Seq.{drop-cons, take-append-seam}
-use borrow.Author.Tests.{leb-true}
-use Rattle.lexis.specs.Runs.{startsWith}
-use Rattle.lexis.specs.Spelling.{Literal, literal}
+use native.Mathlib.Nat.{add-zero}
+use lib.Dec.{eqb}
+use lib.ListN.{length, drop, getD}
+use lib.Seq.{getD-drop}
+use borrow.Author.Tests.{ne-eqb}
+use Rattle.lexis.specs.Text.{bytes}
+use Rattle.lexis.specs.Runs.{byteAt, startsWith}
+use Rattle.lexis.specs.Spelling.{marks, elementSign, datePatterns, timePatterns}
 use Rattle.lexis.specs.Tokens.{token, noToken, spelled}
-use Rattle.lexis.proofs.Cases.{and-left, and-right}
-use Rattle.lexis.proofs.Places.{starts-long}
-use Rattle.lexis.proofs.ReadBack.{every}
+use Rattle.lexis.specs.DataTokens.{dataMarks}
+use Rattle.lexis.specs.Postconditions.{patternsOf}
+use Rattle.lexis.specs.declared.Token.{Token}
+use Rattle.lexis.specs.declared.spellings.Patterns.{Patterns}
+use Rattle.lexis.specs.declared.spellings.Patterns.the-variants.{Dates, Times}
+use Rattle.lexis.proofs.Places.{drop-in}
 
--- the spelling with a number
-abbrev row : List Literal → ℕ → Literal
-row ls k = getD ls k (literal 0 [])
+-- bytes begin with one byte, other than 0
+starts-one : (w : ℕ) (bs : List ℕ) → 0 < w → startsWith (w ∷ []) bs ≡ eqb w (getD bs 0 0)
+unfolding startsWith
+starts-one w [] h = sym (ne-eqb w 0 (λ e. omega arith))
+starts-one w (b ∷ bs) h = and-true (eqb w b)
+  where
+    and-true : (x : Bool) → (x && true) ≡ x
+    and-true true = refl
+    and-true false = refl
 
--- the columns of a table: lengths, sorts, and spellings made up to ten bytes by blanks
-abbrev size : Literal → ℕ
-size l = length (l .spelling)
+-- a byte of the text decides
+module _ (s : List ℕ) (at : ℕ) (h : at < length s) where
+  other : (w : ℕ) → (byteAt s at ≡ w → ⊥) → eqb w (byteAt s at) ≡ false
+  other w n = ne-eqb w (byteAt s at) (λ e. n (sym e))
 
-abbrev padded : Literal → List ℕ
-padded l = l .spelling ++ replicate (10 - size l) 32
+  -- marks of one byte
+  pub mark-open : byteAt s at ≡ 123 → token 12 at (at + 1) ≡ spelled marks at (drop at s) (noToken at)
+  unfolding spelled startsWith
+  mark-open e = rw (drop-in s at h, e)
 
-abbrev pub lengths : List Literal → List ℕ
-lengths ls = map size ls
+  pub mark-close : byteAt s at ≡ 125 → token 13 at (at + 1) ≡ spelled marks at (drop at s) (noToken at)
+  unfolding spelled startsWith
+  mark-close e = rw (drop-in s at h, e)
 
-abbrev pub sorts : List Literal → List ℕ
-sorts ls = map (λ l. l .sort) ls
+  pub mark-comma : byteAt s at ≡ 44 → token 14 at (at + 1) ≡ spelled marks at (drop at s) (noToken at)
+  unfolding spelled startsWith
+  mark-comma e = rw (drop-in s at h, e)
 
-abbrev pub words : List Literal → List (List ℕ)
-words ls = map padded ls
+  pub mark-star : byteAt s at ≡ 42 → token 15 at (at + 1) ≡ spelled marks at (drop at s) (noToken at)
+  unfolding spelled startsWith
+  mark-star e = rw (drop-in s at h, e)
 
--- the rows of a table from one on, up to another
-abbrev pub rows : List Literal → ℕ → ℕ → List Literal
-rows ls k end = take (end - k) (drop k ls)
+  pub mark-bar : byteAt s at ≡ 124 → token 16 at (at + 1) ≡ spelled marks at (drop at s) (noToken at)
+  unfolding spelled startsWith
+  mark-bar e = rw (drop-in s at h, e)
 
--- within a list it does not matter what stands behind its end
-any-default : {A : Type 0} (xs : List A) (k : ℕ) (c d : A) → k < length xs → getD xs k c ≡ getD xs k d
-any-default [] k c d h = absurd (omega arith)
-any-default (x ∷ xs) zero c d h = refl
-any-default (x ∷ xs) (suc k) c d h = any-default xs k c d (omega arith)
+  pub data-less : byteAt s at ≡ 60 → token 18 at (at + 1) ≡ spelled dataMarks at (drop at s) (noToken at)
+  unfolding spelled startsWith
+  data-less e = rw (drop-in s at h, e)
 
-length-map : {A B : Type 0} (f : A → B) (xs : List A) → length (map f xs) ≡ length xs
-length-map f [] = refl
-length-map f (x ∷ xs) = ap suc (length-map f xs)
+  pub data-greater : byteAt s at ≡ 62 → token 19 at (at + 1) ≡ spelled dataMarks at (drop at s) (noToken at)
+  unfolding spelled startsWith
+  data-greater e = rw (drop-in s at h, e)
 
--- a test that all of a table pass is passed by each row
-every-at : (test : Literal → Bool) (ls : List Literal) (k : ℕ) → k < length ls → every test ls ≡ true → test (row ls k) ≡ true
-unfolding every
-every-at test [] k l h = absurd (omega arith)
-every-at test (x ∷ ls) zero l h = and-left (test x) (every test ls) h
-every-at test (x ∷ ls) (suc k) l h = every-at test ls k (omega arith) (and-right (test x) (every test ls) h)
+  pub data-equals : byteAt s at ≡ 61 → token 23 at (at + 1) ≡ spelled dataMarks at (drop at s) (noToken at)
+  unfolding spelled startsWith
+  data-equals e = rw (drop-in s at h, e)
 
--- in the rows of a table: what is left of them finds the token that they all find
-pub record InRows (ls : List Literal) (s : List ℕ) (at first end k : ℕ) : Type 0 where
-  pub high : k ≤ end
-  pub inside : end ≤ length ls
-  pub is : spelled (rows ls k end) at (drop at s) (noToken at) ≡ spelled (rows ls first end) at (drop at s) (noToken at)
+  pub data-open : byteAt s at ≡ 40 → token 24 at (at + 1) ≡ spelled dataMarks at (drop at s) (noToken at)
+  unfolding spelled startsWith
+  data-open e = rw (drop-in s at h, e)
 
-module _ (ls : List Literal) where
-  length-at : (k : ℕ) → getD (lengths ls) k 0 ≡ size (row ls k)
-  length-at k = List·getD-map size ls k (literal 0 [])
+  pub data-close : byteAt s at ≡ 41 → token 25 at (at + 1) ≡ spelled dataMarks at (drop at s) (noToken at)
+  unfolding spelled startsWith
+  data-close e = rw (drop-in s at h, e)
 
-  sort-at : (k : ℕ) → getD (sorts ls) k 0 ≡ row ls k .sort
-  sort-at k = List·getD-map (λ l. l .sort) ls k (literal 0 [])
+  pub data-none : (t : Token) → (byteAt s at ≡ 60 → ⊥) → (byteAt s at ≡ 62 → ⊥) → (byteAt s at ≡ 61 → ⊥) → (byteAt s at ≡ 40 → ⊥) → (byteAt s at ≡ 41 → ⊥) → t ≡ noToken at → t ≡ spelled dataMarks at (drop at s) (noToken at)
+  unfolding spelled startsWith
+  data-none t a b c d e p = rw (drop-in s at h, other 60 a, other 62 b, other 61 c, other 40 d, other 41 e) p
 
-  module _ (k : ℕ) (h : k < length ls) where
-    -- no spelling is longer than ten bytes
-    pub length-most : every (λ l. leb (size l) 10) ls ≡ true → getD (lengths ls) k 0 ≤ 10
-    length-most t = rw (length-at k) (leb-true _ _ (every-at (λ l. leb (size l) 10) ls k h t))
+  -- marks of two bytes
+  module _ (n : ℕ) (q : n ≡ byteAt s (at + 1)) where
+    second : (w : ℕ) → 0 < w → startsWith (w ∷ []) (drop (at + 1) s) ≡ eqb w n
+    second w l = starts-one w (drop (at + 1) s) l ∙ (rw (getD-drop (at + 1) s 0 0, add-zero, ← q))
 
-    padded-at : (d : List ℕ) → getD (words ls) k d ≡ padded (row ls k)
-    padded-at d =
-        let n = length-map padded ls in
-        any-default (words ls) k d (padded (literal 0 [])) (omega arith) ∙ List·getD-map padded ls k (literal 0 [])
+    pub mark-at-most : byteAt s at ≡ 60 → n ≡ 61 → token 20 at (at + 2) ≡ spelled marks at (drop at s) (noToken at)
+    unfolding spelled startsWith
+    mark-at-most e m = rw (drop-in s at h, e, second 61 (omega arith), m)
 
-    pub word-within : (d : List ℕ) → getD (lengths ls) k 0 ≤ length (getD (words ls) k d)
-    word-within d = rw (padded-at d, length-at k, length-append) (omega arith)
+    pub mark-less : byteAt s at ≡ 60 → (n ≡ 61 → ⊥) → token 18 at (at + 1) ≡ spelled marks at (drop at s) (noToken at)
+    unfolding spelled startsWith
+    mark-less e m = rw (drop-in s at h, e, second 61 (omega arith), ne-eqb 61 n (λ k. m (sym k)))
 
-    -- a row without its blanks is the spelling
-    word-at : (d : List ℕ) → take (getD (lengths ls) k 0) (getD (words ls) k d) ≡ row ls k .spelling
-    word-at d =
-        rw (padded-at d, length-at k) (take-append-seam (row ls k .spelling) (replicate (10 - size (row ls k)) 32))
+    pub mark-at-least : byteAt s at ≡ 62 → n ≡ 61 → token 21 at (at + 2) ≡ spelled marks at (drop at s) (noToken at)
+    unfolding spelled startsWith
+    mark-at-least e m = rw (drop-in s at h, e, second 61 (omega arith), m)
 
-    pub word-long : (d : List ℕ) → getD (lengths ls) k 0 ≡ length (take (getD (lengths ls) k 0) (getD (words ls) k d))
-    word-long d = rw (word-at d) (length-at k)
+    pub mark-greater : byteAt s at ≡ 62 → (n ≡ 61 → ⊥) → token 19 at (at + 1) ≡ spelled marks at (drop at s) (noToken at)
+    unfolding spelled startsWith
+    mark-greater e m = rw (drop-in s at h, e, second 61 (omega arith), ne-eqb 61 n (λ k. m (sym k)))
 
-    module _ (s : List ℕ) (at : ℕ) (d : List ℕ) (r : Bool) (q : r ≡ startsWith (take (getD (lengths ls) k 0) (getD (words ls) k d)) (drop at s)) where
-      starts : r ≡ startsWith (row ls k .spelling) (drop at s)
-      starts = rw (word-at d) at q
+    pub mark-dots : byteAt s at ≡ 46 → n ≡ 46 → token 17 at (at + 2) ≡ spelled marks at (drop at s) (noToken at)
+    unfolding spelled startsWith
+    mark-dots e m = rw (drop-in s at h, e, second 46 (omega arith), m)
 
-      -- the text has room for a spelling that stands there
-      pub row-room : r ≡ true → at ≤ length s → at + getD (lengths ls) k 0 ≤ length s
-      row-room e a =
-          let n = starts-long (row ls k .spelling) (drop at s) (sym starts ∙ e) in
-          let m = length-drop at s in
-          omega (arith, length-at k)
+    pub mark-dot : (t : Token) → byteAt s at ≡ 46 → (n ≡ 46 → ⊥) → t ≡ noToken at → t ≡ spelled marks at (drop at s) (noToken at)
+    unfolding spelled startsWith
+    mark-dot t e m p = rw (drop-in s at h, e, second 46 (omega arith), ne-eqb 46 n (λ k. m (sym k))) p
 
-      module _ (first end : ℕ) (inv : InRows ls s at first end k) (l : k < end) where
-        -- a row that is left, and those behind it
-        rows-on : rows ls k end ≡ row ls k ∷ rows ls (k + 1) end
-        rows-on =
-            let e : end - k ≡ suc (end - (k + 1)) = omega arith in
-            rw (e, add-one, drop-cons ls k (literal 0 []))
+  -- the mark of three
+  module _ (r : Bool) (q : r ≡ startsWith (bytes "+/-") (drop at s)) where
+    plus : byteAt s at ≡ 43 → cond r (token 22 at (at + 3)) (noToken at) ≡ spelled marks at (drop at s) (noToken at)
+    unfolding spelled startsWith
+    plus e = rw (q, drop-in s at h, e)
 
-        pub row-hit : r ≡ true → (ms : List Literal) → rows ls first end ≡ ms
-            → token (getD (sorts ls) k 0) at (at + getD (lengths ls) k 0) ≡ spelled ms at (drop at s) (noToken at)
-        unfolding spelled
-        row-hit e ms m = rw (← m) (rw (sort-at k, length-at k) (rw (rows-on, ← starts, e) at (inv .is)))
+    pub mark-plus-minus : byteAt s at ≡ 43 → r ≡ true → token 22 at (at + 3) ≡ spelled marks at (drop at s) (noToken at)
+    mark-plus-minus e k = rw k at (plus e)
 
-        pub row-on : r ≡ false → InRows ls s at first end (k + 1)
-        unfolding spelled
-        row-on e = record { high = omega arith; inside = inv .inside; is = rw (rows-on, ← starts, e) at (inv .is) }
+    pub mark-plus : (t : Token) → byteAt s at ≡ 43 → r ≡ false → t ≡ noToken at → t ≡ spelled marks at (drop at s) (noToken at)
+    mark-plus t e k p = p ∙ (rw k at (plus e))
 
-  pub rows-first : (s : List ℕ) (at first end : ℕ) → first ≤ end → end ≤ length ls → InRows ls s at first end first
-  rows-first s at first end h l = record { high = h; inside = l; is = refl }
+  pub mark-none : (t : Token) → (byteAt s at ≡ 123 → ⊥) → (byteAt s at ≡ 125 → ⊥) → (byteAt s at ≡ 44 → ⊥) → (byteAt s at ≡ 42 → ⊥) → (byteAt s at ≡ 124 → ⊥) → (byteAt s at ≡ 60 → ⊥) → (byteAt s at ≡ 62 → ⊥) → (byteAt s at ≡ 46 → ⊥) → (byteAt s at ≡ 43 → ⊥) → t ≡ noToken at → t ≡ spelled marks at (drop at s) (noToken at)
+  unfolding spelled startsWith
+  mark-none t a b c d e f g i j p = rw (drop-in s at h, other 123 a, other 125 b, other 44 c, other 42 d, other 124 e, other 60 f, other 62 g, other 46 i, other 43 j) p
 
-  pub rows-end : (s : List ℕ) (at first end k : ℕ) → InRows ls s at first end k → end ≤ k → (ms : List Literal) → rows ls first end ≡ ms
-      → noToken at ≡ spelled ms at (drop at s) (noToken at)
+  -- no pattern begins with another byte
+  pub date-other : (t : Token) → (byteAt s at ≡ 121 → ⊥) → t ≡ noToken at → t ≡ spelled datePatterns at (drop at s) (noToken at)
+  unfolding spelled startsWith
+  date-other t n p = rw (drop-in s at h, other 121 n) p
+
+  pub time-other : (t : Token) → (byteAt s at ≡ 84 → ⊥) → t ≡ noToken at → t ≡ spelled timePatterns at (drop at s) (noToken at)
+  unfolding spelled startsWith
+  time-other t n p = rw (drop-in s at h, other 84 n) p
+
+-- the sign ∈
+module _ (s : List ℕ) (at : ℕ) (a : Bool) (qa : a ≡ startsWith (bytes "â\u{88}\u{88}") (drop at s)) where
+  pub sign-is : a ≡ true → token 4 at (at + 3) ≡ spelled elementSign at (drop at s) (noToken at)
   unfolding spelled
-  rows-end s at first end k inv h ms m = let e : end - k ≡ 0 = omega arith in rw (← m) (rw e at (inv .is))
+  sign-is e = rw (← qa, e)
+
+  pub sign-none : (t : Token) → a ≡ false → t ≡ noToken at → t ≡ spelled elementSign at (drop at s) (noToken at)
+  unfolding spelled
+  sign-none t na p = rw (← qa, na) p
+
+-- the date patterns, one by one
+module _ (s : List ℕ) (at : ℕ) (a : Bool) (qa : a ≡ startsWith (bytes "yyyy-mm-dd") (drop at s)) where
+  pub date-1 : a ≡ true → token 31 at (at + 10) ≡ spelled datePatterns at (drop at s) (noToken at)
+  unfolding spelled
+  date-1 e = rw (← qa, e)
+
+  module _ (na : a ≡ false) (b : Bool) (qb : b ≡ startsWith (bytes "yyyy-mm-??") (drop at s)) where
+    pub date-2 : b ≡ true → token 32 at (at + 10) ≡ spelled datePatterns at (drop at s) (noToken at)
+    unfolding spelled
+    date-2 e = rw (← qa, na, ← qb, e)
+
+    module _ (nb : b ≡ false) (c : Bool) (qc : c ≡ startsWith (bytes "yyyy-??-??") (drop at s)) where
+      pub date-3 : c ≡ true → token 33 at (at + 10) ≡ spelled datePatterns at (drop at s) (noToken at)
+      unfolding spelled
+      date-3 e = rw (← qa, na, ← qb, nb, ← qc, e)
+
+      module _ (nc : c ≡ false) (d : Bool) (qd : d ≡ startsWith (bytes "yyyy-mm-XX") (drop at s)) where
+        pub date-4 : d ≡ true → token 34 at (at + 10) ≡ spelled datePatterns at (drop at s) (noToken at)
+        unfolding spelled
+        date-4 e = rw (← qa, na, ← qb, nb, ← qc, nc, ← qd, e)
+
+        module _ (nd : d ≡ false) (e : Bool) (qe : e ≡ startsWith (bytes "yyyy-??-XX") (drop at s)) where
+          pub date-5 : e ≡ true → token 35 at (at + 10) ≡ spelled datePatterns at (drop at s) (noToken at)
+          unfolding spelled
+          date-5 e = rw (← qa, na, ← qb, nb, ← qc, nc, ← qd, nd, ← qe, e)
+
+          pub date-none : (t : Token) → e ≡ false → t ≡ noToken at → t ≡ spelled datePatterns at (drop at s) (noToken at)
+          unfolding spelled
+          date-none t ne p = rw (← qa, na, ← qb, nb, ← qc, nc, ← qd, nd, ← qe, ne) p
+
+-- the time patterns, one by one
+module _ (s : List ℕ) (at : ℕ) (a : Bool) (qa : a ≡ startsWith (bytes "Thh:mm:ss") (drop at s)) where
+  pub time-1 : a ≡ true → token 41 at (at + 9) ≡ spelled timePatterns at (drop at s) (noToken at)
+  unfolding spelled
+  time-1 e = rw (← qa, e)
+
+  module _ (na : a ≡ false) (b : Bool) (qb : b ≡ startsWith (bytes "Thh:mm:XX") (drop at s)) where
+    pub time-2 : b ≡ true → token 42 at (at + 9) ≡ spelled timePatterns at (drop at s) (noToken at)
+    unfolding spelled
+    time-2 e = rw (← qa, na, ← qb, e)
+
+    module _ (nb : b ≡ false) (c : Bool) (qc : c ≡ startsWith (bytes "Thh:??:XX") (drop at s)) where
+      pub time-3 : c ≡ true → token 43 at (at + 9) ≡ spelled timePatterns at (drop at s) (noToken at)
+      unfolding spelled
+      time-3 e = rw (← qa, na, ← qb, nb, ← qc, e)
+
+      module _ (nc : c ≡ false) (d : Bool) (qd : d ≡ startsWith (bytes "Thh:??:??") (drop at s)) where
+        pub time-4 : d ≡ true → token 44 at (at + 9) ≡ spelled timePatterns at (drop at s) (noToken at)
+        unfolding spelled
+        time-4 e = rw (← qa, na, ← qb, nb, ← qc, nc, ← qd, e)
+
+        pub time-none : (t : Token) → d ≡ false → t ≡ noToken at → t ≡ spelled timePatterns at (drop at s) (noToken at)
+        unfolding spelled
+        time-none t nd p = rw (← qa, na, ← qb, nb, ← qc, nc, ← qd, nd) p
+
+-- the patterns of one kind
+module _ (p : Patterns) (at : ℕ) (bs : List ℕ) (t : Token) where
+  pub pattern-date : p ≡ Dates → t ≡ spelled datePatterns at bs (noToken at) → t ≡ spelled (patternsOf p) at bs (noToken at)
+  pattern-date e q = rw e q
+
+  pub pattern-time : p ≡ Times → t ≡ spelled timePatterns at bs (noToken at) → t ≡ spelled (patternsOf p) at bs (noToken at)
+  pattern-time e q = rw e q

@@ -1,21 +1,31 @@
 -- What the functions of this crate promise of their answers: an equation with a definition, and bounds. Assumes nothing.
 use mathlib.Core.Path.{_≡_}
-use mathlib.Core.Bool.{Bool, true, false, not, _&&_}
-use mathlib.Core.List.{List, [], _∷_, _++_}
-use Prim.Native.Nat.{ℕ, _-_, _≤_, _<_}
+use mathlib.Core.Bool.{Bool, true, false, not, _&&_, _||_}
+use mathlib.Core.List.{List, [], _∷_}
+use Prim.Native.Nat.{ℕ, zero, suc, _+_, _*_, _≤_, _<_}
 use lib.Dec.{eqb}
-use lib.ListN.{length, take, drop}
-use Rattle.lexis.specs.Bytes.{is, blank, digit, wordByte, stringByte, runByte, lineEnd}
+use lib.ListN.{length}
+use Rattle.lexis.specs.Bytes.{sortOf, is, blank, digit, wordByte, stringByte, runByte, lineEnd}
 use Rattle.lexis.specs.Runs.{allows}
 use Rattle.lexis.specs.Blanks.{opensComment}
-use Rattle.lexis.specs.Spelling.{Literal, marks, elementSign, datePatterns, timePatterns, keywords, booleans}
-use Rattle.lexis.specs.DataTokens.{dataMarks, runSort, typeSort}
+use Rattle.lexis.specs.Spelling.{Literal, datePatterns, timePatterns, keywords, booleans}
+use Rattle.lexis.specs.DataTokens.{runSort, typeSort}
 use Rattle.lexis.specs.declared.Token.{Token}
-use Rattle.lexis.specs.declared.spellings.Family.{Family}
-use Rattle.lexis.specs.declared.spellings.Family.the-variants.{Marks, ElementSign, DatePatterns, TimePatterns, Keywords, Booleans, DataMarks}
-use Rattle.lexis.specs.declared.spellings.Rows.{Rows}
+use Rattle.lexis.specs.declared.spellings.Patterns.{Patterns}
+use Rattle.lexis.specs.declared.spellings.Patterns.the-variants.{Dates, Times}
+use Rattle.lexis.specs.declared.spellings.Words.{Words}
+use Rattle.lexis.specs.declared.spellings.Words.the-variants.{Keywords, Booleans}
 use Rattle.lexis.specs.declared.runs.Class.{Class}
 use Rattle.lexis.specs.declared.runs.Class.the-variants.{Digit, Word, Text, Run}
+
+-- what a rule says of n numbers from one on, as the hex digits of a number, the first of them last
+abbrev pub digits : (ℕ → ℕ) → ℕ → ℕ → ℕ
+digits rule low zero = 0
+digits rule low (suc n) = rule low + 16 * digits rule (suc low) n
+
+-- the sorts of the sixteen bytes with one high hex digit
+abbrev pub sortsOf : ℕ → ℕ
+sortsOf high = digits sortOf (high * 16) 16
 
 -- r is the place x, from a place of the text on
 pub record PlaceIs (s : List ℕ) (from x r : ℕ) : Type 0 where
@@ -35,11 +45,10 @@ abbrev pub commentOpen : Bool → ℕ → List ℕ → Bool
 commentOpen true b bs = not (lineEnd b)
 commentOpen false b bs = opensComment b bs
 
--- a token starts at the byte b, before which a comment is open or not, and behind which one is open or not
-abbrev pub tokenHere : Bool → Bool → ℕ → Bool
-tokenHere true after b = false
-tokenHere false true b = false
-tokenHere false false b = not (is blank b)
+-- a token starts at the byte b, before which a comment is open or not, and behind which bs stand
+abbrev pub tokenHere : Bool → ℕ → List ℕ → Bool
+tokenHere true b bs = false
+tokenHere false b bs = not (is blank b || opensComment b bs)
 
 -- a byte of a shape admits another by the shape's rule, a byte of a spelling only itself
 abbrev pub admits : Bool → ℕ → ℕ → Bool
@@ -52,25 +61,15 @@ beginsBy f [] bs = true
 beginsBy f (w ∷ ws) [] = false
 beginsBy f (w ∷ ws) (b ∷ bs) = f w b && beginsBy f ws bs
 
--- the spellings of a family
-abbrev pub literalsOf : Family → List Literal
-literalsOf Marks = marks
-literalsOf ElementSign = elementSign
-literalsOf DatePatterns = datePatterns
-literalsOf TimePatterns = timePatterns
-literalsOf Keywords = keywords
-literalsOf Booleans = booleans
-literalsOf DataMarks = dataMarks
+-- the spellings of the patterns of one kind
+abbrev pub patternsOf : Patterns → List Literal
+patternsOf Dates = datePatterns
+patternsOf Times = timePatterns
 
--- all spellings, family by family
-abbrev pub allSpellings : List Literal
-allSpellings = marks ++ elementSign ++ datePatterns ++ timePatterns ++ keywords ++ booleans ++ dataMarks
-
--- r names the rows of the list of all spellings that are a family's
-pub record RowsAre (f : Family) (r : Rows) : Type 0 where
-  pub is : take (r .end - r .first) (drop (r .first) allSpellings) ≡ literalsOf f
-  pub order : r .first ≤ r .end
-  pub inside : r .end ≤ 30
+-- the words that are no NAME, and those that are no TYPE
+abbrev pub wordsOf : Words → List Literal
+wordsOf Keywords = keywords
+wordsOf Booleans = booleans
 
 -- how the sort of a run is told, behind `(` and elsewhere
 abbrev pub sorting : Bool → List ℕ → ℕ → ℕ

@@ -1,4 +1,5 @@
 // Runs of bytes, blanks and comments, and bytes compared with what is spelled.
+use crate::sorts::byte_at;
 use crate::sorts::is_blank;
 use crate::sorts::is_digit;
 use crate::sorts::line_end;
@@ -58,22 +59,23 @@ fn comment_open(s: &[u8], at: usize, inside: bool) -> bool
     if s[at] != b'-' {
         return false;
     }
-    if at + 1 < s.len() {
-        s[at + 1] == b'-'
-    } else {
-        false
-    }
+    byte_at(s, at + 1) == b'-'
 }
 
-// Whether a token starts at a byte: no comment is open before it or behind it, and it is no blank.
-fn token_here(b: u8, inside: bool, after: bool) -> bool
-    ensures { λ r. ⌜ r ≡ tokenHere inside after b ⌝ }
+// Whether a token starts at a byte: no comment is open before it or behind it, and it is no blank. No byte above `-` is a blank or opens a comment.
+fn token_here(s: &[u8], at: usize, inside: bool) -> bool
+    requires { ⌜ at < length (now s) ⌝ }
+    ensures { λ r. ⌜ r ≡ tokenHere inside (byteAt (now (s .entry)) at) (drop (at + 1) (now (s .entry))) ⌝ }
 {
     if inside {
         return false;
     }
-    if after {
-        return false;
+    let b = s[at];
+    if b'-' < b {
+        return true;
+    }
+    if b == b'-' {
+        return byte_at(s, at + 1) != b'-';
     }
     !is_blank(b)
 }
@@ -86,11 +88,10 @@ pub fn token_start(s: &[u8], from: usize) -> usize
     let mut at = from;
     let mut inside = false;
     while at < s.len() {
-        let after = comment_open(s, at, inside);
-        if token_here(s[at], inside, after) {
+        if token_here(s, at, inside) {
             return at;
         }
-        inside = after;
+        inside = comment_open(s, at, inside);
         at += 1;
     }
     at

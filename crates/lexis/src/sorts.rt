@@ -1,7 +1,9 @@
 // The sort of a byte, and tests on bytes.
 ghost use mathlib.Core.Path.{_≡_};
 ghost use Rattle.lexis.specs.Bytes.{sortOf, is, blank, digit, wordByte, stringByte, runByte, lineEnd};
+ghost use Prim.Native.Nat.{_<_};
 ghost use Rattle.lexis.specs.Runs.{byteAt};
+ghost use Rattle.lexis.specs.Postconditions.{sortsOf};
 
 // The sorts of bytes; any other byte is of the sort 5.
 pub const BLANK: u8 = 0;
@@ -14,288 +16,59 @@ pub const CAPITAL: u8 = 3;
 
 pub const MARK: u8 = 4;
 
-// The sort of each byte, by the byte's number.
-const SORTS: [u8; 256] = [
-    // 00 to 0F
-    5,
-    5,
-    5,
-    5,
-    5,
-    5,
-    5,
-    5,
-    5,
-    0,
-    0,
-    5,
-    5,
-    0,
-    5,
-    5,
-    // 10 to 1F
-    5,
-    5,
-    5,
-    5,
-    5,
-    5,
-    5,
-    5,
-    5,
-    5,
-    5,
-    5,
-    5,
-    5,
-    5,
-    5,
-    // 20 to 2F
-    0,
-    5,
-    5,
-    5,
-    5,
-    5,
-    5,
-    5,
-    5,
-    5,
-    4,
-    4,
-    4,
-    4,
-    4,
-    4,
-    // 30 to 3F
-    1,
-    1,
-    1,
-    1,
-    1,
-    1,
-    1,
-    1,
-    1,
-    1,
-    5,
-    5,
-    4,
-    4,
-    4,
-    5,
-    // 40 to 4F
-    5,
-    3,
-    3,
-    3,
-    3,
-    3,
-    3,
-    3,
-    3,
-    3,
-    3,
-    3,
-    3,
-    3,
-    3,
-    3,
-    // 50 to 5F
-    3,
-    3,
-    3,
-    3,
-    3,
-    3,
-    3,
-    3,
-    3,
-    3,
-    3,
-    5,
-    5,
-    5,
-    5,
-    5,
-    // 60 to 6F
-    5,
-    2,
-    2,
-    2,
-    2,
-    2,
-    2,
-    2,
-    2,
-    2,
-    2,
-    2,
-    2,
-    2,
-    2,
-    2,
-    // 70 to 7F
-    2,
-    2,
-    2,
-    2,
-    2,
-    2,
-    2,
-    2,
-    2,
-    2,
-    2,
-    4,
-    4,
-    4,
-    5,
-    5,
-    // 80 to 8F
-    5,
-    5,
-    5,
-    5,
-    5,
-    5,
-    5,
-    5,
-    5,
-    5,
-    5,
-    5,
-    5,
-    5,
-    5,
-    5,
-    // 90 to 9F
-    5,
-    5,
-    5,
-    5,
-    5,
-    5,
-    5,
-    5,
-    5,
-    5,
-    5,
-    5,
-    5,
-    5,
-    5,
-    5,
-    // A0 to AF
-    5,
-    5,
-    5,
-    5,
-    5,
-    5,
-    5,
-    5,
-    5,
-    5,
-    5,
-    5,
-    5,
-    5,
-    5,
-    5,
-    // B0 to BF
-    5,
-    5,
-    5,
-    5,
-    5,
-    5,
-    5,
-    5,
-    5,
-    5,
-    5,
-    5,
-    5,
-    5,
-    5,
-    5,
-    // C0 to CF
-    5,
-    5,
-    5,
-    5,
-    5,
-    5,
-    5,
-    5,
-    5,
-    5,
-    5,
-    5,
-    5,
-    5,
-    5,
-    5,
-    // D0 to DF
-    5,
-    5,
-    5,
-    5,
-    5,
-    5,
-    5,
-    5,
-    5,
-    5,
-    5,
-    5,
-    5,
-    5,
-    5,
-    5,
-    // E0 to EF
-    5,
-    5,
-    5,
-    5,
-    5,
-    5,
-    5,
-    5,
-    5,
-    5,
-    5,
-    5,
-    5,
-    5,
-    5,
-    5,
-    // F0 to FF
-    5,
-    5,
-    5,
-    5,
-    5,
-    5,
-    5,
-    5,
-    5,
-    5,
-    5,
-    5,
-    5,
-    5,
-    5,
-    5,
+// The sort of each byte: the hex digits of a number are the sorts of sixteen bytes, of 00 to 0F in the first, the lowest byte last.
+const SORTS: [u64; 16] = [
+    0x5505500555555555,
+    0x5555555555555555,
+    0x4444445555555550,
+    0x5444551111111111,
+    0x3333333333333335,
+    0x5555533333333333,
+    0x2222222222222225,
+    0x5544422222222222,
+    0x5555555555555555,
+    0x5555555555555555,
+    0x5555555555555555,
+    0x5555555555555555,
+    0x5555555555555555,
+    0x5555555555555555,
+    0x5555555555555555,
+    0x5555555555555555,
 ];
+
+// The sorts of the bytes with one high hex digit. Each entry is named by a constant, so that the table lies in static memory and is not laid out anew.
+fn sorts_of(high: u8) -> u64
+    requires { ⌜ high < 16 ⌝ }
+    ensures { λ r. ⌜ r ≡ sortsOf high ⌝ }
+{
+    let sorts = SORTS;
+    match high {
+        0 => sorts[0],
+        1 => sorts[1],
+        2 => sorts[2],
+        3 => sorts[3],
+        4 => sorts[4],
+        5 => sorts[5],
+        6 => sorts[6],
+        7 => sorts[7],
+        8 => sorts[8],
+        9 => sorts[9],
+        10 => sorts[10],
+        11 => sorts[11],
+        12 => sorts[12],
+        13 => sorts[13],
+        14 => sorts[14],
+        15..=255 => sorts[15],
+    }
+}
 
 // The sort of a byte.
 pub fn sort_of(b: u8) -> u8
     ensures { λ r. ⌜ r ≡ sortOf b ⌝ }
 {
-    let i = b as usize;
-    SORTS[i]
+    let sorts = sorts_of(b / 16);
+    let low = (b % 16) as u64;
+    ((sorts >> (low * 4)) % 16) as u8
 }
 
 // The byte at a place, and 0 behind the text's end.
@@ -305,7 +78,7 @@ pub fn byte_at(s: &[u8], at: usize) -> u8
     if at < s.len() { s[at] } else { 0 }
 }
 
-// Space, tab, CR or LF. The tests on bytes compare, since a table in a loop is laid out anew at each turn.
+// Space, tab, CR or LF.
 pub fn is_blank(b: u8) -> bool
     ensures { λ r. ⌜ r ≡ is blank b ⌝ }
 {
@@ -345,22 +118,19 @@ pub fn is_digit(b: u8) -> bool
 pub fn word_byte(b: u8) -> bool
     ensures { λ r. ⌜ r ≡ wordByte b ⌝ }
 {
+    if b'a' <= b {
+        return b <= b'z';
+    }
+    if b'A' <= b {
+        if b <= b'Z' {
+            return true;
+        }
+        return b == b'_';
+    }
     if b < b'0' {
         return false;
     }
-    if b <= b'9' {
-        return true;
-    }
-    if b < b'A' {
-        return false;
-    }
-    if b <= b'Z' {
-        return true;
-    }
-    if b < b'a' {
-        return b == b'_';
-    }
-    b <= b'z'
+    b <= b'9'
 }
 
 // A byte that a string may hold.

@@ -1,185 +1,313 @@
-// The tokens that are spelled in one way: a table of them, and the first of a family that stands at a place.
+// The tokens that are spelled in one way: marks, the sign ∈, patterns, and words that are no names.
+use crate::AT_LEAST;
+use crate::AT_MOST;
+use crate::BAR;
+use crate::CLOSE_BRACE;
+use crate::CLOSE_ROUND;
+use crate::COMMA;
+use crate::DATE_PATTERN;
+use crate::DOTS;
+use crate::EQUALS;
+use crate::EXISTENCE;
+use crate::FALSE_WORD;
+use crate::GREATER;
+use crate::LESS;
+use crate::MATCHES;
+use crate::OPEN_BRACE;
+use crate::OPEN_ROUND;
+use crate::PLUS_MINUS;
+use crate::STAR;
+use crate::TIME_PATTERN;
+use crate::TRUE_WORD;
 use crate::Token;
-use crate::UNREADABLE;
 use crate::no_token;
+use crate::runs::same_bytes;
 use crate::runs::starts_with;
+use crate::sorts::byte_at;
 ghost use mathlib.Core.Path.{_≡_};
-ghost use Prim.Native.Nat.{_≤_};
+ghost use Prim.Native.Nat.{_<_};
 ghost use lib.ListN.{length, drop};
-ghost use Rattle.lexis.specs.Spelling.{wordSort};
+ghost use Rattle.lexis.specs.Spelling.{marks, elementSign, datePatterns, timePatterns, keywords, booleans, wordSort};
 ghost use Rattle.lexis.specs.Tokens.{noToken, spelled};
-ghost use Rattle.lexis.specs.Postconditions.{literalsOf, RowsAre};
+ghost use Rattle.lexis.specs.DataTokens.{dataMarks};
+ghost use Rattle.lexis.specs.Postconditions.{patternsOf, wordsOf};
 
-// The spellings, each made up to ten bytes by blanks: marks, the sign ∈, date patterns, time patterns, keywords, Booleans, data marks.
-const SPELLINGS: [[u8; 10]; 30] = [
-    *b"{         ",
-    *b"}         ",
-    *b",         ",
-    *b"*         ",
-    *b"|         ",
-    *b"..        ",
-    *b"<=        ",
-    *b"<         ",
-    *b">=        ",
-    *b">         ",
-    *b"+/-       ",
-    *b"\xe2\x88\x88       ",
-    *b"yyyy-mm-dd",
-    *b"yyyy-mm-??",
-    *b"yyyy-??-??",
-    *b"yyyy-mm-XX",
-    *b"yyyy-??-XX",
-    *b"Thh:mm:ss ",
-    *b"Thh:mm:XX ",
-    *b"Thh:??:XX ",
-    *b"Thh:??:?? ",
-    *b"matches   ",
-    *b"existence ",
-    *b"True      ",
-    *b"False     ",
-    *b"<         ",
-    *b">         ",
-    *b"=         ",
-    *b"(         ",
-    *b")         ",
-];
+// The patterns of a date, and those of a time.
+pub enum Patterns {
+    Dates,
+    Times,
+}
 
-// The length of each spelling.
-const LENGTHS: [u8; 30] = [
-    1,
-    1,
-    1,
-    1,
-    1,
-    2,
-    2,
-    1,
-    2,
-    1,
-    3,
-    3,
-    10,
-    10,
-    10,
-    10,
-    10,
-    9,
-    9,
-    9,
-    9,
-    7,
-    9,
-    4,
-    5,
-    1,
-    1,
-    1,
-    1,
-    1,
-];
-
-// The sort of the token that each spells.
-const TOKEN_SORTS: [u8; 30] = [
-    12,
-    13,
-    14,
-    15,
-    16,
-    17,
-    20,
-    18,
-    21,
-    19,
-    22,
-    4,
-    31,
-    32,
-    33,
-    34,
-    35,
-    41,
-    42,
-    43,
-    44,
-    4,
-    5,
-    6,
-    7,
-    18,
-    19,
-    23,
-    24,
-    25,
-];
-
-// The families of spellings.
-pub enum Family {
-    Marks,
-    ElementSign,
-    DatePatterns,
-    TimePatterns,
+// The words that are no NAME, and those that are no TYPE.
+pub enum Words {
     Keywords,
     Booleans,
-    DataMarks,
 }
 
-// The rows of the table from one on, up to another.
-struct Rows {
-    first: usize,
-    end: usize,
-}
-
-// The rows of a family.
-fn rows_of(f: Family) -> Rows
-    ensures { λ r. ⌜ RowsAre f r ⌝ }
+// The first mark of constraint text with which the bytes at a place begin, as a token; where there is none, an unreadable token.
+pub fn mark(s: &[u8], at: usize) -> Token
+    requires { ⌜ at < length (now s) ⌝ }
+    ensures { λ r. ⌜ r ≡ spelled marks at (drop at (now (s .entry))) (noToken at) ⌝ }
 {
-    match f {
-        Family::Marks => Rows { first: 0, end: 11 },
-        Family::ElementSign => Rows { first: 11, end: 12 },
-        Family::DatePatterns => Rows { first: 12, end: 17 },
-        Family::TimePatterns => Rows { first: 17, end: 21 },
-        Family::Keywords => Rows { first: 21, end: 23 },
-        Family::Booleans => Rows { first: 23, end: 25 },
-        Family::DataMarks => Rows { first: 25, end: 30 },
+    let b = s[at];
+    let next = byte_at(s, at + 1);
+    match b {
+        b'{' => Token {
+            sort: OPEN_BRACE,
+            start: at,
+            end: at + 1,
+        },
+        b'}' => Token {
+            sort: CLOSE_BRACE,
+            start: at,
+            end: at + 1,
+        },
+        b',' => Token {
+            sort: COMMA,
+            start: at,
+            end: at + 1,
+        },
+        b'*' => Token {
+            sort: STAR,
+            start: at,
+            end: at + 1,
+        },
+        b'|' => Token {
+            sort: BAR,
+            start: at,
+            end: at + 1,
+        },
+        b'<' => {
+            if next == b'=' {
+                return Token {
+                    sort: AT_MOST,
+                    start: at,
+                    end: at + 2,
+                };
+            }
+            Token {
+                sort: LESS,
+                start: at,
+                end: at + 1,
+            }
+        }
+        b'>' => {
+            if next == b'=' {
+                return Token {
+                    sort: AT_LEAST,
+                    start: at,
+                    end: at + 2,
+                };
+            }
+            Token {
+                sort: GREATER,
+                start: at,
+                end: at + 1,
+            }
+        }
+        b'.' => {
+            if next == b'.' {
+                return Token {
+                    sort: DOTS,
+                    start: at,
+                    end: at + 2,
+                };
+            }
+            no_token(at)
+        }
+        b'+' => {
+            if starts_with(s, at, b"+/-") {
+                return Token {
+                    sort: PLUS_MINUS,
+                    start: at,
+                    end: at + 3,
+                };
+            }
+            no_token(at)
+        }
+        _ => no_token(at),
     }
 }
 
-// The first spelling of a family with which the bytes at a place begin, as a token; where there is none, an unreadable token.
-pub fn spelled(s: &[u8], at: usize, f: Family) -> Token
-    requires { ⌜ at ≤ length (now s) ⌝ }
-    ensures { λ r. ⌜ r ≡ spelled (literalsOf f) at (drop at (now (s .entry))) (noToken at) ⌝ }
+// The sign ∈ at a place, as a token.
+pub fn element_sign(s: &[u8], at: usize) -> Token
+    requires { ⌜ at < length (now s) ⌝ }
+    ensures { λ r. ⌜ r ≡ spelled elementSign at (drop at (now (s .entry))) (noToken at) ⌝ }
 {
-    let spellings = SPELLINGS;
-    let lengths = LENGTHS;
-    let sorts = TOKEN_SORTS;
-    let rows = rows_of(f);
-    let end = rows.end;
-    let mut k = rows.first;
-    while k < end {
-        let n = lengths[k] as usize;
-        let w = spellings[k];
-        if starts_with(s, at, &w[..n]) {
-            return Token {
-                sort: sorts[k],
-                start: at,
-                end: at + n,
-            };
-        }
-        k += 1;
+    if starts_with(s, at, b"\xe2\x88\x88") {
+        return Token {
+            sort: MATCHES,
+            start: at,
+            end: at + 3,
+        };
     }
     no_token(at)
 }
 
-// The sort of a whole word: the family's where the family spells it, else the one given.
-pub fn word_sort(w: &[u8], f: Family, sort: u8) -> u8
-    ensures { λ r. ⌜ r ≡ wordSort (literalsOf f) (now (w .entry)) sort ⌝ }
+// The mark of data text at a place, as a token.
+pub fn data_mark(s: &[u8], at: usize) -> Token
+    requires { ⌜ at < length (now s) ⌝ }
+    ensures { λ r. ⌜ r ≡ spelled dataMarks at (drop at (now (s .entry))) (noToken at) ⌝ }
 {
-    let t = spelled(w, 0, f);
-    if t.sort == UNREADABLE {
-        return sort;
+    let b = s[at];
+    match b {
+        b'<' => Token {
+            sort: LESS,
+            start: at,
+            end: at + 1,
+        },
+        b'>' => Token {
+            sort: GREATER,
+            start: at,
+            end: at + 1,
+        },
+        b'=' => Token {
+            sort: EQUALS,
+            start: at,
+            end: at + 1,
+        },
+        b'(' => Token {
+            sort: OPEN_ROUND,
+            start: at,
+            end: at + 1,
+        },
+        b')' => Token {
+            sort: CLOSE_ROUND,
+            start: at,
+            end: at + 1,
+        },
+        _ => no_token(at),
     }
-    if t.end == w.len() {
-        return t.sort;
+}
+
+// The date pattern at a place that opens with `y`, as a token.
+fn date_pattern(s: &[u8], at: usize) -> Token
+    requires { ⌜ at < length (now s) ⌝ }
+    ensures { λ r. ⌜ r ≡ spelled datePatterns at (drop at (now (s .entry))) (noToken at) ⌝ }
+{
+    if s[at] != b'y' {
+        return no_token(at);
+    }
+    if starts_with(s, at, b"yyyy-mm-dd") {
+        return Token {
+            sort: DATE_PATTERN + 1,
+            start: at,
+            end: at + 10,
+        };
+    }
+    if starts_with(s, at, b"yyyy-mm-??") {
+        return Token {
+            sort: DATE_PATTERN + 2,
+            start: at,
+            end: at + 10,
+        };
+    }
+    if starts_with(s, at, b"yyyy-??-??") {
+        return Token {
+            sort: DATE_PATTERN + 3,
+            start: at,
+            end: at + 10,
+        };
+    }
+    if starts_with(s, at, b"yyyy-mm-XX") {
+        return Token {
+            sort: DATE_PATTERN + 4,
+            start: at,
+            end: at + 10,
+        };
+    }
+    if starts_with(s, at, b"yyyy-??-XX") {
+        return Token {
+            sort: DATE_PATTERN + 5,
+            start: at,
+            end: at + 10,
+        };
+    }
+    no_token(at)
+}
+
+// The time pattern at a place, as a token.
+fn time_pattern(s: &[u8], at: usize) -> Token
+    requires { ⌜ at < length (now s) ⌝ }
+    ensures { λ r. ⌜ r ≡ spelled timePatterns at (drop at (now (s .entry))) (noToken at) ⌝ }
+{
+    if s[at] != b'T' {
+        return no_token(at);
+    }
+    if starts_with(s, at, b"Thh:mm:ss") {
+        return Token {
+            sort: TIME_PATTERN + 1,
+            start: at,
+            end: at + 9,
+        };
+    }
+    if starts_with(s, at, b"Thh:mm:XX") {
+        return Token {
+            sort: TIME_PATTERN + 2,
+            start: at,
+            end: at + 9,
+        };
+    }
+    if starts_with(s, at, b"Thh:??:XX") {
+        return Token {
+            sort: TIME_PATTERN + 3,
+            start: at,
+            end: at + 9,
+        };
+    }
+    if starts_with(s, at, b"Thh:??:??") {
+        return Token {
+            sort: TIME_PATTERN + 4,
+            start: at,
+            end: at + 9,
+        };
+    }
+    no_token(at)
+}
+
+// The pattern at a place, as a token.
+pub fn pattern(s: &[u8], at: usize, p: Patterns) -> Token
+    requires { ⌜ at < length (now s) ⌝ }
+    ensures { λ r. ⌜ r ≡ spelled (patternsOf p) at (drop at (now (s .entry))) (noToken at) ⌝ }
+{
+    match p {
+        Patterns::Dates => date_pattern(s, at),
+        Patterns::Times => time_pattern(s, at),
+    }
+}
+
+// The sort of a keyword, else the one given.
+fn keyword_sort(w: &[u8], sort: u8) -> u8
+    ensures { λ r. ⌜ r ≡ wordSort keywords (now (w .entry)) sort ⌝ }
+{
+    if same_bytes(b"matches", w) {
+        return MATCHES;
+    }
+    if same_bytes(b"existence", w) {
+        return EXISTENCE;
     }
     sort
+}
+
+// The sort of a Boolean, else the one given.
+fn boolean_sort(w: &[u8], sort: u8) -> u8
+    ensures { λ r. ⌜ r ≡ wordSort booleans (now (w .entry)) sort ⌝ }
+{
+    if same_bytes(b"True", w) {
+        return TRUE_WORD;
+    }
+    if same_bytes(b"False", w) {
+        return FALSE_WORD;
+    }
+    sort
+}
+
+// The sort of a whole word: the list's where the list spells it, else the one given.
+pub fn word_sort(w: &[u8], f: Words, sort: u8) -> u8
+    ensures { λ r. ⌜ r ≡ wordSort (wordsOf f) (now (w .entry)) sort ⌝ }
+{
+    match f {
+        Words::Keywords => keyword_sort(w, sort),
+        Words::Booleans => boolean_sort(w, sort),
+    }
 }

@@ -21,8 +21,11 @@ use crate::sorts::SMALL;
 use crate::sorts::byte_at;
 use crate::sorts::is_digit;
 use crate::sorts::sort_of;
-use crate::spellings::Family;
-use crate::spellings::spelled;
+use crate::spellings::Patterns;
+use crate::spellings::Words;
+use crate::spellings::element_sign;
+use crate::spellings::mark;
+use crate::spellings::pattern;
 use crate::spellings::word_sort;
 ghost use mathlib.Core.Path.{_≡_};
 ghost use mathlib.Core.Bool.{false, _&&_, _||_};
@@ -33,12 +36,12 @@ ghost use Rattle.lexis.specs.Text.{byte};
 ghost use Rattle.lexis.specs.Bytes.{is, digit};
 ghost use Rattle.lexis.specs.Runs.{byteAt};
 ghost use Rattle.lexis.specs.Tokens.{word, number, sign, quoted, codeEnd, bracket, special, tokenOn, tokenAt, spelled};
-ghost use Rattle.lexis.specs.Postconditions.{literalsOf, TokenIs};
+ghost use Rattle.lexis.specs.Postconditions.{patternsOf, wordsOf, TokenIs};
 
 // A word: of the family's sort where the family spells it, else of the sort given.
-fn word(s: &[u8], at: usize, f: Family, sort: u8) -> Token
+fn word(s: &[u8], at: usize, f: Words, sort: u8) -> Token
     requires { ⌜ at ≤ length (now s) ⌝ }
-    ensures { λ r. ⌜ r ≡ word (now (s .entry)) (literalsOf f) sort at ⌝ }
+    ensures { λ r. ⌜ r ≡ word (now (s .entry)) (wordsOf f) sort at ⌝ }
 {
     let end = past_run(s, at, Class::Word);
     let k = word_sort(&s[at..end], f, sort);
@@ -50,11 +53,11 @@ fn word(s: &[u8], at: usize, f: Family, sort: u8) -> Token
 }
 
 // A pattern of one family, or else a word of another.
-fn pattern_or_word(s: &[u8], at: usize, patterns: Family, words: Family, sort: u8) -> Token
-    requires { ⌜ at ≤ length (now s) ⌝ }
-    ensures { λ r. ⌜ r ≡ spelled (literalsOf patterns) at (drop at (now (s .entry))) (word (now (s .entry)) (literalsOf words) sort at) ⌝ }
+fn pattern_or_word(s: &[u8], at: usize, patterns: Patterns, words: Words, sort: u8) -> Token
+    requires { ⌜ at < length (now s) ⌝ }
+    ensures { λ r. ⌜ r ≡ spelled (patternsOf patterns) at (drop at (now (s .entry))) (word (now (s .entry)) (wordsOf words) sort at) ⌝ }
 {
-    let t = spelled(s, at, patterns);
+    let t = pattern(s, at, patterns);
     if t.sort != UNREADABLE {
         return t;
     }
@@ -105,7 +108,7 @@ fn sign(s: &[u8], at: usize) -> Token
             end,
         };
     }
-    spelled(s, at, Family::Marks)
+    mark(s, at)
 }
 
 // A string with its quotes, of which the first stands at the place.
@@ -197,7 +200,7 @@ fn special(s: &[u8], at: usize) -> Token
     if s[at] == b'[' {
         return bracket(s, at);
     }
-    spelled(s, at, Family::ElementSign)
+    element_sign(s, at)
 }
 
 // The token that starts at a place, by the sort of the byte there; the text's end is a token.
@@ -214,8 +217,8 @@ fn token_on(s: &[u8], at: usize) -> Token
     }
     let k = sort_of(s[at]);
     match k {
-        CAPITAL => pattern_or_word(s, at, Family::TimePatterns, Family::Booleans, TYPE_NAME),
-        SMALL => pattern_or_word(s, at, Family::DatePatterns, Family::Keywords, NAME),
+        CAPITAL => pattern_or_word(s, at, Patterns::Times, Words::Booleans, TYPE_NAME),
+        SMALL => pattern_or_word(s, at, Patterns::Dates, Words::Keywords, NAME),
         DIGIT => number(s, at),
         MARK => sign(s, at),
         _ => special(s, at),

@@ -1,6 +1,6 @@
 -- `lexis::data_tokens::data_token_on` meets its contract. Assumes nothing.
-use borrow.Author.Needs.{needs}
 use Rattle.lexis.proofs.DataTokenSteps.{data-end, data-run, data-string, data-mark}
+use borrow.Author.Needs.{needs}
 use Rattle.lexis.proofs.data_tokens.data_token_on.Statement.{statement}
 use Rattle.lexis.proofs.data_tokens.data_token_on.Tie as tie
 
@@ -28,8 +28,8 @@ quoted-requires c κs = search needs
 returns-3 : tie.Need-returns-3
 returns-3 c = search data-string
 
-spelled-requires : tie.Need-spelled-requires
-spelled-requires c κs = search needs
+data-mark-requires : tie.Need-data-mark-requires
+data-mark-requires c κs = search needs
 
 returns-4 : tie.Need-returns-4
 returns-4 c = search data-mark
@@ -46,5 +46,5 @@ data-token-on-spec =
     shared-slice-read-if3
     quoted-requires
     returns-3
-    spelled-requires
+    data-mark-requires
     returns-4)

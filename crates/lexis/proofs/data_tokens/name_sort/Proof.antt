@@ -1,11 +1,8 @@
 -- `lexis::data_tokens::name_sort` meets its contract. Assumes nothing.
-use borrow.Author.Needs.{needs}
 use Rattle.lexis.proofs.DataTokenSteps.{name-broken, name-spelled, name-is}
+use borrow.Author.Needs.{needs}
 use Rattle.lexis.proofs.data_tokens.name_sort.Statement.{statement}
 use Rattle.lexis.proofs.data_tokens.name_sort.Tie as tie
-
-past-run-requires : tie.Need-past-run-requires
-past-run-requires c κs = search needs
 
 returns : tie.Need-returns
 returns c = search name-broken
@@ -20,5 +17,4 @@ returns-3 : tie.Need-returns-3
 returns-3 c = search name-is
 
 pub name-sort-spec : {M : Type 1} → statement M
-name-sort-spec =
-    tie.close (tie.spec past-run-requires returns word-sort-requires returns-2 returns-3)
+name-sort-spec = tie.close (tie.spec returns word-sort-requires returns-2 returns-3)

@@ -1,11 +1,14 @@
 -- `lexis::data_tokens::run` meets its contract. Assumes nothing.
+use Rattle.lexis.proofs.DataTokenSteps.{run-whole, run-is}
 use borrow.Author.Needs.{needs}
-use Rattle.lexis.proofs.DataTokenSteps.{run-is}
 use Rattle.lexis.proofs.data_tokens.run.Statement.{statement}
 use Rattle.lexis.proofs.data_tokens.run.Tie as tie
 
 past-run-requires : tie.Need-past-run-requires
 past-run-requires c κs = search needs
+
+past-run-requires-2 : tie.Need-past-run-requires-2
+past-run-requires-2 c κs = search needs
 
 sub-run-sort : tie.Need-sub-run-sort
 sub-run-sort c = search needs
@@ -20,7 +23,7 @@ shared-slice-read-run-sort : tie.Need-shared-slice-read-run-sort
 shared-slice-read-run-sort c = search needs
 
 run-sort-requires : tie.Need-run-sort-requires
-run-sort-requires c κs = search needs
+run-sort-requires c κs = search run-whole
 
 returns : tie.Need-returns
 returns c = search run-is
@@ -30,6 +33,7 @@ run-spec =
     tie.close
     (tie.spec
     past-run-requires
+    past-run-requires-2
     sub-run-sort
     part-run-sort-start
     part-run-sort-end

@@ -1,6 +1,6 @@
 -- `lexis::data_tokens::run_sort` meets its contract. Assumes nothing.
-use borrow.Author.Needs.{needs}
 use Rattle.lexis.proofs.DataTokenSteps.{sorting-type, sorting-none, sorting-name, sorting-word}
+use borrow.Author.Needs.{needs}
 use Rattle.lexis.proofs.data_tokens.run_sort.Statement.{statement}
 use Rattle.lexis.proofs.data_tokens.run_sort.Tie as tie
 

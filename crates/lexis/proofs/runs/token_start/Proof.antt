@@ -1,9 +1,9 @@
 -- `lexis::runs::token_start` meets its contract. Assumes nothing.
 use Prim.Native.Nat.{_-_}
 use lib.ListN.{length}
-use borrow.Author.Needs.{needs}
 use Rattle.lexis.specs.Blanks.{tokenStart}
 use Rattle.lexis.proofs.RunSteps.{InBlanks, blanks-first, blanks-end, blanks-out, blanks-on}
+use borrow.Author.Needs.{needs}
 use Rattle.lexis.proofs.runs.token_start.Statement.{statement}
 use Rattle.lexis.proofs.runs.token_start.Tie as tie
 
@@ -16,17 +16,14 @@ abbrev μ-loop : tie.MeasureT-loop
 loop-holds : tie.Need-loop-holds Inv-loop μ-loop
 loop-holds c = search blanks-first
 
-comment-open-requires : tie.Need-comment-open-requires Inv-loop μ-loop
-comment-open-requires c κs = search needs
-
-shared-slice-read-token-here : tie.Need-shared-slice-read-token-here Inv-loop μ-loop
-shared-slice-read-token-here c = search needs
-
 token-here-requires : tie.Need-token-here-requires Inv-loop μ-loop
 token-here-requires c κs = search needs
 
 returns : tie.Need-returns Inv-loop μ-loop
 returns c = search blanks-out
+
+comment-open-requires : tie.Need-comment-open-requires Inv-loop μ-loop
+comment-open-requires c κs = search needs
 
 add-at : tie.Need-add-at Inv-loop μ-loop
 add-at c = search needs
@@ -35,7 +32,10 @@ loop-less : tie.Need-loop-less Inv-loop μ-loop
 loop-less c = search needs
 
 loop-again : tie.Need-loop-again Inv-loop μ-loop
-loop-again c = search blanks-on
+loop-again c =
+    let k = c .before .before in
+    let l = k .before .before in
+    blanks-on _ _ _ _ _ (l .loop .inv) _ (k .before .loop-test .taken) (k .token-here .ensures) _ (c .before .if1 .left) (c .comment-open .ensures)
 
 returns-2 : tie.Need-returns-2 Inv-loop μ-loop
 returns-2 c = search blanks-end
@@ -47,10 +47,9 @@ token-start-spec =
     Inv-loop
     μ-loop
     loop-holds
-    comment-open-requires
-    shared-slice-read-token-here
     token-here-requires
     returns
+    comment-open-requires
     add-at
     loop-less
     loop-again

@@ -1,6 +1,6 @@
 -- `lexis::tokens::sign` meets its contract. Assumes nothing.
-use borrow.Author.Needs.{needs}
 use Rattle.lexis.proofs.TokenSteps.{sign-integer, sign-mark}
+use borrow.Author.Needs.{needs}
 use Rattle.lexis.proofs.tokens.sign.Statement.{statement}
 use Rattle.lexis.proofs.tokens.sign.Tie as tie
 
@@ -16,8 +16,8 @@ past-run-requires c κs = search needs
 returns : tie.Need-returns
 returns c = search sign-integer
 
-spelled-requires : tie.Need-spelled-requires
-spelled-requires c κs = search needs
+mark-requires : tie.Need-mark-requires
+mark-requires c κs = search needs
 
 returns-2 : tie.Need-returns-2
 returns-2 c = search sign-mark
@@ -25,4 +25,4 @@ returns-2 c = search sign-mark
 pub sign-spec : {M : Type 1} → statement M
 sign-spec =
     tie.close
-    (tie.spec negative-requires add-past-run past-run-requires returns spelled-requires returns-2)
+    (tie.spec negative-requires add-past-run past-run-requires returns mark-requires returns-2)

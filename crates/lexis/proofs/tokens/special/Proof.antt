@@ -1,6 +1,6 @@
 -- `lexis::tokens::special` meets its contract. Assumes nothing.
-use borrow.Author.Needs.{needs}
 use Rattle.lexis.proofs.TokenSteps.{special-string, special-code, special-sign}
+use borrow.Author.Needs.{needs}
 use Rattle.lexis.proofs.tokens.special.Statement.{statement}
 use Rattle.lexis.proofs.tokens.special.Tie as tie
 
@@ -22,8 +22,8 @@ bracket-requires c κs = search needs
 returns-2 : tie.Need-returns-2
 returns-2 c = search special-code
 
-spelled-requires : tie.Need-spelled-requires
-spelled-requires c κs = search needs
+element-sign-requires : tie.Need-element-sign-requires
+element-sign-requires c κs = search needs
 
 returns-3 : tie.Need-returns-3
 returns-3 c = search special-sign
@@ -38,5 +38,5 @@ special-spec =
     shared-slice-read-if2
     bracket-requires
     returns-2
-    spelled-requires
+    element-sign-requires
     returns-3)
