@@ -105,14 +105,17 @@ module _ (records : List ℕ) (b : Block) (count base : ℕ) (ec : count ≡ rec
   base-is : base ≡ baseOf records b
   base-is = eb ∙ ap (λ c. b .first * c) ec
 
+  pub base-near : base ≤ 8_388_608
+  base-near = rw base-is small
+
   pub visit-outermost : VisitOf records b (record { base = base; again = false })
-  visit-outermost = record { base = base-is; small = rw base-is small; again = λ h. absurd (false≢true h) }
+  visit-outermost = record { base = base-is; small = base-near; again = λ h. absurd (false≢true h) }
 
   pub visit-row : (seen : Bool) → (b .first ≡ 0 → ⊥) → VisitOf records b (record { base = base; again = seen })
-  visit-row seen z = record { base = base-is; small = rw base-is small; again = λ h. omega arith }
+  visit-row seen z = record { base = base-is; small = base-near; again = λ h. omega arith }
 
-  pub visit-marks : (memo after : List ℕ) → Marks memo base after → Marks memo (baseOf records b) after
-  visit-marks memo after m = rw (← base-is) m
+  pub visit-marks : (p : ℕ) → p ≡ base + 0 → (memo after : List ℕ) → Marks memo p after → Marks memo (baseOf records b) after
+  visit-marks p e memo after m = let q = base-is in let f : p ≡ baseOf records b = omega arith in rw f at m
 
 -- the test of an attribute
 module _ (memo : List ℕ) (v : Visit) (n : ℕ) where

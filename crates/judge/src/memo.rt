@@ -10,8 +10,11 @@ ghost use Rattle.judge.specs.Memo.{bitOf, withBit, marked, Marks, record
 // The bytes of a record.
 const RECORD_SIZE: usize = 24;
 
-// A visit of a block: the number of its first bit, which says that the block was judged before, and whether it was. The
-// bit of the pair with an attribute stands so many behind the first as the attribute's number says.
+// The number of the header, which is no attribute: its bit says that the block was judged before.
+const HEADER: u32 = 0;
+
+// A visit of a block: the number of the block's first bit, and whether the block was judged before. The bit of the pair with a
+// record stands so many behind the first as the record's number says.
 pub struct Visit {
     pub base: usize,
     pub again: bool,
@@ -65,6 +68,14 @@ pub fn record_count(records: &[u8]) -> usize
     records.len() / RECORD_SIZE
 }
 
+// The number of the bit of a block and an attribute.
+fn pair(visit: Visit, n: u32) -> usize
+    requires { ⌜ visit .base ≤ 8388608 ⌝ }
+    ensures { λ r. ⌜ r ≡ visit .base + n ⌝ }
+{
+    visit.base + (n as usize)
+}
+
 // Visits a block. The outermost block is judged once.
 pub fn enter(records: &[u8], memo: &mut [u8], block: Block) -> Visit
     requires { ⌜ baseOf (now records) block ≤ 8388608 ⌝ }
@@ -72,20 +83,14 @@ pub fn enter(records: &[u8], memo: &mut [u8], block: Block) -> Visit
     ensures { λ _. ⌜ Marks (now (memo .entry)) (baseOf (now (records .entry)) block) (now (memo .exit)) ⌝ }
 {
     let base = block.first * record_count(records);
-    let seen = is_marked(memo, base);
-    mark(memo, base);
+    let once = Visit { base, again: false };
+    let judged = pair(once, HEADER);
+    let seen = is_marked(memo, judged);
+    mark(memo, judged);
     if block.first == 0 {
-        return Visit { base, again: false };
+        return once;
     }
     Visit { base, again: seen }
-}
-
-// The number of the bit of a block and an attribute.
-fn pair(visit: Visit, n: u32) -> usize
-    requires { ⌜ visit .base ≤ 8388608 ⌝ }
-    ensures { λ r. ⌜ r ≡ visit .base + n ⌝ }
-{
-    visit.base + (n as usize)
 }
 
 // No attribute is left, or those from the one with a number on are known to admit the block.

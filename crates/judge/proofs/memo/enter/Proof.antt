@@ -1,6 +1,6 @@
 -- `judge::memo::enter` meets its contract. Assumes nothing.
 use borrow.Author.Needs.{needs}
-use Rattle.judge.proofs.MemoSteps.{base-fits, visit-outermost, visit-row, visit-marks}
+use Rattle.judge.proofs.MemoSteps.{base-fits, base-near, visit-outermost, visit-row, visit-marks}
 use Rattle.judge.proofs.memo.enter.Statement.{statement}
 use Rattle.judge.proofs.memo.enter.Tie as tie
 
@@ -9,6 +9,9 @@ record-count-requires c κs = search needs
 
 mul-base : tie.Need-mul-base
 mul-base c = record { fits = search base-fits }
+
+pair-requires : tie.Need-pair-requires
+pair-requires c κs = search base-near
 
 is-marked-requires : tie.Need-is-marked-requires
 is-marked-requires c κs = search needs
@@ -34,6 +37,7 @@ enter-spec =
     (tie.spec
     record-count-requires
     mul-base
+    pair-requires
     is-marked-requires
     mark-requires
     same-length
