@@ -122,6 +122,7 @@ module _ (records pool s tape : List ℕ) (rows : ℕ) (value : RecordNumber) (r
               leads = (
                 kind-read ∙ ek,
                 rw eb (record { order = g .typeStart; ahead = g .typeEnd; begins = record { there = λ k. g .inside (sym eh ∙ ez) k } }),
+                rw eb (record { there = omega arith; is = λ _. let r : row + 1 - 1 ≡ row = omega arith in rw r }),
                 λ levels k. subst (λ x. ContentWithin x levels) (c ∙ ap Data.block d) k,
               );
             }
@@ -180,7 +181,7 @@ content-place s rows tape n =
 -- the block that a step leads into is within what holds it
 leads-map : (m : Image) (s : List ℕ) (rows : ℕ) (tape : List ℕ) (P Q : ℕ → Type 0) → ((levels : ℕ) → Q levels → P levels) → (r : Step) → Leads m s rows tape P r → Leads m s rows tape Q r
 leads-map m s rows tape P Q f (Told v) h = tt
-leads-map m s rows tape P Q f (Nested o b) h = (h .0, h .1, λ levels q. h .2 levels (f levels q))
+leads-map m s rows tape P Q f (Nested o b) h = (h .0, h .1, h .2, λ levels q. h .3 levels (f levels q))
 
 -- the members of a block, by an attribute
 module _ (records pool s tape : List ℕ) (rows : ℕ) (n : RecordNumber) (e : Entry) (b : Block) (w : Walk records pool s tape rows) (a : AttributeAt records pool (n .0) e) where

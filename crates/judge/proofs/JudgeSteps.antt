@@ -84,6 +84,13 @@ module _ (s tape after : List ℕ) (place start end rows last : ℕ) (room : Tap
   tape-good : TapeGood (length s) rows after
   tape-good = rw (d .count, tape-begins) (text-good s place (d .type) (d .ms) last (d .is) (drop (length (entriesTape (d .ms) 0)) tape))
 
+  rows-few : rows ≤ 4_096
+  rows-few =
+      let a = accepted s (block place (d .type) (d .ms)) last (d .is) in
+      let r = text-room s place (d .type) (d .ms) last (d .is) in
+      let l = a .short in
+      rw (d .count) (omega arith)
+
   members-back : linked s rows after rows 0 ≡ spelledEntries (d .ms) s
   members-back =
       rw (d .count, tape-begins)
@@ -121,9 +128,10 @@ module _ (records pool s : List ℕ) (root : RecordNumber) (t : TableGood record
     module _ (room : TapeRoom s tape) where
       pub text-under : Under records pool s after rows 16 (root .0) (record { place = place; «type_start» = start; «type_end» = end; first = 0; inside = rows })
       text-under = record {
-        walk = record { checked = t; good = tape-good s tape after place start end rows last room is };
+        walk = record { checked = t; good = tape-good s tape after place start end rows last room is; few = rows-few s tape after place start end rows last room is };
         kind = k;
         good = block-good s tape after place start end rows last room is;
+        row = record { there = omega arith; is = λ h. absurd (omega arith) };
         within = datum-within s tape after place start end rows last room is;
       }
 

@@ -6,5 +6,7 @@ pub mod TableLaws
 pub mod Depth
 pub mod MemberSteps
 pub mod AttributeSteps
+pub mod MemoSteps
+pub mod MemoLaws
 pub mod WalkSteps
 pub mod JudgeSteps

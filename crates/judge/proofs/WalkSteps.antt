@@ -1,13 +1,14 @@
 -- Steps of the walk: a block's type, then its attributes in table order. Assumes nothing.
 use mathlib.Core.Path.{_≡_, refl, sym, ap, _∙_}
-use mathlib.Core.Bool.{Bool, true, false, not, cond, false≢true}
+use mathlib.Core.Bool.{Bool, true, false, not, cond, _&&_, _||_, false≢true}
 use mathlib.Core.List.{List, [], _∷_}
 use Prim.Native.Nat.{ℕ, zero, suc, _+_, _-_, _≤_, _<_}
 use native.Mathlib.Omega.{arith}
-use lib.Dec.{lit<}
+use lib.Dec.{eqb, lit<}
 use lib.ListN.{length, take, drop}
-use borrow.Author.Tests.{not-true, not-false, ne-eqb}
+use borrow.Author.Tests.{not-true, not-false, eqb-true, eqb-false, ne-eqb}
 use Rattle.lexis.specs.Runs.{part, same}
+use Rattle.lexis.proofs.Cases.{and-left, and-right}
 use Rattle.values.proofs.Common.{by-order}
 use Rattle.meaning.specs.Data.{Datum, datum, Members}
 use Rattle.meaning.specs.Verdicts.{valid, fails}
@@ -23,8 +24,10 @@ use Rattle.table.specs.declared.records.RecordNumber.{RecordNumber}
 use Rattle.table.proofs.UseLaws.{LinkRight}
 use Rattle.judge.specs.Items.{recordIn, nameOf, Lies, tableOf, TableGood}
 use Rattle.judge.specs.Answers.{verdictIn}
-use Rattle.judge.specs.Walking.{typeOn, membersOn, datumOn, BlockGood, DatumWithin, MembersWithin, judgeFirst, Walk, AttributeAt, blockUnder, Leads, AttributeIs, Under}
+use Rattle.judge.specs.Walking.{typeOn, membersOn, datumOn, BlockGood, OfRow, DatumWithin, MembersWithin, judgeFirst, Walk, AttributeAt, blockUnder, Leads, AttributeIs, Under}
+use Rattle.judge.specs.Memo.{marked, Marks, baseOf, VisitOf, admittedIn, ChainGood, ChainMarked, Admits, MemoGood}
 use Rattle.judge.specs.declared.members.Block.{Block}
+use Rattle.judge.specs.declared.memo.Visit.{Visit}
 use Rattle.judge.specs.declared.attributes.Failure.{Failure}
 use Rattle.judge.specs.declared.attributes.Verdict.{Verdict}
 use Rattle.judge.specs.declared.attributes.Verdict.the-variants.{Valid, Fails}
@@ -32,6 +35,8 @@ use Rattle.judge.specs.declared.attributes.Step.{Step}
 use Rattle.judge.specs.declared.attributes.Step.the-variants.{Told, Nested}
 use Rattle.judge.proofs.TableLaws.{by-kind, number-lies, link-there, name-there, object-tree, attribute-tree}
 use Rattle.judge.proofs.ItemSteps.{left}
+use Rattle.judge.proofs.MemoSteps.{left-some}
+use Rattle.judge.proofs.MemoLaws.{memo-visited, base-small, chain-sound, memo-admits, memo-marked}
 
 -- a type that is not written suits, and one that is if it is the object's
 module _ (s t : List ℕ) (start end : ℕ) where
@@ -56,10 +61,15 @@ link-kind : (records pool : List ℕ) → TableGood records pool → (n k i j : 
 link-kind records pool t n k i j e l h = by-kind (kindAt (tableOf records pool) (field (recordIn records n) i)) j [] (l h .kind) (λ y. y) (λ y. absurd (false≢true y))
 
 -- at attribute n of the walk from `first` on
-pub record InAttributes (records pool s tape : List ℕ) (rows levels : ℕ) (b : Block) (first n : ℕ) : Type 0 where
+pub record InAttributes (records pool s tape : List ℕ) (rows levels : ℕ) (b : Block) (v : Visit) (start memo : List ℕ) (first n : ℕ) : Type 0 where
   pub walk : Walk records pool s tape rows
   pub good : BlockGood (length s) rows b
+  pub row : OfRow rows tape b
   pub within : DatumWithin (datumOn s rows tape b) levels
+  pub visit : VisitOf records b v
+  pub known : MemoGood records pool s tape rows memo
+  pub same : length memo ≡ length start
+  pub chain : 0 < first → kindAt (tableOf records pool) first ≡ 2
   pub kind : 0 < n → kindAt (tableOf records pool) n ≡ 2
   pub is : judgeAttributes (attributesIn (treeAt (tableOf records pool) n)) (b .place) (membersOn s rows tape b) ≡ judgeAttributes (attributesIn (treeAt (tableOf records pool) first)) (b .place) (membersOn s rows tape b)
 
@@ -67,6 +77,9 @@ pub record InAttributes (records pool s tape : List ℕ) (rows levels : ℕ) (b 
 module _ (records pool s tape : List ℕ) (rows levels : ℕ) (object : RecordNumber) (b : Block) (u : Under records pool s tape rows levels (object .0) b) where
   pub object-lies : Lies records (object .0)
   object-lies = number-lies records pool (u .walk .checked) (object .0) 1 (u .kind) (omega arith)
+
+  pub visit-small : baseOf records b ≤ 8_388_608
+  visit-small = base-small records pool (u .walk .checked) rows tape b (u .walk .few) (u .row)
 
   module _ (e : Entry) (q : recordOf e ≡ recordIn records (object .0)) where
     pub object-name : e .a + e .b ≤ length pool
@@ -84,21 +97,56 @@ module _ (records pool s tape : List ℕ) (rows levels : ℕ) (object : RecordNu
       pub type-suits : not r ≡ false → (v : Verdicts.Verdict) → v ≡ judgeAttributes (attributesIn (treeAt (tableOf records pool) (e .e))) (b .place) (membersOn s rows tape b) → v ≡ blockUnder (tableOf records pool) s rows tape (object .0) b
       type-suits h v ev = ev ∙ (rw (not-false r h) at block-is)
 
-    pub attributes-start : InAttributes records pool s tape rows levels b (e .e) (e .e)
+    first-kind : 0 < e .e → kindAt (tableOf records pool) (e .e) ≡ 2
     unfolding rowOf
-    attributes-start = record {
+    first-kind = rw (← q) at (link-kind records pool (u .walk .checked) (object .0) 1 4 2 (u .kind) (link-there records pool (u .walk .checked) (object .0) 1 (u .kind) (omega arith) 4 (2 ∷ []) (lit< tt) refl))
+
+    pub attributes-start : (memo : List ℕ) → MemoGood records pool s tape rows memo → (v : Visit) → VisitOf records b v → (after : List ℕ) → Marks memo (baseOf records b) after
+        → InAttributes records pool s tape rows levels b v after after (e .e) (e .e)
+    attributes-start memo g v w after m = record {
       walk = u .walk;
       good = u .good;
+      row = u .row;
       within = u .within;
-      kind = rw (← q) at (link-kind records pool (u .walk .checked) (object .0) 1 4 2 (u .kind) (link-there records pool (u .walk .checked) (object .0) 1 (u .kind) (omega arith) 4 (2 ∷ []) (lit< tt) refl));
+      visit = w;
+      known = memo-visited records pool s tape rows memo after b g m;
+      same = refl;
+      chain = first-kind;
+      kind = first-kind;
       is = refl;
     }
 
 -- the attributes of a block
-module _ (records pool s tape : List ℕ) (rows levels : ℕ) (b : Block) (first n : ℕ) (i : InAttributes records pool s tape rows levels b first n) where
-  pub attributes-end : n ≡ 0 → valid ≡ judgeAttributes (attributesIn (treeAt (tableOf records pool) first)) (b .place) (membersOn s rows tape b)
+module _ (records pool s tape : List ℕ) (rows levels : ℕ) (b : Block) (v : Visit) (start memo : List ℕ) (first n : ℕ) (i : InAttributes records pool s tape rows levels b v start memo first n) where
+  pub visit-near : v .base ≤ 8_388_608
+  visit-near = i .visit .small
+
+  none-admits : n ≡ 0 → Admits (tableOf records pool) s rows tape b n
   unfolding judgeAttributes treeAt
-  attributes-end z = rw z at (i .is)
+  none-admits z = rw z
+
+  number-there : (n ≡ 0 → ⊥) → Lies records n
+  number-there z = number-lies records pool (i .walk .checked) n 2 (i .kind (omega arith)) (omega arith)
+
+  -- no attribute is left, or the memo knows that those left admit the block
+  left-admits : (t : Bool) → eqb n 0 ≡ t → (t || (v .again && marked memo (v .base + n))) ≡ true → Admits (tableOf records pool) s rows tape b n
+  left-admits true e h = none-admits (eqb-true n 0 e)
+  left-admits false e h =
+      let z = eqb-false n 0 e in
+      memo-admits records pool (i .walk .checked) s tape rows b (i .row) v (i .visit) memo (i .known) n (omega arith) (number-there z) (and-left (v .again) (marked memo (v .base + n)) h) (and-right (v .again) (marked memo (v .base + n)) h)
+
+  module _ (r : Bool) (er : r ≡ admittedIn memo v n) (h : not r ≡ false) where
+    first-admits : Admits (tableOf records pool) s rows tape b first
+    first-admits = sym (i .is) ∙ left-admits (eqb n 0) refl (sym er ∙ not-false r h)
+
+    pub attributes-end : valid ≡ judgeAttributes (attributesIn (treeAt (tableOf records pool) first)) (b .place) (membersOn s rows tape b)
+    attributes-end = sym first-admits
+
+    pub attributes-chain : ChainGood records first
+    attributes-chain = chain-sound records pool (i .walk .checked) first (i .chain)
+
+    pub attributes-known : (after : List ℕ) → ChainMarked records memo (v .base) first after → MemoGood records pool s tape rows after
+    attributes-known after m = memo-marked records pool (i .walk .checked) s tape rows b (i .row) v (i .visit) memo (i .known) first (i .chain) first-admits after m
 
   pub levels-some : 1 ≤ levels
   levels-some = within-less (datumOn s rows tape b) levels (i .within) .0
@@ -107,16 +155,22 @@ module _ (records pool s tape : List ℕ) (rows levels : ℕ) (b : Block) (first
   levels-fall t h = let l = levels-some in omega arith
 
   -- at an attribute
-  module _ (z : n ≡ 0 → ⊥) where
+  module _ (r : Bool) (er : r ≡ admittedIn memo v n) (h : not r ≡ true) where
+    z : n ≡ 0 → ⊥
+    z y = let l = left-some memo v n r er h in omega arith
+
+    here-kind : kindAt (tableOf records pool) n ≡ 2
+    here-kind = i .kind (left-some memo v n r er h)
+
     pub attribute-lies : Lies records n
-    attribute-lies = number-lies records pool (i .walk .checked) n 2 (i .kind (omega arith)) (omega arith)
+    attribute-lies = number-there z
 
     -- one that fails is told
-    first-fails : (v : Verdict) (f : Failure) → v ≡ Fails f → verdictIn v ≡ judgeFirst (attributesIn (treeAt (tableOf records pool) n)) (b .place) (membersOn s rows tape b)
-        → verdictIn v ≡ judgeAttributes (attributesIn (treeAt (tableOf records pool) first)) (b .place) (membersOn s rows tape b)
+    first-fails : (x : Verdict) (f : Failure) → x ≡ Fails f → verdictIn x ≡ judgeFirst (attributesIn (treeAt (tableOf records pool) n)) (b .place) (membersOn s rows tape b)
+        → verdictIn x ≡ judgeAttributes (attributesIn (treeAt (tableOf records pool) first)) (b .place) (membersOn s rows tape b)
     unfolding judgeAttributes
     first-fails v f ev ef =
-        let t = attribute-tree records pool (i .walk .checked) n (i .kind (omega arith)) in
+        let t = attribute-tree records pool (i .walk .checked) n here-kind in
         fails-first _ _ (rw t at ef) ∙ (rw t at (i .is))
       where
         fails-first : (x y : Verdicts.Verdict) → verdictIn v ≡ x → verdictIn v ≡ andThen x y
@@ -124,11 +178,11 @@ module _ (records pool s tape : List ℕ) (rows levels : ℕ) (b : Block) (first
 
     module _ (a : Entry) (qa : recordOf a ≡ recordIn records n) where
       pub attribute-at : AttributeAt records pool n a
-      attribute-at = record { kind = i .kind (omega arith); is = qa }
+      attribute-at = record { kind = here-kind; is = qa }
 
       next-link : 0 < a .d → LinkRight (tableOf records pool) n (2 ∷ []) (a .d)
       unfolding rowOf
-      next-link = rw (← qa) at (link-there records pool (i .walk .checked) n 2 (i .kind (omega arith)) (omega arith) 3 (2 ∷ []) (lit< tt) refl)
+      next-link = rw (← qa) at (link-there records pool (i .walk .checked) n 2 here-kind (omega arith) 3 (2 ∷ []) (lit< tt) refl)
 
       pub attribute-less : left records (a .d) < left records n
       attribute-less =
@@ -139,14 +193,20 @@ module _ (records pool s tape : List ℕ) (rows levels : ℕ) (b : Block) (first
           (λ k. let x = next-link k .above in rw (ne-eqb (a .d) 0 (λ y. omega arith)) (omega arith)))
 
       -- one that holds leads to the next
-      first-holds : valid ≡ judgeFirst (attributesIn (treeAt (tableOf records pool) n)) (b .place) (membersOn s rows tape b) → InAttributes records pool s tape rows levels b first (a .d)
+      first-holds : valid ≡ judgeFirst (attributesIn (treeAt (tableOf records pool) n)) (b .place) (membersOn s rows tape b) → (after : List ℕ) → MemoGood records pool s tape rows after → length after ≡ length memo
+          → InAttributes records pool s tape rows levels b v start after first (a .d)
       unfolding judgeAttributes
-      first-holds ef =
-          let t = attribute-tree records pool (i .walk .checked) n (i .kind (omega arith)) in
+      first-holds ef after g l =
+          let t = attribute-tree records pool (i .walk .checked) n here-kind in
           record {
             walk = i .walk;
             good = i .good;
+            row = i .row;
             within = i .within;
+            visit = i .visit;
+            known = g;
+            same = l ∙ i .same;
+            chain = i .chain;
             kind = λ h. by-kind (kindAt (tableOf records pool) (a .d)) 2 [] (next-link h .kind) (λ y. y) (λ y. absurd (false≢true y));
             is = valid-first _ _ (rw (t, ← qa) at ef) ∙ (rw (t, ← qa) at (i .is));
           }
@@ -155,22 +215,22 @@ module _ (records pool s tape : List ℕ) (rows levels : ℕ) (b : Block) (first
           valid-first x y h = rw (← h)
 
       module _ (step : Step) (ar : AttributeIs (tableOf records pool) s rows tape n b step) where
-        pub told-valid : (v : Verdict) → step ≡ Told v → v ≡ Valid → InAttributes records pool s tape rows levels b first (a .d)
-        told-valid v h k = first-holds (ap verdictIn (sym k) ∙ (rw h at (ar .is)))
+        pub told-valid : (x : Verdict) → step ≡ Told x → x ≡ Valid → InAttributes records pool s tape rows levels b v start memo first (a .d)
+        told-valid x h k = first-holds (ap verdictIn (sym k) ∙ (rw h at (ar .is))) memo (i .known) refl
 
-        pub told-fails : (v : Verdict) (f : Failure) → step ≡ Told v → v ≡ Fails f → verdictIn (Fails f) ≡ judgeAttributes (attributesIn (treeAt (tableOf records pool) first)) (b .place) (membersOn s rows tape b)
-        told-fails v f h k = ap verdictIn (sym k) ∙ first-fails v f k (rw h at (ar .is))
+        pub told-fails : (x : Verdict) (f : Failure) → step ≡ Told x → x ≡ Fails f → verdictIn (Fails f) ≡ judgeAttributes (attributesIn (treeAt (tableOf records pool) first)) (b .place) (membersOn s rows tape b)
+        told-fails x f h k = ap verdictIn (sym k) ∙ first-fails x f k (rw h at (ar .is))
 
-        module _ (inner : RecordNumber) (part : Block) (h : step ≡ Nested inner part) where
+        module _ (inner : RecordNumber) (part : Block) (y : step ≡ Nested inner part) where
           leads : Leads (tableOf records pool) s rows tape (λ l. MembersWithin (membersOn s rows tape b) l) (Nested inner part)
-          leads = rw h at (ar .leads)
+          leads = rw y at (ar .leads)
 
           pub nested-under : Under records pool s tape rows (levels - 1) (inner .0) part
-          nested-under = record { walk = i .walk; kind = leads .0; good = leads .1; within = leads .2 (levels - 1) (within-less (datumOn s rows tape b) levels (i .within) .1) }
+          nested-under = record { walk = i .walk; kind = leads .0; good = leads .1; row = leads .2; within = leads .3 (levels - 1) (within-less (datumOn s rows tape b) levels (i .within) .1) }
 
-          module _ (v : Verdict) (ev : verdictIn v ≡ blockUnder (tableOf records pool) s rows tape (inner .0) part) where
-            pub nested-valid : v ≡ Valid → InAttributes records pool s tape rows levels b first (a .d)
-            nested-valid k = first-holds (ap verdictIn (sym k) ∙ ev ∙ (rw h at (ar .is)))
+          module _ (x : Verdict) (ex : verdictIn x ≡ blockUnder (tableOf records pool) s rows tape (inner .0) part) where
+            pub nested-valid : x ≡ Valid → (after : List ℕ) → MemoGood records pool s tape rows after → length after ≡ length memo → InAttributes records pool s tape rows levels b v start after first (a .d)
+            nested-valid k = first-holds (ap verdictIn (sym k) ∙ ex ∙ (rw y at (ar .is)))
 
-            pub nested-fails : (f : Failure) → v ≡ Fails f → verdictIn (Fails f) ≡ judgeAttributes (attributesIn (treeAt (tableOf records pool) first)) (b .place) (membersOn s rows tape b)
-            nested-fails f k = ap verdictIn (sym k) ∙ first-fails v f k (ev ∙ (rw h at (ar .is)))
+            pub nested-fails : (f : Failure) → x ≡ Fails f → verdictIn (Fails f) ≡ judgeAttributes (attributesIn (treeAt (tableOf records pool) first)) (b .place) (membersOn s rows tape b)
+            nested-fails f k = ap verdictIn (sym k) ∙ first-fails x f k (ex ∙ (rw y at (ar .is)))

@@ -3,7 +3,7 @@ use mathlib.Core.Path.{_≡_}
 use mathlib.Core.Bool.{true, cond}
 use mathlib.Core.Option.{Option, none, some}
 use mathlib.Core.List.{List, _∷_}
-use Prim.Native.Nat.{ℕ, zero, suc, _+_, _≤_, _<_}
+use Prim.Native.Nat.{ℕ, zero, suc, _+_, _-_, _≤_, _<_}
 use lib.Dec.{eqb}
 use lib.ListN.{length}
 use Rattle.lexis.specs.Bytes.{among}
@@ -83,6 +83,11 @@ blockOn tape n =
     let row = rowAt tape n in
     record { place = number row 3; «type_start» = number row 4; «type_end» = number row 5; first = n + 1; inside = number row 7 }
 
+-- a block whose first row tells which row's it is; the outermost block's is 0
+pub record OfRow (rows : ℕ) (tape : List ℕ) (b : Block) : Type 0 where
+  pub there : b .first ≤ rows
+  pub is : 0 < b .first → b ≡ blockOn tape (b .first - 1)
+
 -- a datum has at most so many levels of blocks
 unfoldable mutual
   pub DatumWithin : Datum → ℕ → Type 0
@@ -107,6 +112,7 @@ judgeFirst (attribute n e w v more) place ms = judgeMember n e place (memberOf w
 pub record Walk (records pool s tape : List ℕ) (rows : ℕ) : Type 0 where
   pub checked : TableGood records pool
   pub good : TapeGood (length s) rows tape
+  pub few : rows ≤ 4_096
 
 -- the link of an attribute to its value: 0, or an object or a first item
 pub record ValueLink (m : Image) (value : ℕ) : Type 0 where
@@ -127,10 +133,10 @@ module _ (m : Image) (s : List ℕ) (rows : ℕ) (tape : List ℕ) where
   stepVerdict (Told v) = verdictIn v
   stepVerdict (Nested object b) = blockUnder (object .0) b
 
-  -- a block that a step leads into is under an object and can be walked, and is no deeper than what holds it
+  -- a block that a step leads into is under an object, is a row's and can be walked, and is no deeper than what holds it
   abbrev pub Leads : (ℕ → Type 0) → Step → Type 0
   Leads Deep (Told v) = Unit {0}
-  Leads Deep (Nested object b) = (kindAt m (object .0) ≡ 1) × BlockGood (length s) rows b × ((levels : ℕ) → Deep levels → DatumWithin (datumOn s rows tape b) levels)
+  Leads Deep (Nested object b) = (kindAt m (object .0) ≡ 1) × BlockGood (length s) rows b × OfRow rows tape b × ((levels : ℕ) → Deep levels → DatumWithin (datumOn s rows tape b) levels)
 
   -- the value of a member, which has a row, by the object or the items with a number
   pub record ValueIs (value row : ℕ) (r : Step) : Type 0 where
@@ -147,4 +153,5 @@ pub record Under (records pool s tape : List ℕ) (rows levels object : ℕ) (b 
   pub walk : Walk records pool s tape rows
   pub kind : kindAt (tableOf records pool) object ≡ 1
   pub good : BlockGood (length s) rows b
+  pub row : OfRow rows tape b
   pub within : DatumWithin (datumOn s rows tape b) levels

@@ -2,11 +2,13 @@
 pub mod admission;
 mod attributes;
 mod members;
+mod memo;
+mod outermost;
 mod walk;
 
 use crate::attributes::Verdict;
 use crate::members::Block;
-use crate::walk::judge_block;
+use crate::outermost::judge_outermost;
 use data::DataRead;
 use data::read_data;
 use refusals::Cause;
@@ -92,7 +94,7 @@ fn judge_on(
                 first: 0,
                 inside: rows,
             };
-            let v = judge_block(records, pool, text, tape, rows, LEVEL_LIMIT, root, block);
+            let v = judge_outermost(records, pool, text, tape, rows, LEVEL_LIMIT, root, block);
             return answer(v);
         }
     }

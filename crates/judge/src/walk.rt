@@ -6,6 +6,9 @@ use crate::attributes::Verdict;
 use crate::attributes::fails;
 use crate::attributes::judge_attribute;
 use crate::members::Block;
+use crate::memo::enter;
+use crate::memo::is_admitted;
+use crate::memo::mark_chain;
 use lexis::runs::same_bytes;
 use table::records::Entry;
 use table::records::RecordNumber;
@@ -17,6 +20,7 @@ ghost use Rattle.table.specs.Answers.{recordOf};
 ghost use Rattle.judge.specs.Items.{nameOf, tableOf};
 ghost use Rattle.judge.specs.Answers.{verdictIn};
 ghost use Rattle.judge.specs.Walking.{typeOn, BlockGood, Under, blockUnder};
+ghost use Rattle.judge.specs.Memo.{MemoGood};
 
 // Document 01's reason for a type that differs.
 const TYPE_DIFFERS: u8 = 21;
@@ -36,26 +40,30 @@ fn type_suits(pool: &[u8], s: &[u8], rows: usize, e: Entry, block: Block) -> boo
 }
 
 // A block by the object with a number: its type, then each attribute in table order, up to the first failure; a block
-// inside it has a level less.
+// inside it has a level less. What the memo knows to be admitted is not judged again.
 pub fn judge_block(
     records: &[u8],
     pool: &[u8],
     s: &[u8],
     tape: &[u16],
     rows: usize,
+    memo: &mut [u8],
     levels: usize,
     object: RecordNumber,
     block: Block,
 ) -> Verdict
     requires { ⌜ Under (now records) (now pool) (now s) (now tape) rows levels (object .0) block ⌝ }
+    requires { ⌜ MemoGood (now records) (now pool) (now s) (now tape) rows (now memo) ⌝ }
     ensures { λ r. ⌜ verdictIn r ≡ blockUnder (tableOf (now (records .entry)) (now (pool .entry))) (now (s .entry)) rows (now (tape .entry)) (object .0) block ⌝ }
+    ensures { λ _. ⌜ MemoGood (now (records .entry)) (now (pool .entry)) (now (s .entry)) (now (tape .entry)) rows (now (memo .exit)) ⌝ }
 {
     let e = entry_at(records, object);
     if !type_suits(pool, s, rows, e, block) {
         return fails(TYPE_DIFFERS, object, block.place);
     }
+    let visit = enter(records, memo, block);
     let mut n = e.e;
-    while n != 0 {
+    while !is_admitted(memo, visit, n) {
         let a = entry_at(records, RecordNumber(n));
         match judge_attribute(records, pool, s, tape, rows, RecordNumber(n), a, block) {
             Step::Told(v) => match v {
@@ -69,7 +77,7 @@ pub fn judge_block(
             Step::Nested {
                 object: inner,
                 block: part,
-            } => match judge_block(records, pool, s, tape, rows, levels - 1, inner, part) {
+            } => match judge_block(records, pool, s, tape, rows, memo, levels - 1, inner, part) {
                 Verdict::Valid => {
                     n = a.d;
                 }
@@ -79,5 +87,6 @@ pub fn judge_block(
             },
         }
     }
+    mark_chain(records, memo, visit, e.e);
     Verdict::Valid
 }

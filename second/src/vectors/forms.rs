@@ -1,6 +1,7 @@
 //! Cases of judging: worked examples, the limits, and cases from the generator.
 
 use super::stream::{Head, Stream};
+use super::ways;
 use crate::api::JudgeAnswer;
 use crate::examples::handmade::{changed, compiled, ordered, record, shared, table, unreached};
 use crate::generator::{JudgeCase, Maker, Table};
@@ -22,11 +23,12 @@ pub fn cases() -> Stream {
     roots(&mut stream);
     deep(&mut stream);
     long(&mut stream);
+    ways::cases(&mut stream);
     generated(&mut stream);
     stream
 }
 
-fn add(stream: &mut Stream, title: &str, table: &[u8], root: u32, data: &[u8]) {
+pub fn add(stream: &mut Stream, title: &str, table: &[u8], root: u32, data: &[u8]) {
     let answer = match judge(table, root, data) {
         JudgeAnswer::Valid => String::from(" valid"),
         JudgeAnswer::Refused { number, place } => format!(" refused {number} at {place}"),
@@ -147,7 +149,7 @@ fn roots(stream: &mut Stream) {
 }
 
 /// A data text of so many levels, around what stands inside.
-fn nested(levels: usize, inside: &str) -> String {
+pub fn nested(levels: usize, inside: &str) -> String {
     let mut data = String::from("<");
     for _ in 1..levels {
         data.push_str("a=<");
@@ -210,7 +212,7 @@ fn long(stream: &mut Stream) {
 }
 
 /// The name of a member by its number: of one letter, then of two, and so on.
-fn member_name(mut number: usize) -> String {
+pub fn member_name(mut number: usize) -> String {
     let mut name = String::new();
     loop {
         name.insert(0, char::from(b'a' + (number % 26) as u8));

@@ -8,6 +8,7 @@ mod forms;
 mod stream;
 mod tables;
 mod texts;
+mod ways;
 
 use std::fs;
 use std::path::Path;

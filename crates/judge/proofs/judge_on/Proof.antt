@@ -19,8 +19,8 @@ returns c = search text-refused
 enum-known-place : tie.Need-enum-known-place
 enum-known-place c = search needs
 
-judge-block-requires : tie.Need-judge-block-requires
-judge-block-requires c κs = search text-under
+judge-outermost-requires : tie.Need-judge-outermost-requires
+judge-outermost-requires c κs = search text-under
 
 answer-requires : tie.Need-answer-requires
 answer-requires c κs = search needs
@@ -40,7 +40,7 @@ judge-on-spec =
     same-length
     returns
     enum-known-place
-    judge-block-requires
+    judge-outermost-requires
     answer-requires
     same-length-2
     returns-2)
