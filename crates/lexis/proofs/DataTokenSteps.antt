@@ -11,10 +11,9 @@ use borrow.Author.Tests.{eq-eqb, ne-eqb, le-leb, lt-leb, not-true, not-false}
 use Rattle.lexis.specs.Text.{byte}
 use Rattle.lexis.specs.Bytes.{sortOf, wordByte, runByte}
 use Rattle.lexis.specs.Runs.{past, byteAt, part, all}
-use Rattle.lexis.specs.Blanks.{tokenStart}
 use Rattle.lexis.specs.Spelling.{Literal, wordSort, keywords, booleans}
 use Rattle.lexis.specs.Tokens.{token, noToken, spelled, quoted, textEnd, typeName, name}
-use Rattle.lexis.specs.DataTokens.{dataMarks, nameSort, runSort, typeSort, run, dataTokenOn, dataTokenAt, typeTokenAt}
+use Rattle.lexis.specs.DataTokens.{dataMarks, nameSort, run, dataTokenOn, dataTokenAt, typeTokenAt}
 use Rattle.lexis.specs.Postconditions.{PlaceIs, TokenIs, sorting}
 use Rattle.lexis.specs.declared.Token.{Token}
 use Rattle.lexis.proofs.Places.{past-between}
@@ -121,11 +120,9 @@ module _ (sorted : List ℕ → ℕ → ℕ) (s : List ℕ) (at : ℕ) where
     data-mark e n p = rw (lt-leb (length s) at h, ← q, e, ne-eqb (byteAt s at) (byte "\"") n) p
 
 -- the next token
-module _ (s : List ℕ) (from at : ℕ) (r : Token) (h : from ≤ length s) (p : PlaceIs s from (tokenStart s from) at) where
-  pub data-told : r ≡ dataTokenOn runSort s at → TokenIs s from (dataTokenAt s from) r
-  unfolding dataTokenAt
-  data-told q = promised s from (dataTokenAt s from) r (rw (p .is) at q) (data-token-found s from h)
+module _ (s : List ℕ) (from : ℕ) (r : Token) (h : from ≤ length s) where
+  pub data-told : r ≡ dataTokenAt s from → TokenIs s from (dataTokenAt s from) r
+  data-told q = promised s from (dataTokenAt s from) r q (data-token-found s from h)
 
-  pub type-told : r ≡ dataTokenOn typeSort s at → TokenIs s from (typeTokenAt s from) r
-  unfolding typeTokenAt
-  type-told q = promised s from (typeTokenAt s from) r (rw (p .is) at q) (type-token-found s from h)
+  pub type-told : r ≡ typeTokenAt s from → TokenIs s from (typeTokenAt s from) r
+  type-told q = promised s from (typeTokenAt s from) r q (type-token-found s from h)

@@ -16,5 +16,6 @@ pub mod SpellingSteps
 pub mod WordSteps
 pub mod TokenSteps
 pub mod DataTokenSteps
+pub mod ReaderSteps
 pub mod Stores
 pub mod Enclosed

@@ -10,7 +10,6 @@ use borrow.Author.Tests.{eqb-true, eq-eqb, ne-eqb, le-leb, not-true, not-false}
 use Rattle.lexis.specs.Text.{byte}
 use Rattle.lexis.specs.Bytes.{is, sortOf, digit, stringByte}
 use Rattle.lexis.specs.Runs.{past, byteAt, startsWith, shaped}
-use Rattle.lexis.specs.Blanks.{tokenStart}
 use Rattle.lexis.specs.Spelling.{marks, keywords, elementSign, booleans, datePatterns, timePatterns, codeStart, dateShape}
 use Rattle.lexis.specs.Tokens.{token, noToken, spelled, word, number, sign, quoted, codeEnd, bracket, special, tokenOn, tokenAt, textEnd, typeName, name, integer, date, string, code}
 use Rattle.lexis.specs.Postconditions.{PlaceIs, TokenIs}
@@ -173,6 +172,5 @@ promised s from t r e f = record {
     above n l z h = omega arith
 
 -- the next token
-pub token-told : (s : List ℕ) (from at : ℕ) (r : Token) → from ≤ length s → PlaceIs s from (tokenStart s from) at → r ≡ tokenOn s at → TokenIs s from (tokenAt s from) r
-unfolding tokenAt
-token-told s from at r h p q = promised s from (tokenAt s from) r (rw (p .is) at q) (token-found s from h)
+pub token-told : (s : List ℕ) (from : ℕ) (r : Token) → from ≤ length s → r ≡ tokenAt s from → TokenIs s from (tokenAt s from) r
+token-told s from r h q = promised s from (tokenAt s from) r q (token-found s from h)

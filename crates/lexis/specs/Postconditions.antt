@@ -9,8 +9,11 @@ use Rattle.lexis.specs.Bytes.{sortOf, is, blank, digit, wordByte, string
 use Rattle.lexis.specs.Runs.{allows}
 use Rattle.lexis.specs.Blanks.{opensComment}
 use Rattle.lexis.specs.Spelling.{Literal, datePatterns, timePatterns, keywords, booleans}
-use Rattle.lexis.specs.DataTokens.{runSort, typeSort}
+use Rattle.lexis.specs.Tokens.{tokenAt}
+use Rattle.lexis.specs.DataTokens.{runSort, typeSort, dataTokenAt, typeTokenAt}
 use Rattle.lexis.specs.declared.Token.{Token}
+use Rattle.lexis.specs.declared.reader.Tokens.{Tokens}
+use Rattle.lexis.specs.declared.reader.Tokens.the-variants.{Constraint, Data, Behind}
 use Rattle.lexis.specs.declared.spellings.Patterns.{Patterns}
 use Rattle.lexis.specs.declared.spellings.Patterns.the-variants.{Dates, Times}
 use Rattle.lexis.specs.declared.spellings.Words.{Words}
@@ -75,6 +78,12 @@ wordsOf Booleans = booleans
 abbrev pub sorting : Bool → List ℕ → ℕ → ℕ
 sorting true = typeSort
 sorting false = runSort
+
+-- the next token from a place of a text on, of those that are read
+abbrev pub tokenBy : Tokens → List ℕ → ℕ → Token
+tokenBy Constraint = tokenAt
+tokenBy Data = dataTokenAt
+tokenBy Behind = typeTokenAt
 
 -- r is the token t, and lies in the text from a place on; it has a byte, unless it is the text's end or unreadable
 pub record TokenIs (s : List ℕ) (from : ℕ) (t r : Token) : Type 0 where

@@ -5,9 +5,10 @@ use crate::TYPE_NAME;
 use crate::Token;
 use crate::UNREADABLE;
 use crate::WORD_RUN;
+use crate::reader::Tokens;
+use crate::reader::token_from;
 use crate::runs::Class;
 use crate::runs::past_run;
-use crate::runs::token_start;
 use crate::sorts::CAPITAL;
 use crate::sorts::SMALL;
 use crate::sorts::run_byte;
@@ -72,7 +73,7 @@ fn run(s: &[u8], at: usize, behind: bool) -> Token
 }
 
 // The token that starts at a place; the text's end is a token.
-fn data_token_on(s: &[u8], at: usize, behind: bool) -> Token
+pub fn data_token_on(s: &[u8], at: usize, behind: bool) -> Token
     requires { ⌜ at ≤ length (now s) ⌝ }
     ensures { λ r. ⌜ r ≡ dataTokenOn (sorting behind) (now (s .entry)) at ⌝ }
 {
@@ -97,8 +98,7 @@ pub fn data_token_at(s: &[u8], from: usize) -> Token
     requires { ⌜ from ≤ length (now s) ⌝ }
     ensures { λ r. ⌜ TokenIs (now (s .entry)) from (dataTokenAt (now (s .entry)) from) r ⌝ }
 {
-    let at = token_start(s, from);
-    data_token_on(s, at, false)
+    token_from(s, from, Tokens::Data)
 }
 
 // The next token of data text, from a place behind `(` on.
@@ -106,6 +106,5 @@ pub fn type_token_at(s: &[u8], from: usize) -> Token
     requires { ⌜ from ≤ length (now s) ⌝ }
     ensures { λ r. ⌜ TokenIs (now (s .entry)) from (typeTokenAt (now (s .entry)) from) r ⌝ }
 {
-    let at = token_start(s, from);
-    data_token_on(s, at, true)
+    token_from(s, from, Tokens::Behind)
 }

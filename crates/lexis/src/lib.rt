@@ -3,6 +3,7 @@ ghost use mathlib.Core.Path.{_≡_};
 ghost use Rattle.lexis.specs.Tokens.{noToken};
 
 pub mod data_tokens;
+pub mod reader;
 pub mod runs;
 pub mod sorts;
 pub mod spellings;

@@ -9,11 +9,12 @@ use crate::TYPE_NAME;
 use crate::Token;
 use crate::UNREADABLE;
 use crate::no_token;
+use crate::reader::Tokens;
+use crate::reader::token_from;
 use crate::runs::Class;
 use crate::runs::past_run;
 use crate::runs::shaped;
 use crate::runs::starts_with;
-use crate::runs::token_start;
 use crate::sorts::CAPITAL;
 use crate::sorts::DIGIT;
 use crate::sorts::MARK;
@@ -204,7 +205,7 @@ fn special(s: &[u8], at: usize) -> Token
 }
 
 // The token that starts at a place, by the sort of the byte there; the text's end is a token.
-fn token_on(s: &[u8], at: usize) -> Token
+pub fn token_on(s: &[u8], at: usize) -> Token
     requires { ⌜ at ≤ length (now s) ⌝ }
     ensures { λ r. ⌜ r ≡ tokenOn (now (s .entry)) at ⌝ }
 {
@@ -230,6 +231,5 @@ pub fn token_at(s: &[u8], from: usize) -> Token
     requires { ⌜ from ≤ length (now s) ⌝ }
     ensures { λ r. ⌜ TokenIs (now (s .entry)) from (tokenAt (now (s .entry)) from) r ⌝ }
 {
-    let at = token_start(s, from);
-    token_on(s, at)
+    token_from(s, from, Tokens::Constraint)
 }

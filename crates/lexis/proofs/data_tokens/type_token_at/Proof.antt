@@ -4,14 +4,11 @@ use Rattle.lexis.proofs.DataTokenSteps.{type-told}
 use Rattle.lexis.proofs.data_tokens.type_token_at.Statement.{statement}
 use Rattle.lexis.proofs.data_tokens.type_token_at.Tie as tie
 
-token-start-requires : tie.Need-token-start-requires
-token-start-requires c κs = search needs
-
-data-token-on-requires : tie.Need-data-token-on-requires
-data-token-on-requires c κs = search needs
+token-from-requires : tie.Need-token-from-requires
+token-from-requires c κs = search needs
 
 returns : tie.Need-returns
 returns c = search type-told
 
 pub type-token-at-spec : {M : Type 1} → statement M
-type-token-at-spec = tie.close (tie.spec token-start-requires data-token-on-requires returns)
+type-token-at-spec = tie.close (tie.spec token-from-requires returns)

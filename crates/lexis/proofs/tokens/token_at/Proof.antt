@@ -4,14 +4,11 @@ use Rattle.lexis.proofs.TokenSteps.{token-told}
 use Rattle.lexis.proofs.tokens.token_at.Statement.{statement}
 use Rattle.lexis.proofs.tokens.token_at.Tie as tie
 
-token-start-requires : tie.Need-token-start-requires
-token-start-requires c κs = search needs
-
-token-on-requires : tie.Need-token-on-requires
-token-on-requires c κs = search needs
+token-from-requires : tie.Need-token-from-requires
+token-from-requires c κs = search needs
 
 returns : tie.Need-returns
 returns c = search token-told
 
 pub token-at-spec : {M : Type 1} → statement M
-token-at-spec = tie.close (tie.spec token-start-requires token-on-requires returns)
+token-at-spec = tie.close (tie.spec token-from-requires returns)
