@@ -14,10 +14,7 @@ use Rattle.lexis.specs.Runs.{byteAt, startsWith}
 use Rattle.lexis.specs.Spelling.{marks, elementSign, datePatterns, timePatterns}
 use Rattle.lexis.specs.Tokens.{token, noToken, spelled}
 use Rattle.lexis.specs.DataTokens.{dataMarks}
-use Rattle.lexis.specs.Postconditions.{patternsOf}
 use Rattle.lexis.specs.declared.Token.{Token}
-use Rattle.lexis.specs.declared.spellings.Patterns.{Patterns}
-use Rattle.lexis.specs.declared.spellings.Patterns.the-variants.{Dates, Times}
 use Rattle.lexis.proofs.Places.{drop-in}
 
 -- bytes begin with one byte, other than 0
@@ -198,11 +195,3 @@ module _ (s : List ℕ) (at : ℕ) (a : Bool) (qa : a ≡ startsWith (bytes "Thh
         pub time-none : (t : Token) → d ≡ false → t ≡ noToken at → t ≡ spelled timePatterns at (drop at s) (noToken at)
         unfolding spelled
         time-none t nd p = rw (← qa, na, ← qb, nb, ← qc, nc, ← qd, nd) p
-
--- the patterns of one kind
-module _ (p : Patterns) (at : ℕ) (bs : List ℕ) (t : Token) where
-  pub pattern-date : p ≡ Dates → t ≡ spelled datePatterns at bs (noToken at) → t ≡ spelled (patternsOf p) at bs (noToken at)
-  pattern-date e q = rw e q
-
-  pub pattern-time : p ≡ Times → t ≡ spelled timePatterns at bs (noToken at) → t ≡ spelled (patternsOf p) at bs (noToken at)
-  pattern-time e q = rw e q

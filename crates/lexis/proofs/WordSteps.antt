@@ -9,12 +9,10 @@ use borrow.Author.Tests.{eq-eqb, ne-eqb, not-true}
 use Rattle.lexis.specs.Text.{bytes}
 use Rattle.lexis.specs.Bytes.{wordByte}
 use Rattle.lexis.specs.Runs.{past, part, same, startsWith}
-use Rattle.lexis.specs.Spelling.{Literal, wordSort, keywords, booleans}
+use Rattle.lexis.specs.Spelling.{Literal, wordSort, keywords, booleans, datePatterns, timePatterns}
 use Rattle.lexis.specs.Tokens.{token, noToken, spelled, word, unreadable}
-use Rattle.lexis.specs.Postconditions.{PlaceIs, patternsOf, wordsOf}
+use Rattle.lexis.specs.Postconditions.{PlaceIs, wordsOf}
 use Rattle.lexis.specs.declared.Token.{Token}
-use Rattle.lexis.specs.declared.spellings.Patterns.{Patterns}
-use Rattle.lexis.specs.declared.spellings.Patterns.the-variants.{Dates, Times}
 use Rattle.lexis.specs.declared.spellings.Words.{Words}
 use Rattle.lexis.specs.declared.spellings.Words.the-variants.{Keywords, Booleans}
 use Rattle.lexis.proofs.Cases.{and-left, and-right}
@@ -23,11 +21,6 @@ use Rattle.lexis.proofs.Cases.{and-left, and-right}
 unfoldable plain : List Literal → Bool
 plain [] = true
 plain (l ∷ ls) = not (eqb (l .sort) unreadable) && plain ls
-
-plain-patterns : (p : Patterns) → plain (patternsOf p) ≡ true
-unfolding plain
-plain-patterns Dates = refl
-plain-patterns Times = refl
 
 -- the ways out of telling a word's sort
 module _ (w : List ℕ) (sort : ℕ) (r : Bool) where
@@ -87,9 +80,26 @@ spelled-or at bs u (l ∷ ls) h =
     here l ls hr ih false hb = rw hb ih
 
 -- a pattern, or else another token
-module _ (f : Patterns) (at : ℕ) (bs : List ℕ) (t u : Token) (q : t ≡ spelled (patternsOf f) at bs (noToken at)) where
-  pub pattern-is : (t .sort ≡ 1 → ⊥) → t ≡ spelled (patternsOf f) at bs u
-  pattern-is n = rw (← q, ne-eqb (t .sort) 1 n) at (spelled-or at bs u (patternsOf f) (plain-patterns f))
+module _ (ls : List Literal) (h : plain ls ≡ true) (at : ℕ) (bs : List ℕ) (t u : Token) (q : t ≡ spelled ls at bs (noToken at)) where
+  pattern-is : (t .sort ≡ 1 → ⊥) → t ≡ spelled ls at bs u
+  pattern-is n = rw (← q, ne-eqb (t .sort) 1 n) at (spelled-or at bs u ls h)
 
-  pub pattern-not : (v : Token) → t .sort ≡ 1 → v ≡ u → v ≡ spelled (patternsOf f) at bs u
-  pattern-not v e p = p ∙ (rw (← q, eq-eqb (t .sort) 1 e) at (spelled-or at bs u (patternsOf f) (plain-patterns f)))
+  pattern-not : (v : Token) → t .sort ≡ 1 → v ≡ u → v ≡ spelled ls at bs u
+  pattern-not v e p = p ∙ (rw (← q, eq-eqb (t .sort) 1 e) at (spelled-or at bs u ls h))
+
+module _ (at : ℕ) (bs : List ℕ) (t u : Token) where
+  pub time-is : t ≡ spelled timePatterns at bs (noToken at) → (t .sort ≡ 1 → ⊥) → t ≡ spelled timePatterns at bs u
+  unfolding plain
+  time-is q n = pattern-is timePatterns refl at bs t u q n
+
+  pub time-not : (v : Token) → t ≡ spelled timePatterns at bs (noToken at) → t .sort ≡ 1 → v ≡ u → v ≡ spelled timePatterns at bs u
+  unfolding plain
+  time-not v q e p = pattern-not timePatterns refl at bs t u q v e p
+
+  pub date-is : t ≡ spelled datePatterns at bs (noToken at) → (t .sort ≡ 1 → ⊥) → t ≡ spelled datePatterns at bs u
+  unfolding plain
+  date-is q n = pattern-is datePatterns refl at bs t u q n
+
+  pub date-not : (v : Token) → t ≡ spelled datePatterns at bs (noToken at) → t .sort ≡ 1 → v ≡ u → v ≡ spelled datePatterns at bs u
+  unfolding plain
+  date-not v q e p = pattern-not datePatterns refl at bs t u q v e p

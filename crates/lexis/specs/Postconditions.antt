@@ -8,14 +8,12 @@ use lib.ListN.{length}
 use Rattle.lexis.specs.Bytes.{sortOf, is, blank, digit, wordByte, stringByte, runByte, lineEnd}
 use Rattle.lexis.specs.Runs.{allows}
 use Rattle.lexis.specs.Blanks.{opensComment}
-use Rattle.lexis.specs.Spelling.{Literal, datePatterns, timePatterns, keywords, booleans}
+use Rattle.lexis.specs.Spelling.{Literal, keywords, booleans}
 use Rattle.lexis.specs.Tokens.{tokenAt}
 use Rattle.lexis.specs.DataTokens.{runSort, typeSort, dataTokenAt, typeTokenAt}
 use Rattle.lexis.specs.declared.Token.{Token}
 use Rattle.lexis.specs.declared.reader.Tokens.{Tokens}
 use Rattle.lexis.specs.declared.reader.Tokens.the-variants.{Constraint, Data, Behind}
-use Rattle.lexis.specs.declared.spellings.Patterns.{Patterns}
-use Rattle.lexis.specs.declared.spellings.Patterns.the-variants.{Dates, Times}
 use Rattle.lexis.specs.declared.spellings.Words.{Words}
 use Rattle.lexis.specs.declared.spellings.Words.the-variants.{Keywords, Booleans}
 use Rattle.lexis.specs.declared.runs.Class.{Class}
@@ -64,11 +62,6 @@ beginsBy f [] bs = true
 beginsBy f (w ∷ ws) [] = false
 beginsBy f (w ∷ ws) (b ∷ bs) = f w b && beginsBy f ws bs
 
--- the spellings of the patterns of one kind
-abbrev pub patternsOf : Patterns → List Literal
-patternsOf Dates = datePatterns
-patternsOf Times = timePatterns
-
 -- the words that are no NAME, and those that are no TYPE
 abbrev pub wordsOf : Words → List Literal
 wordsOf Keywords = keywords
@@ -78,6 +71,12 @@ wordsOf Booleans = booleans
 abbrev pub sorting : Bool → List ℕ → ℕ → ℕ
 sorting true = typeSort
 sorting false = runSort
+
+-- the tokens are those behind `(`
+abbrev pub behindOf : Tokens → Bool
+behindOf Constraint = false
+behindOf Data = false
+behindOf Behind = true
 
 -- the next token from a place of a text on, of those that are read
 abbrev pub tokenBy : Tokens → List ℕ → ℕ → Token

@@ -5,7 +5,7 @@ use crate::data_tokens::data_token_on;
 use crate::runs::token_start;
 use crate::tokens::token_on;
 ghost use mathlib.Core.Path.{_≡_};
-ghost use Rattle.lexis.specs.Postconditions.{tokenBy};
+ghost use Rattle.lexis.specs.Postconditions.{behindOf, tokenBy};
 
 // The tokens that are read: those of constraint text, those of data text, or those of data text behind `(`.
 pub enum Tokens {
@@ -17,6 +17,17 @@ pub enum Tokens {
 pub struct Reader<'a> {
     pub text: &'a [u8],
     pub place: usize,
+}
+
+// The tokens are those behind `(`.
+fn behind(tokens: Tokens) -> bool
+    ensures { λ r. ⌜ r ≡ behindOf tokens ⌝ }
+{
+    match tokens {
+        Tokens::Constraint => false,
+        Tokens::Data => false,
+        Tokens::Behind => true,
+    }
 }
 
 // The next token of a text, from a place on.
@@ -33,8 +44,7 @@ fn token_of(s: &[u8], from: usize, tokens: Tokens) -> Token
     let at = token_start(s, from);
     match tokens {
         Tokens::Constraint => token_on(s, at),
-        Tokens::Data => data_token_on(s, at, false),
-        Tokens::Behind => data_token_on(s, at, true),
+        _ => data_token_on(s, at, behind(tokens)),
     }
 }
 

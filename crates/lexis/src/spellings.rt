@@ -1,4 +1,5 @@
-// The tokens that are spelled in one way: marks, the sign ∈, patterns, and words that are no names.
+// The tokens that are spelled in one way: marks, the sign ∈, patterns, and words that are no names. Each function that takes the text is called in one place, so
+// that the compiler makes one function of all of them.
 use crate::AT_LEAST;
 use crate::AT_MOST;
 use crate::BAR;
@@ -30,13 +31,7 @@ ghost use lib.ListN.{length, drop};
 ghost use Rattle.lexis.specs.Spelling.{marks, elementSign, datePatterns, timePatterns, keywords, booleans, wordSort};
 ghost use Rattle.lexis.specs.Tokens.{noToken, spelled};
 ghost use Rattle.lexis.specs.DataTokens.{dataMarks};
-ghost use Rattle.lexis.specs.Postconditions.{patternsOf, wordsOf};
-
-// The patterns of a date, and those of a time.
-pub enum Patterns {
-    Dates,
-    Times,
-}
+ghost use Rattle.lexis.specs.Postconditions.{wordsOf};
 
 // The words that are no NAME, and those that are no TYPE.
 pub enum Words {
@@ -181,7 +176,7 @@ pub fn data_mark(s: &[u8], at: usize) -> Token
 }
 
 // The date pattern at a place that opens with `y`, as a token.
-fn date_pattern(s: &[u8], at: usize) -> Token
+pub fn date_pattern(s: &[u8], at: usize) -> Token
     requires { ⌜ at < length (now s) ⌝ }
     ensures { λ r. ⌜ r ≡ spelled datePatterns at (drop at (now (s .entry))) (noToken at) ⌝ }
 {
@@ -227,7 +222,7 @@ fn date_pattern(s: &[u8], at: usize) -> Token
 }
 
 // The time pattern at a place, as a token.
-fn time_pattern(s: &[u8], at: usize) -> Token
+pub fn time_pattern(s: &[u8], at: usize) -> Token
     requires { ⌜ at < length (now s) ⌝ }
     ensures { λ r. ⌜ r ≡ spelled timePatterns at (drop at (now (s .entry))) (noToken at) ⌝ }
 {
@@ -263,17 +258,6 @@ fn time_pattern(s: &[u8], at: usize) -> Token
         };
     }
     no_token(at)
-}
-
-// The pattern at a place, as a token.
-pub fn pattern(s: &[u8], at: usize, p: Patterns) -> Token
-    requires { ⌜ at < length (now s) ⌝ }
-    ensures { λ r. ⌜ r ≡ spelled (patternsOf p) at (drop at (now (s .entry))) (noToken at) ⌝ }
-{
-    match p {
-        Patterns::Dates => date_pattern(s, at),
-        Patterns::Times => time_pattern(s, at),
-    }
 }
 
 // The sort of a keyword, else the one given.

@@ -22,11 +22,11 @@ use crate::sorts::SMALL;
 use crate::sorts::byte_at;
 use crate::sorts::is_digit;
 use crate::sorts::sort_of;
-use crate::spellings::Patterns;
 use crate::spellings::Words;
+use crate::spellings::date_pattern;
 use crate::spellings::element_sign;
 use crate::spellings::mark;
-use crate::spellings::pattern;
+use crate::spellings::time_pattern;
 use crate::spellings::word_sort;
 ghost use mathlib.Core.Path.{_≡_};
 ghost use mathlib.Core.Bool.{false, _&&_, _||_};
@@ -36,8 +36,9 @@ ghost use lib.ListN.{length, drop};
 ghost use Rattle.lexis.specs.Text.{byte};
 ghost use Rattle.lexis.specs.Bytes.{is, digit};
 ghost use Rattle.lexis.specs.Runs.{byteAt};
-ghost use Rattle.lexis.specs.Tokens.{word, number, sign, quoted, codeEnd, bracket, special, tokenOn, tokenAt, spelled};
-ghost use Rattle.lexis.specs.Postconditions.{patternsOf, wordsOf, TokenIs};
+ghost use Rattle.lexis.specs.Spelling.{keywords, booleans, datePatterns, timePatterns};
+ghost use Rattle.lexis.specs.Tokens.{typeName, name, word, number, sign, quoted, codeEnd, bracket, special, tokenOn, tokenAt, spelled};
+ghost use Rattle.lexis.specs.Postconditions.{wordsOf, TokenIs};
 
 // A word: of the family's sort where the family spells it, else of the sort given.
 fn word(s: &[u8], at: usize, f: Words, sort: u8) -> Token
@@ -53,16 +54,28 @@ fn word(s: &[u8], at: usize, f: Words, sort: u8) -> Token
     }
 }
 
-// A pattern of one family, or else a word of another.
-fn pattern_or_word(s: &[u8], at: usize, patterns: Patterns, words: Words, sort: u8) -> Token
+// A time pattern, or else a word that opens with a capital.
+fn capital_token(s: &[u8], at: usize) -> Token
     requires { ⌜ at < length (now s) ⌝ }
-    ensures { λ r. ⌜ r ≡ spelled (patternsOf patterns) at (drop at (now (s .entry))) (word (now (s .entry)) (wordsOf words) sort at) ⌝ }
+    ensures { λ r. ⌜ r ≡ spelled timePatterns at (drop at (now (s .entry))) (word (now (s .entry)) booleans typeName at) ⌝ }
 {
-    let t = pattern(s, at, patterns);
+    let t = time_pattern(s, at);
     if t.sort != UNREADABLE {
         return t;
     }
-    word(s, at, words, sort)
+    word(s, at, Words::Booleans, TYPE_NAME)
+}
+
+// A date pattern, or else a word that opens with a small letter.
+fn small_token(s: &[u8], at: usize) -> Token
+    requires { ⌜ at < length (now s) ⌝ }
+    ensures { λ r. ⌜ r ≡ spelled datePatterns at (drop at (now (s .entry))) (word (now (s .entry)) keywords name at) ⌝ }
+{
+    let t = date_pattern(s, at);
+    if t.sort != UNREADABLE {
+        return t;
+    }
+    word(s, at, Words::Keywords, NAME)
 }
 
 // A date, or else an integer without a sign.
@@ -218,8 +231,8 @@ pub fn token_on(s: &[u8], at: usize) -> Token
     }
     let k = sort_of(s[at]);
     match k {
-        CAPITAL => pattern_or_word(s, at, Patterns::Times, Words::Booleans, TYPE_NAME),
-        SMALL => pattern_or_word(s, at, Patterns::Dates, Words::Keywords, NAME),
+        CAPITAL => capital_token(s, at),
+        SMALL => small_token(s, at),
         DIGIT => number(s, at),
         MARK => sign(s, at),
         _ => special(s, at),

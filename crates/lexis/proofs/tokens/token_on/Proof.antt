@@ -1,6 +1,6 @@
 -- `lexis::tokens::token_on` meets its contract. Assumes nothing.
-use borrow.Author.Needs.{needs}
 use Rattle.lexis.proofs.TokenSteps.{on-end, on-capital, on-small, on-digit, on-mark, on-other}
+use borrow.Author.Needs.{needs}
 use Rattle.lexis.proofs.tokens.token_on.Statement.{statement}
 use Rattle.lexis.proofs.tokens.token_on.Tie as tie
 
@@ -13,11 +13,11 @@ shared-slice-read-sort-of c = search needs
 sort-of-requires : tie.Need-sort-of-requires
 sort-of-requires c κs = search needs
 
-pattern-or-word-requires : tie.Need-pattern-or-word-requires
-pattern-or-word-requires c κs = search needs
+capital-token-requires : tie.Need-capital-token-requires
+capital-token-requires c κs = search needs
 
-pattern-or-word-requires-2 : tie.Need-pattern-or-word-requires-2
-pattern-or-word-requires-2 c κs = search needs
+small-token-requires : tie.Need-small-token-requires
+small-token-requires c κs = search needs
 
 number-requires : tie.Need-number-requires
 number-requires c κs = search needs
@@ -50,8 +50,8 @@ token-on-spec =
     returns
     shared-slice-read-sort-of
     sort-of-requires
-    pattern-or-word-requires
-    pattern-or-word-requires-2
+    capital-token-requires
+    small-token-requires
     number-requires
     sign-requires
     special-requires
