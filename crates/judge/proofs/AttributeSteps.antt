@@ -26,10 +26,11 @@ use Rattle.table.specs.Trees.{attributesIn, valueIn, treeAt}
 use Rattle.table.specs.Answers.{recordOf}
 use Rattle.table.specs.declared.records.Entry.{Entry}
 use Rattle.table.specs.declared.records.RecordNumber.{RecordNumber}
-use Rattle.judge.specs.Items.{recordIn, nameOf, leafFrom, Lies, Items, tableOf}
-use Rattle.judge.specs.Answers.{findingOf, under, leafVerdict, verdictIn}
+use Rattle.admission.specs.Items.{recordIn, nameOf, leafFrom, Lies, Items, tableOf}
+use Rattle.admission.specs.Answers.{findingOf, under}
+use Rattle.judge.specs.Answers.{leafVerdict, verdictIn}
 use Rattle.judge.specs.Walking.{contentOn, membersOn, datumOn, foundOn, FoundIs, LeafRow, blockOn, MembersWithin, ContentWithin, judgeFirst, Walk, ValueLink, AttributeAt, Leads, ValueIs, AttributeIs}
-use Rattle.judge.specs.declared.admission.Admission.{Admission}
+use Rattle.admission.specs.declared.Admission.{Admission}
 use Rattle.judge.specs.declared.members.Found.{Found}
 use Rattle.judge.specs.declared.members.Found.the-variants.{At, Nothing}
 use Rattle.judge.specs.declared.members.Block.{Block}

@@ -45,7 +45,7 @@ use Rattle.table.proofs.TreeLaws.{length-trees-of}
 use Rattle.table.proofs.NameSteps.{sound-open}
 use Rattle.table.proofs.WalkLaws.{nodeOf, tree-node}
 use Rattle.judge.specs.Answer.{JudgeAnswer, refused, judged, underRoot, judgeAnswer}
-use Rattle.judge.specs.Items.{tableOf, TableGood}
+use Rattle.admission.specs.Items.{tableOf, TableGood}
 use Rattle.judge.specs.Answers.{verdictIn}
 use Rattle.judge.specs.Walking.{typeOn, datumOn, BlockGood, DatumWithin, blockUnder, Under}
 use Rattle.judge.specs.declared.members.Block as members

@@ -1,7 +1,6 @@
 -- The laws and examples of the definitions, and the steps of the functions.
 pub mod Computes
 pub mod Examples
-pub mod ItemSteps
 pub mod TableLaws
 pub mod Depth
 pub mod MemberSteps

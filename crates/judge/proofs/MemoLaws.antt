@@ -17,7 +17,7 @@ use Rattle.table.specs.Rows.{rowOf}
 use Rattle.table.specs.Check.{kindAt}
 use Rattle.table.specs.Trees.{attributesIn, treeAt}
 use Rattle.table.proofs.UseLaws.{LinkRight}
-use Rattle.judge.specs.Items.{recordIn, Lies, tableOf, TableGood}
+use Rattle.admission.specs.Items.{recordIn, Lies, tableOf, TableGood}
 use Rattle.judge.specs.Walking.{membersOn, blockOn, OfRow}
 use Rattle.judge.specs.Memo.{bitOf, marked, Marks, recordCount, baseOf, VisitOf, OnChain, here, later, ChainGood, Marking, before, new, ChainMarked, Admits, MemoGood}
 use Rattle.judge.specs.declared.members.Block.{Block}

@@ -13,11 +13,11 @@ use Rattle.values.proofs.Common.{allBelow, below, by-order}
 use Rattle.table.specs.Records.{recordSize, field}
 use Rattle.table.specs.Answers.{recordOf}
 use Rattle.table.specs.declared.records.Entry.{Entry}
-use Rattle.judge.specs.Items.{recordIn, Lies}
+use Rattle.admission.specs.Items.{recordIn, Lies}
 use Rattle.judge.specs.Memo.{bitOf, withBit, marked, Marks, recordCount, baseOf, VisitOf, admittedIn, OnChain, here, later, ChainGood, Marking, before, new, ChainMarked}
 use Rattle.judge.specs.declared.members.Block.{Block}
 use Rattle.judge.specs.declared.memo.Visit.{Visit}
-use Rattle.judge.proofs.ItemSteps.{left}
+use Rattle.admission.proofs.ItemSteps.{left}
 
 -- of a byte and a bit: with the bit set it is a byte, and no other bit differs
 abbrev bit-fits : ℕ → ℕ → Bool

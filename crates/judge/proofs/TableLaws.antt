@@ -25,8 +25,8 @@ use Rattle.table.proofs.UseLaws.{by-or, LinkRight, by-link}
 use Rattle.table.proofs.FrameLaws.{count-opened, record-opened}
 use Rattle.table.proofs.NameSteps.{sound-open, name-in-pool}
 use Rattle.table.proofs.WalkLaws.{nodeOf, tree-node}
-use Rattle.judge.specs.Items.{recordIn, nameOf, itemsFrom, rangeIn, textIn, rangesFrom, textsFrom, leafOfKind, leafFrom, Lies, OfKind, Items, tableOf, TableGood}
-use Rattle.judge.proofs.ItemSteps.{items-some}
+use Rattle.admission.specs.Items.{recordIn, nameOf, itemsFrom, rangeIn, textIn, rangesFrom, textsFrom, leafOfKind, leafFrom, Lies, OfKind, Items, tableOf, TableGood}
+use Rattle.admission.proofs.ItemSteps.{items-some}
 
 -- a kind among others is one of them
 pub by-kind : {P : Type 0} (k x : ℕ) (xs : List ℕ) → among k (x ∷ xs) ≡ true → (k ≡ x → P) → (among k xs ≡ true → P) → P

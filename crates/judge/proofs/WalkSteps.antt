@@ -22,7 +22,7 @@ use Rattle.table.specs.Answers.{recordOf}
 use Rattle.table.specs.declared.records.Entry.{Entry}
 use Rattle.table.specs.declared.records.RecordNumber.{RecordNumber}
 use Rattle.table.proofs.UseLaws.{LinkRight}
-use Rattle.judge.specs.Items.{recordIn, nameOf, Lies, tableOf, TableGood}
+use Rattle.admission.specs.Items.{recordIn, nameOf, Lies, tableOf, TableGood}
 use Rattle.judge.specs.Answers.{verdictIn}
 use Rattle.judge.specs.Walking.{typeOn, membersOn, datumOn, BlockGood, OfRow, DatumWithin, MembersWithin, judgeFirst, Walk, AttributeAt, blockUnder, Leads, AttributeIs, Under}
 use Rattle.judge.specs.Memo.{marked, Marks, baseOf, VisitOf, admittedIn, ChainGood, ChainMarked, Admits, MemoGood}
@@ -34,7 +34,7 @@ use Rattle.judge.specs.declared.attributes.Verdict.the-variants.{Valid, 
 use Rattle.judge.specs.declared.attributes.Step.{Step}
 use Rattle.judge.specs.declared.attributes.Step.the-variants.{Told, Nested}
 use Rattle.judge.proofs.TableLaws.{by-kind, number-lies, link-there, name-there, object-tree, attribute-tree}
-use Rattle.judge.proofs.ItemSteps.{left}
+use Rattle.admission.proofs.ItemSteps.{left}
 use Rattle.judge.proofs.MemoSteps.{left-some}
 use Rattle.judge.proofs.MemoLaws.{memo-visited, base-small, chain-sound, memo-admits, memo-marked}
 

@@ -1,36 +1,19 @@
 -- What the answers of the functions stand for. Assumes nothing.
-use mathlib.Core.Bool.{Bool, true, false}
-use mathlib.Core.Option.{Option, none, some}
 use mathlib.Core.List.{List}
 use Prim.Native.Nat.{ℕ}
 use lib.Dec.{eqb}
 use Rattle.lexis.specs.Runs.{part}
-use Rattle.meaning.specs.Constraints.{Leaf}
-use Rattle.meaning.specs.Admission.{Finding, unsuited, refuted, admitted, wordUnder, stringUnder}
 use Rattle.meaning.specs.Verdicts.{valid, fails}
 use Rattle.meaning.specs.Verdicts
 use Rattle.meaning.specs.Judging.{verdictOf}
 use Rattle.data.specs.Tape.{isString, number}
-use Rattle.judge.specs.Items.{leafFrom}
+use Rattle.admission.specs.Items.{leafFrom}
 use Rattle.judge.specs.Answer.{JudgeAnswer, refused, judged}
-use Rattle.judge.specs.declared.admission.Admission.{Admission}
-use Rattle.judge.specs.declared.admission.Admission.the-variants.{Unsuited, Refuted, Admitted}
+use Rattle.admission.specs.Answers.{under}
 use Rattle.judge.specs.declared.attributes.Verdict.{Verdict}
 use Rattle.judge.specs.declared.attributes.Verdict.the-variants as verdict
 use Rattle.judge.specs.declared.JudgeResult.{JudgeResult}
 use Rattle.judge.specs.declared.JudgeResult.the-variants.{Valid, Refused, Failed}
-
--- how a value stands to a leaf
-abbrev pub findingOf : Admission → Finding
-findingOf Unsuited = unsuited
-findingOf Refuted = refuted
-findingOf Admitted = admitted
-
--- a string or a word under a leaf; where there is none, it is unsuited
-abbrev pub under : Option Leaf → Bool → List ℕ → Finding
-under none isString w = unsuited
-under (some l) true w = stringUnder l w
-under (some l) false w = wordUnder l w
 
 -- a row's string or word by the leaf whose first item has a number
 abbrev pub leafVerdict : List ℕ → List ℕ → List ℕ → ℕ → List ℕ → Verdicts.Verdict

@@ -1,5 +1,4 @@
 pub mod Answer
-pub mod Items
 pub mod Answers
 pub mod Walking
 pub mod Memo

@@ -9,7 +9,7 @@ use Rattle.meaning.specs.Verdicts.{valid}
 use Rattle.meaning.specs.Judging.{judgeAttributes}
 use Rattle.table.specs.Records.{Image, recordSize, field}
 use Rattle.table.specs.Trees.{attributesIn, treeAt}
-use Rattle.judge.specs.Items.{recordIn, Lies, tableOf}
+use Rattle.admission.specs.Items.{recordIn, Lies, tableOf}
 use Rattle.judge.specs.Walking.{membersOn, blockOn}
 use Rattle.judge.specs.declared.members.Block.{Block}
 use Rattle.judge.specs.declared.memo.Visit.{Visit}

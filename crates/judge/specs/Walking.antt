@@ -23,7 +23,7 @@ use Rattle.table.specs.Rows.{items}
 use Rattle.table.specs.Trees.{attributesIn, valueIn, treeAt}
 use Rattle.table.specs.Answers.{recordOf}
 use Rattle.table.specs.declared.records.Entry.{Entry}
-use Rattle.judge.specs.Items.{recordIn, tableOf, TableGood}
+use Rattle.admission.specs.Items.{recordIn, tableOf, TableGood}
 use Rattle.judge.specs.Answers.{verdictIn}
 use Rattle.judge.specs.declared.members.Found.{Found}
 use Rattle.judge.specs.declared.members.Found.the-variants.{At, Nothing}

@@ -1,8 +1,8 @@
 // Attributes: what an attribute tells of a block without judging a block inside it.
-use crate::admission::Admission;
-use crate::admission::admit;
-use crate::admission::entry_at;
-use crate::admission::name_of;
+use admission::Admission;
+use admission::admit;
+use admission::entry_at;
+use admission::name_of;
 use crate::members::Block;
 use crate::members::Found;
 use crate::members::find_member;
@@ -16,8 +16,9 @@ ghost use Rattle.meaning.specs.Verdicts as definitions;
 ghost use Rattle.meaning.specs.Judging.{verdictOf};
 ghost use Rattle.data.specs.Tape.{rowSize};
 ghost use Rattle.data.specs.Contracts.{rowAt, TapeGood};
-ghost use Rattle.judge.specs.Items.{tableOf, Items};
-ghost use Rattle.judge.specs.Answers.{findingOf, verdictIn, leafVerdict};
+ghost use Rattle.admission.specs.Items.{tableOf, Items};
+ghost use Rattle.admission.specs.Answers.{findingOf};
+ghost use Rattle.judge.specs.Answers.{verdictIn, leafVerdict};
 ghost use Rattle.judge.specs.Walking.{LeafRow, blockOn, Walk, ValueLink, ValueIs, AttributeAt, Begins, AttributeIs};
 
 // Document 01's reasons.

@@ -1,5 +1,4 @@
 // Judging a data text by a table. The definitions stand in specs/.
-pub mod admission;
 mod attributes;
 mod members;
 mod memo;
@@ -28,7 +27,7 @@ ghost use Rattle.table.specs.Records.{imageOf};
 ghost use Rattle.table.specs.Check.{kindAt, tableFault};
 ghost use Rattle.table.specs.Trees.{objectAt};
 ghost use Rattle.judge.specs.Answer.{judged, underRoot, judgeAnswer};
-ghost use Rattle.judge.specs.Items.{tableOf, TableGood};
+ghost use Rattle.admission.specs.Items.{tableOf, TableGood};
 ghost use Rattle.judge.specs.Answers.{verdictIn, answerOf};
 
 // The longest text that the short tape has room for.

@@ -1,5 +1,5 @@
 // The memo: which attributes are known to admit which blocks, a bit for each pair.
-use crate::admission::entry_at;
+use admission::entry_at;
 use crate::members::Block;
 use table::records::RecordNumber;
 ghost use mathlib.Core.Path.{_≡_};

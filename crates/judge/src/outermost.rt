@@ -5,7 +5,7 @@ use crate::memo::record_count;
 use crate::walk::judge_block;
 use table::records::RecordNumber;
 ghost use mathlib.Core.Path.{_≡_};
-ghost use Rattle.judge.specs.Items.{tableOf};
+ghost use Rattle.admission.specs.Items.{tableOf};
 ghost use Rattle.judge.specs.Answers.{verdictIn};
 ghost use Rattle.judge.specs.Walking.{Under, blockUnder};
 

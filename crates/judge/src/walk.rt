@@ -1,6 +1,6 @@
 // The walk: a block by an object, and the blocks inside it by the objects of its attributes.
-use crate::admission::entry_at;
-use crate::admission::name_of;
+use admission::entry_at;
+use admission::name_of;
 use crate::attributes::Step;
 use crate::attributes::Verdict;
 use crate::attributes::fails;
@@ -17,7 +17,7 @@ ghost use Prim.Native.Nat.{_+_, _≤_};
 ghost use lib.ListN.{length};
 ghost use Rattle.meaning.specs.Judging.{typeSuits};
 ghost use Rattle.table.specs.Answers.{recordOf};
-ghost use Rattle.judge.specs.Items.{nameOf, tableOf};
+ghost use Rattle.admission.specs.Items.{nameOf, tableOf};
 ghost use Rattle.judge.specs.Answers.{verdictIn};
 ghost use Rattle.judge.specs.Walking.{typeOn, BlockGood, Under, blockUnder};
 ghost use Rattle.judge.specs.Memo.{MemoGood};

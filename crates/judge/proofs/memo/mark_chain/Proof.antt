@@ -1,6 +1,6 @@
 -- `judge::memo::mark_chain` meets its contract. Assumes nothing.
 use borrow.Author.Needs.{needs}
-use Rattle.judge.proofs.ItemSteps.{left}
+use Rattle.admission.proofs.ItemSteps.{left}
 use Rattle.judge.proofs.MemoSteps.{InChain, chain-none, chain-start, chain-lies, chain-less, chain-next}
 use Rattle.judge.proofs.memo.mark_chain.Statement.{statement}
 use Rattle.judge.proofs.memo.mark_chain.Tie as tie

@@ -2,14 +2,14 @@
 use mathlib.Core.Path.{_∙_}
 use borrow.Author.Needs.{needs}
 use Rattle.judge.proofs.WalkSteps.{InAttributes, object-lies, object-name, visit-small, type-differs, type-suits, attributes-start, visit-near, attributes-end, attributes-chain, attributes-known, attribute-lies, attribute-at, attribute-less, told-valid, told-fails, levels-some, levels-fall, nested-under, nested-valid, nested-fails}
-use Rattle.judge.proofs.ItemSteps.{left}
+use Rattle.admission.proofs.ItemSteps.{left}
 use Prim.Native.Nat.{ℕ, _<_}
 use borrow.Fn.Kinds.{In}
 use borrow.Fn.PlainCycle.{Measures, is, falls, and}
 use Rattle.judge.proofs.walk.judge_block.Reads as judge-block
 use Rattle.judge.proofs.walk.judge_block.Kinds as judge-block-kinds
 use Rattle.judge.proofs.walk.+judge_block.Lts-judge_block as judge-block-lts
-use Rattle.judge.proofs.admission.entry_at.Reads as entry-at-reads
+use Rattle.admission.proofs.entry_at.Reads as entry-at-reads
 use Rattle.judge.proofs.attributes.fails.Reads as fails-reads
 use Rattle.judge.proofs.attributes.judge_attribute.Reads as judge-attribute-reads
 use Rattle.judge.proofs.memo.enter.Reads as enter-reads

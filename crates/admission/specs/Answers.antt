@@ -1,0 +1,21 @@
+-- What the answers of the functions stand for. Assumes nothing.
+use mathlib.Core.Bool.{Bool, true, false}
+use mathlib.Core.Option.{Option, none, some}
+use mathlib.Core.List.{List}
+use Prim.Native.Nat.{ℕ}
+use Rattle.meaning.specs.Constraints.{Leaf}
+use Rattle.meaning.specs.Admission.{Finding, unsuited, refuted, admitted, wordUnder, stringUnder}
+use Rattle.admission.specs.declared.Admission.{Admission}
+use Rattle.admission.specs.declared.Admission.the-variants.{Unsuited, Refuted, Admitted}
+
+-- how a value stands to a leaf
+abbrev pub findingOf : Admission → Finding
+findingOf Unsuited = unsuited
+findingOf Refuted = refuted
+findingOf Admitted = admitted
+
+-- a string or a word under a leaf; where there is none, it is unsuited
+abbrev pub under : Option Leaf → Bool → List ℕ → Finding
+under none isString w = unsuited
+under (some l) true w = stringUnder l w
+under (some l) false w = wordUnder l w
