@@ -82,16 +82,16 @@ pub fn byte_at(s: &[u8], at: usize) -> u8
 pub fn is_blank(b: u8) -> bool
     ensures { λ r. ⌜ r ≡ is blank b ⌝ }
 {
+    if b == b' ' {
+        return true;
+    }
     if b < b'\t' {
         return false;
     }
     if b <= b'\n' {
         return true;
     }
-    if b < b' ' {
-        return b == b'\r';
-    }
-    b == b' '
+    b == b'\r'
 }
 
 // CR or LF, which end a comment.
