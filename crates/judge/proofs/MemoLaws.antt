@@ -19,7 +19,7 @@ use Rattle.table.specs.Trees.{attributesIn, treeAt}
 use Rattle.table.proofs.UseLaws.{LinkRight}
 use Rattle.admission.specs.Items.{recordIn, Lies, tableOf, TableGood}
 use Rattle.judge.specs.Walking.{membersOn, blockOn, OfRow}
-use Rattle.judge.specs.Memo.{bitOf, marked, Marks, recordCount, baseOf, VisitOf, OnChain, here, later, ChainGood, Marking, before, new, ChainMarked, Admits, MemoGood}
+use Rattle.judge.specs.Memo.{bitOf, marked, Blank, Marks, recordCount, baseOf, VisitOf, OnChain, here, later, ChainGood, Marking, before, new, ChainMarked, Admits, MemoGood}
 use Rattle.judge.specs.declared.members.Block.{Block}
 use Rattle.judge.specs.declared.memo.Visit.{Visit}
 use Rattle.judge.proofs.MemoSteps.{no-bit}
@@ -46,8 +46,11 @@ none-marked : (n i : ℕ) → marked (replicate n 0) i ≡ false
 unfolding marked
 none-marked n i = rw (replicate-none n (i / 8)) (no-bit (i % 8) (omega arith))
 
-pub memo-start : (records pool s tape : List ℕ) (rows n : ℕ) → MemoGood records pool s tape rows (replicate n 0)
-memo-start records pool s tape rows n = record { admits = λ row k h l t. absurd (false≢true (sym (none-marked n ((row + 1) * recordCount records + k)) ∙ t)) }
+pub memo-blank : (n : ℕ) → Blank (replicate n 0)
+memo-blank n = record { none = none-marked n }
+
+pub memo-start : (records pool s tape : List ℕ) (rows : ℕ) (memo : List ℕ) → Blank memo → MemoGood records pool s tape rows memo
+memo-start records pool s tape rows memo b = record { admits = λ row k h l t. absurd (false≢true (sym (b .none ((row + 1) * recordCount records + k)) ∙ t)) }
 
 -- a visit marks no pair
 pub memo-visited : (records pool s tape : List ℕ) (rows : ℕ) (memo after : List ℕ) (b : Block) → MemoGood records pool s tape rows memo → Marks memo (baseOf records b) after → MemoGood records pool s tape rows after
@@ -69,6 +72,14 @@ rest-valid n e w v more place ms h = second (judgeMember n e place (memberOf w m
     second valid y h = h
     second (fails r i p) y h = absurd (let z : _≡_ {A = ℕ} 0 1 = cc in omega arith)
 
+-- the bits of all pairs are not many
+pub pairs-fit : (records text : List ℕ) (n : ℕ) → length records ≤ 49_152 → length text ≤ 16_384 → n ≡ recordCount records → (length text / 4 + 1) * n < 2 ^ 64
+pairs-fit records text n f l e =
+    let y : n ≤ 2_048 = omega arith in
+    let z : length text / 4 + 1 ≤ 4_097 = omega arith in
+    let p : (length text / 4 + 1) * n ≤ 4_097 * 2_048 = mul-le-mul z y in
+    omega arith
+
 module _ (records pool : List ℕ) (t : TableGood records pool) where
   -- a block's first bit is not far
   pub base-small : (rows : ℕ) (tape : List ℕ) (b : Block) → rows ≤ 4_096 → OfRow rows tape b → baseOf records b ≤ 8_388_608
@@ -80,15 +91,8 @@ module _ (records pool : List ℕ) (t : TableGood records pool) where
       let d : b .first ≤ 4_096 = omega arith in
       mul-le-mul d c
 
-  -- the bits of all pairs are not many
-  pub bits-fit : (rows n : ℕ) → rows ≤ 4_096 → n ≡ recordCount records → (rows + 1) * n < 2 ^ 64
-  bits-fit rows n f e =
-      let l = records-long records pool t in
-      let w = checked records pool t .few in
-      let y : n ≤ 2_048 = omega arith in
-      let z : rows + 1 ≤ 4_097 = omega arith in
-      let p : (rows + 1) * n ≤ 4_097 * 2_048 = mul-le-mul z y in
-      omega arith
+  pub records-few : length records ≤ 49_152
+  records-few = let l = records-long records pool t in let w = checked records pool t .few in omega arith
 
   -- an attribute leads to none or up to another
   next-there : (n : ℕ) → kindAt (tableOf records pool) n ≡ 2 → 0 < field (recordIn records n) 3 → LinkRight (tableOf records pool) n (2 ∷ []) (field (recordIn records n) 3)

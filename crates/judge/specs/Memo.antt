@@ -1,6 +1,6 @@
 -- The memo of a walk: a bit for each pair of a block and an attribute, set where the attributes from that one on are known to admit the block. Assumes nothing.
 use mathlib.Core.Path.{_≡_}
-use mathlib.Core.Bool.{Bool, true, cond, _&&_, _||_}
+use mathlib.Core.Bool.{Bool, true, false, cond, _&&_, _||_}
 use mathlib.Core.List.{List}
 use Prim.Native.Nat.{ℕ, _+_, _*_, _/_, _%_, _^_, _≤_, _<_}
 use lib.Dec.{eqb}
@@ -24,6 +24,10 @@ withBit b k = cond (bitOf b k) b (b + 2 ^ k)
 -- the bit with a number is set; none is behind the memo's end
 unfoldable pub marked : List ℕ → ℕ → Bool
 marked memo i = bitOf (getD memo (i / 8) 0) (i % 8)
+
+-- no bit is set
+pub record Blank (memo : List ℕ) : Type 0 where
+  pub none : (i : ℕ) → marked memo i ≡ false
 
 -- that bit is set, if it is not behind the end, and every other is as before
 pub record Marks (before : List ℕ) (i : ℕ) (after : List ℕ) : Type 0 where

@@ -1,6 +1,7 @@
 -- `judge::judge_on` meets its contract. Assumes nothing.
 use borrow.Author.Needs.{needs}
 use Rattle.judge.proofs.JudgeSteps.{text-refused, text-under, text-judged}
+use Rattle.judge.proofs.MemoLaws.{memo-start}
 use Rattle.judge.proofs.judge_on.Statement.{statement}
 use Rattle.judge.proofs.judge_on.Tie as tie
 
@@ -19,14 +20,17 @@ returns c = search text-refused
 enum-known-place : tie.Need-enum-known-place
 enum-known-place c = search needs
 
-judge-outermost-requires : tie.Need-judge-outermost-requires
-judge-outermost-requires c κs = search text-under
+judge-block-requires : tie.Need-judge-block-requires
+judge-block-requires c κs = (search text-under, search memo-start)
 
 answer-requires : tie.Need-answer-requires
 answer-requires c κs = search needs
 
 same-length-2 : tie.Need-same-length-2
 same-length-2 c = search needs
+
+same-length-3 : tie.Need-same-length-3
+same-length-3 c = search needs
 
 returns-2 : tie.Need-returns-2
 returns-2 c = search text-judged
@@ -40,7 +44,8 @@ judge-on-spec =
     same-length
     returns
     enum-known-place
-    judge-outermost-requires
+    judge-block-requires
     answer-requires
     same-length-2
+    same-length-3
     returns-2)
