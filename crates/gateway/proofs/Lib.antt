@@ -1,1 +1,3 @@
+pub mod Examples
 mod InterfaceSteps
+pub mod InterfaceTable

@@ -24,6 +24,40 @@ abbrev around : List (List ℕ) → List ℕ → List ℕ
 around [] s = s
 around (x ∷ xs) s = (bytes "A matches {a matches {" ++ around xs s) ++ bytes "}}"
 
+-- lists of dates that open with each mark of an open or missing end, past an item that stood before
+pub dates-below : told (faults (bytes "A matches {a matches {|<2004-01-01|, |2003-01-01|}}")) ≡ 9 ∷ 37 ∷ []
+unfolding scansCompute
+dates-below = refl
+
+pub dates-above : told (faults (bytes "A matches {a matches {|>2004-01-01|, |2005-01-01|}}")) ≡ 9 ∷ 37 ∷ []
+unfolding scansCompute
+dates-above = refl
+
+pub dates-at-most : told (faults (bytes "A matches {a matches {|<=2004-01-01|, |2003-01-01|}}")) ≡ 9 ∷ 38 ∷ []
+unfolding scansCompute
+dates-at-most = refl
+
+pub dates-at-least : told (faults (bytes "A matches {a matches {|>=2004-01-01|, |2005-01-01|}}")) ≡ 9 ∷ 38 ∷ []
+unfolding scansCompute
+dates-at-least = refl
+
+-- another token where a string is to follow
+pub type-for-string : told (faults (bytes "A matches {a matches {\"a\", A}}")) ≡ 2 ∷ 27 ∷ []
+unfolding scansCompute
+type-for-string = refl
+
+pub name-for-string : told (faults (bytes "A matches {a matches {\"a\", b}}")) ≡ 2 ∷ 27 ∷ []
+unfolding scansCompute
+name-for-string = refl
+
+pub integer-for-string : told (faults (bytes "A matches {a matches {\"a\", 5}}")) ≡ 2 ∷ 27 ∷ []
+unfolding scansCompute
+integer-for-string = refl
+
+pub end-for-string : told (faults (bytes "A matches {a matches {\"a\", }}}")) ≡ 2 ∷ 27 ∷ []
+unfolding scansCompute
+end-for-string = refl
+
 -- past impossible literals, results outside, empty intervals and items that stood before
 pub past-values : told (faults (bytes "A matches {a matches {5, |007..3|, |9..3|, 5, |2147483647+/-1|, |9+/-007|, |9+/--1|, |>2147483647|}}"))
     ≡ 5 ∷ 26 ∷ 6 ∷ 40 ∷ 9 ∷ 43 ∷ 5 ∷ 60 ∷ 5 ∷ 69 ∷ 6 ∷ 82 ∷ 6 ∷ 97 ∷ []

@@ -25,6 +25,19 @@ pub past-faults : told (faults (bytes "<a=<_x> a=<5> b=<024> a=")) ≡ 5 ∷ 4 �
 unfolding valuesCompute numberOf faultsIn and andThen noting wanted faults scanToken scanType scanString scanWord scanContent scanName scanMembers scanBlock scanOutermost
 past-faults = refl
 
+-- behind `(`: a run that is no TYPE, a mark, and a string
+pub no-type : told (faults (bytes "(a)<>")) ≡ 2 ∷ 1 ∷ []
+unfolding valuesCompute numberOf faultsIn and andThen noting wanted faults scanToken scanType scanString scanWord scanContent scanName scanMembers scanBlock scanOutermost
+no-type = refl
+
+pub mark-for-type : told (faults (bytes "(=)<>")) ≡ 2 ∷ 1 ∷ []
+unfolding valuesCompute numberOf faultsIn and andThen noting wanted faults scanToken scanType scanString scanWord scanContent scanName scanMembers scanBlock scanOutermost
+mark-for-type = refl
+
+pub string-for-type : told (faults (bytes "<a=(\"A\")<>>")) ≡ 2 ∷ 4 ∷ []
+unfolding valuesCompute numberOf faultsIn and andThen noting wanted faults scanToken scanType scanString scanWord scanContent scanName scanMembers scanBlock scanOutermost
+string-for-type = refl
+
 -- a name, a type and a string that are too long, and the name again
 pub past-lengths : told (faults (bytes "<b" ++ replicate 63 0x62 ++ bytes "=(T" ++ replicate 63 0x54 ++ bytes ")<> b" ++ replicate 63 0x62 ++ bytes "=<\"" ++ replicate 256 0x20 ++ bytes "\">>")) ≡ 4 ∷ 1 ∷ 4 ∷ 67 ∷ 4 ∷ 135 ∷ 9 ∷ 135 ∷ 4 ∷ 201 ∷ []
 unfolding valuesCompute numberOf faultsIn and andThen noting wanted faults scanToken scanType scanString scanWord scanContent scanName scanMembers scanBlock scanOutermost

@@ -3,10 +3,11 @@ use mathlib.Core.Path.{_≡_, refl, sym}
 use mathlib.Core.List.{List}
 use Prim.Native.Nat.{ℕ, _≤_, _<_}
 use native.Mathlib.Omega.{arith}
+use borrow.Author.Tests.{lt-ltb, le-ltb}
 use lib.ListN.{length, take}
 use lib.Seq.{length-take-le}
 use Rattle.io.specs.Counts.{Counts}
-use Rattle.vectors.specs.Reading.{Grown}
+use Rattle.vectors.specs.Reading.{Grown, cut}
 
 module _ (xs : List ℕ) (n : ℕ) where
   counts : n ≤ length xs → Counts n xs
@@ -22,3 +23,10 @@ module _ (xs : List ℕ) (n : ℕ) where
   -- a place behind which nothing more was read
   pub counts-read : (before : List ℕ) (next : ℕ) → Grown n before xs next → Counts n xs
   counts-read before next h = counts (omega arith)
+
+  -- the same numbers are what a buffer cut to n bytes has
+  pub cut-below : n < length xs → n ≡ cut n xs
+  cut-below h = rw (lt-ltb n (length xs) h)
+
+  pub cut-all : length xs ≤ n → length xs ≡ cut n xs
+  cut-all h = rw (le-ltb n (length xs) h)

@@ -1,2 +1,3 @@
+mod CopySteps
 mod DigestSteps
 mod Counting

@@ -10,7 +10,7 @@ ghost use Prim.Native.Nat.{_≤_};
 ghost use mathlib.Core.Path.{_≡_};
 ghost use lib.ListN.{length};
 ghost use Rattle.io.specs.Counts.{Counts};
-ghost use Rattle.vectors.specs.Reading.{Grown};
+ghost use Rattle.vectors.specs.Reading.{Grown, cut, Copied};
 
 // What a case begins with. Kind 0 says that no case is left.
 pub struct Head {
@@ -93,13 +93,14 @@ pub fn read_bytes(buf: &mut [u8]) -> usize
 // So many bytes of a buffer, or all where it has fewer.
 pub fn within(n: usize, buf: &[u8]) -> usize
     ensures { λ r. ⌜ Counts r (now (buf .entry)) ⌝ }
+    ensures { λ r. ⌜ r ≡ cut n (now (buf .entry)) ⌝ }
 {
     if n < buf.len() { n } else { buf.len() }
 }
 
 // Copies the front of one buffer to the front of another, as far as both go.
 pub fn copy(from: &[u8], to: &mut [u8])
-    ensures { λ _. ⌜ length (now (to .exit)) ≡ length (now (to .entry)) ⌝ }
+    ensures { λ _. ⌜ Copied (now (from .entry)) (now (to .entry)) (now (to .exit)) ⌝ }
 {
     let mut i = 0;
     while i < to.len() {

@@ -12,6 +12,7 @@ mod constraint;
 mod data;
 pub(crate) mod handmade;
 mod images;
+mod interface;
 mod items;
 mod judging;
 mod leaves;
@@ -44,6 +45,7 @@ fn files() -> Vec<File> {
     add(merges::tables());
     add(compiles::tables());
     add(answers::tables());
+    add(interface::tables());
     all.push(meaning::file());
     all
 }

@@ -60,7 +60,7 @@ pub struct Table {
 
 /// The tables that stand in the crate whose definitions they compute, since edits of these must be refused there. The others have a crate of
 /// their own, so that an edit of code does not compute them anew.
-const BESIDE: [(&str, &str); 9] = [
+const BESIDE: [(&str, &str); 10] = [
     ("refusals", "RefusalTable"),
     ("meaning", "LeafTable"),
     ("meaning", "JudgeTable"),
@@ -70,6 +70,7 @@ const BESIDE: [(&str, &str); 9] = [
     ("merge", "StepTable"),
     ("compile", "CompileTable"),
     ("demands", "ListTable"),
+    ("gateway", "InterfaceTable"),
 ];
 
 impl Table {
