@@ -1,12 +1,12 @@
 // Attributes: what an attribute tells of a block without judging a block inside it.
-use admission::Admission;
-use admission::admit;
-use admission::entry_at;
-use admission::name_of;
 use crate::members::Block;
 use crate::members::Found;
 use crate::members::find_member;
 use crate::members::number;
+use admission::Admission;
+use admission::admit;
+use admission::entry_at;
+use admission::name_of;
 use table::records::Entry;
 use table::records::RecordNumber;
 ghost use mathlib.Core.Path.{_≡_};

@@ -1,6 +1,6 @@
 // The memo: which attributes are known to admit which blocks, a bit for each pair.
-use admission::entry_at;
 use crate::members::Block;
+use admission::entry_at;
 use table::records::RecordNumber;
 ghost use mathlib.Core.Path.{_≡_};
 ghost use Prim.Native.Nat.{_+_, _*_, _≤_, _<_, _^_};

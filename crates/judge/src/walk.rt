@@ -1,6 +1,4 @@
 // The walk: a block by an object, and the blocks inside it by the objects of its attributes.
-use admission::entry_at;
-use admission::name_of;
 use crate::attributes::Step;
 use crate::attributes::Verdict;
 use crate::attributes::fails;
@@ -9,6 +7,8 @@ use crate::members::Block;
 use crate::memo::enter;
 use crate::memo::is_admitted;
 use crate::memo::mark_chain;
+use admission::entry_at;
+use admission::name_of;
 use lexis::runs::same_bytes;
 use table::records::Entry;
 use table::records::RecordNumber;
