@@ -17,7 +17,7 @@
  *  - a pointer is not null and points to as many bytes as the length behind it says; a part of length 0 may point anywhere but at null
  *  - what one call is lent does not overlap: neither an output with another argument, nor two outputs with each other. (Parts that are only read may be the same.)
  *  - a place, a shift, a record or a length is lent as one number of its type
- *  - about 1 MB of stack is there (docs/ARCHITECTURE.md has the measured need)
+ *  - there is stack: 1.2 MB for dk_judge, 0.2 MB for the others (docs/ARCHITECTURE.md says what takes it)
  *
  * What a caller may rely on:
  *  - every number that is lent for an answer is set: to what the outcome names, else to 0
