@@ -7,7 +7,8 @@ use Prim.Native.Nat.{ℕ, zero, suc, _+_, _*_, _-_, _≤_, _<_}
 use native.Mathlib.Nat.{add-sub-cancel-left}
 use native.Mathlib.Omega.{arith}
 use lib.Dec.{eqb, leb}
-use lib.ListN.{length, take, drop}
+use lib.ListN.{length, getD, take, drop}
+use lib.Seq.{getD-take, getD-drop}
 use borrow.Author.Tests.{eqb-true, eq-eqb, ne-eqb, lt-leb, le-leb}
 use Rattle.lexis.specs.Bytes.{among}
 use Rattle.lexis.specs.Runs.{same}
@@ -32,8 +33,8 @@ use Rattle.meaning.specs.Admission.{Finding, unsuited, refuted, admitted, found
 use Rattle.table.specs.Records.{recordSize, decode, field}
 use Rattle.table.specs.Answers.{recordOf}
 use Rattle.table.specs.declared.records.Entry.{Entry}
-use Rattle.admission.specs.Items.{recordIn, nameOf, itemsFrom, endOf, rangeOf, rangeIn, textIn, rangesFrom, textsFrom, leafOfKind, leafFrom, Lies, OfKind, Chained, Spelled, rangeKind, Items}
-use Rattle.admission.specs.Answers.{under}
+use Rattle.admission.specs.Items.{recordIn, nameOf, Named, itemsFrom, endOf, rangeOf, rangeIn, textIn, rangesFrom, textsFrom, leafOfKind, leafFrom, Lies, OfKind, Chained, Spelled, rangeKind, Items}
+use Rattle.admission.specs.Answers.{under, isAdmitted, itemAdmits}
 
 -- an end of an item
 pub end-signed : (signed : Bool) (x r : ℕ) → signed ≡ true → r ≡ endOf true x → r ≡ endOf signed x
@@ -308,6 +309,66 @@ module _ (records pool w : List ℕ) (first : ℕ) (e : Entry) (q : recordOf e �
     pub word-time-pattern : (f : Finding) → e .kind ≡ 8 → f ≡ wordUnder (timePattern 0 (e .flag)) w → f ≡ under (leafFrom records pool first) s w
     unfolding leafOfKind wordUnder
     word-time-pattern f h g = kind-read 8 f h (rw y (g ∙ ap (λ r. try (timeOf w) (fitsTime (r .flag))) q))
+
+-- an item alone
+found-back : (b : Bool) → isAdmitted (found b) ≡ b
+found-back true = refl
+found-back false = refl
+
+module _ (w : List ℕ) (e : Entry) where
+  pub integer-alone-none : (a : Number) → integerAnswer a ≡ integerOf w → a ≡ number.Nothing → false ≡ isAdmitted (wordUnder (integers (rangeOf true 0 (recordOf e) ∷ [])) w)
+  unfolding wordUnder
+  integer-alone-none a q h = ap isAdmitted (try-none integerAnswer a _ _ q number.Nothing h refl)
+
+  pub integer-alone : (a : Number) → integerAnswer a ≡ integerOf w → (v : ℕ) (r : Bool) → a ≡ number.Value v → r ≡ inRange v (rangeOf true 0 (recordOf e)) → r ≡ isAdmitted (wordUnder (integers (rangeOf true 0 (recordOf e) ∷ [])) w)
+  unfolding wordUnder inSome
+  integer-alone a q v r h t = sym (found-back r) ∙ ap isAdmitted (try-some integerAnswer a _ _ q (number.Value v) v (found r) h refl (rw or-false (ap found t)))
+
+  pub date-alone-none : (a : Day) → dateAnswer a ≡ dateOf w → a ≡ day.Nothing → false ≡ isAdmitted (wordUnder (dates (rangeOf false 0 (recordOf e) ∷ [])) w)
+  unfolding wordUnder
+  date-alone-none a q h = ap isAdmitted (try-none dateAnswer a _ _ q day.Nothing h refl)
+
+  module _ (a : Day) (q : dateAnswer a ≡ dateOf w) (parts d : ℕ) (h : a ≡ day.Value parts d) where
+    pub date-alone-part : (parts ≡ 3 → ⊥) → false ≡ isAdmitted (wordUnder (dates (rangeOf false 0 (recordOf e) ∷ [])) w)
+    unfolding wordUnder
+    date-alone-part z = ap isAdmitted (try-some dateAnswer a _ _ q (day.Value parts d) (record { parts = parts; day = d }) refuted h refl (rw (ne-eqb parts 3 z)))
+
+    pub date-alone : (r : Bool) → parts ≡ 3 → r ≡ inRange d (rangeOf false 0 (recordOf e)) → r ≡ isAdmitted (wordUnder (dates (rangeOf false 0 (recordOf e) ∷ [])) w)
+    unfolding wordUnder inSome
+    date-alone r z t = sym (found-back r) ∙ ap isAdmitted (try-some dateAnswer a _ _ q (day.Value parts d) (record { parts = parts; day = d }) (found r) h refl (rw (eq-eqb parts 3 z) (rw or-false (ap found t))))
+
+  module _ (pool : List ℕ) (s : Bool) where
+    pub alone-named : Named pool (recordOf e) → e .kind ≡ 5 → e .a + e .b ≤ length pool
+    alone-named n k = n .inside k
+
+    pub string-alone : s ≡ true → e .kind ≡ 5 → (name : List ℕ) (r : Bool) → name ≡ nameOf pool (recordOf e) → r ≡ same w name → r ≡ itemAdmits pool (recordOf e) s w
+    unfolding stringUnder isSome
+    string-alone y k name r en t = sym (found-back r) ∙ rw (y, k, or-false) (ap (λ b. isAdmitted (found b)) (t ∙ ap (same w) en))
+
+    pub string-alone-not : s ≡ true → (e .kind ≡ 5 → ⊥) → false ≡ itemAdmits pool (recordOf e) s w
+    unfolding stringUnder
+    string-alone-not y k =
+        let P : Option Leaf → Type 0 = λ o. false ≡ isAdmitted (under o true w) in
+        rw (y, ne-eqb (e .kind) 5 k) (either P (eqb (e .kind) 4) refl (either P (eqb (e .kind) 7) refl refl))
+
+    pub word-alone-integer : s ≡ false → e .kind ≡ 4 → (r : Bool) → r ≡ isAdmitted (wordUnder (integers (rangeOf true 0 (recordOf e) ∷ [])) w) → r ≡ itemAdmits pool (recordOf e) s w
+    word-alone-integer y k r t = rw (y, k) t
+
+    pub word-alone-date : s ≡ false → e .kind ≡ 7 → (r : Bool) → r ≡ isAdmitted (wordUnder (dates (rangeOf false 0 (recordOf e) ∷ [])) w) → r ≡ itemAdmits pool (recordOf e) s w
+    word-alone-date y k r t = rw (y, k) t
+
+    pub word-alone-not : s ≡ false → (e .kind ≡ 4 → ⊥) → (e .kind ≡ 7 → ⊥) → false ≡ itemAdmits pool (recordOf e) s w
+    unfolding wordUnder
+    word-alone-not y f g =
+        let P : Option Leaf → Type 0 = λ o. false ≡ isAdmitted (under o false w) in
+        rw (y, ne-eqb (e .kind) 4 f, ne-eqb (e .kind) 7 g) (either P (eqb (e .kind) 5) refl refl)
+
+pub ruleset alone-steps = (integer-alone-none, integer-alone, date-alone-none, date-alone-part, date-alone, string-alone, string-alone-not, word-alone-integer, word-alone-date, word-alone-not)
+
+-- the kind of a record, as it is read
+pub kind-read-at : (records : List ℕ) (n at : ℕ) → at ≡ recordSize * n → recordSize * n + recordSize ≤ length records → getD records (at + 2) 0 ≡ recordIn records n .kind
+unfolding decode
+kind-read-at records n at h l = ap (λ k. getD records (k + 2) 0) h ∙ sym (getD-take recordSize (drop (recordSize * n) records) 2 0 (omega arith) ∙ getD-drop (recordSize * n) records 2 0)
 
 -- what the walks over items ask
 module _ (records pool : List ℕ) (first : ℕ) (e : Entry) (i : Items records pool first) (q : recordOf e ≡ recordIn records first) where

@@ -5,6 +5,8 @@ use mathlib.Core.List.{List}
 use Prim.Native.Nat.{ℕ}
 use Rattle.meaning.specs.Constraints.{Leaf}
 use Rattle.meaning.specs.Admission.{Finding, unsuited, refuted, admitted, wordUnder, stringUnder}
+use Rattle.table.specs.Records.{Record}
+use Rattle.admission.specs.Items.{itemOf}
 use Rattle.admission.specs.declared.Admission.{Admission}
 use Rattle.admission.specs.declared.Admission.the-variants.{Unsuited, Refuted, Admitted}
 
@@ -19,3 +21,12 @@ abbrev pub under : Option Leaf → Bool → List ℕ → Finding
 under none isString w = unsuited
 under (some l) true w = stringUnder l w
 under (some l) false w = wordUnder l w
+
+-- a value is admitted; an item alone admits it
+abbrev pub isAdmitted : Finding → Bool
+isAdmitted unsuited = false
+isAdmitted refuted = false
+isAdmitted admitted = true
+
+abbrev pub itemAdmits : List ℕ → Record → Bool → List ℕ → Bool
+itemAdmits pool r isString w = isAdmitted (under (itemOf pool r) isString w)

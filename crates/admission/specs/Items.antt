@@ -98,3 +98,14 @@ tableOf records pool = imageOf (records ++ pool)
 pub record TableGood (records pool : List ℕ) : Type 0 where
   pub checked : tableFault (records ++ pool) ≡ none
   pub whole : length records ≡ recordSize * field (header (records ++ pool)) 0
+
+-- the leaf of an item of a list alone; none of the other kinds
+abbrev pub itemOf : List ℕ → Record → Option Leaf
+itemOf pool r =
+    cond (eqb (r .kind) 4) (some (integers (rangeOf true 0 r ∷ [])))
+    (cond (eqb (r .kind) 5) (some (strings (record { number = 0; text = nameOf pool r } ∷ [])))
+    (cond (eqb (r .kind) 7) (some (dates (rangeOf false 0 r ∷ []))) none))
+
+-- the text of a string lies in the pool
+pub record Named (pool : List ℕ) (r : Record) : Type 0 where
+  pub inside : r .kind ≡ 5 → field r 0 + field r 1 ≤ length pool

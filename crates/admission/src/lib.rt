@@ -16,14 +16,15 @@ use values::words::Boolean;
 use values::words::boolean_of;
 ghost use mathlib.Core.Path.{_≡_};
 ghost use mathlib.Core.Bool.{true, false};
+ghost use mathlib.Core.List.{[], _∷_};
 ghost use Prim.Native.Nat.{_+_, _*_, _≤_};
 ghost use lib.ListN.{length};
 ghost use Rattle.meaning.specs.Constraints.{booleans, integers, datePattern, dates, timePattern};
 ghost use Rattle.meaning.specs.Admission.{found, inRange, inSome, isSome, wordUnder};
 ghost use Rattle.table.specs.Records.{recordSize};
 ghost use Rattle.table.specs.Answers.{recordOf};
-ghost use Rattle.admission.specs.Items.{recordIn, nameOf, endOf, rangeOf, rangesFrom, textsFrom, leafFrom, Chained, Spelled, rangeKind, Items};
-ghost use Rattle.admission.specs.Answers.{findingOf, under};
+ghost use Rattle.admission.specs.Items.{recordIn, nameOf, endOf, rangeOf, rangesFrom, textsFrom, leafFrom, Chained, Spelled, rangeKind, Items, Named};
+ghost use Rattle.admission.specs.Answers.{findingOf, under, isAdmitted, itemAdmits};
 
 // How a value stands to a leaf: it is not of the kind asked, is not admitted, or is.
 pub enum Admission {
@@ -38,6 +39,15 @@ pub fn entry_at(records: &[u8], n: RecordNumber) -> Entry
     ensures { λ r. ⌜ recordOf r ≡ recordIn (now (records .entry)) (n .0) ⌝ }
 {
     read(records, n.start())
+}
+
+// The kind of the record with a number.
+pub fn kind_of(records: &[u8], n: RecordNumber) -> u8
+    requires { ⌜ recordSize * n .0 + recordSize ≤ length (now records) ⌝ }
+    ensures { λ r. ⌜ r ≡ recordIn (now (records .entry)) (n .0) .kind ⌝ }
+{
+    let at = n.start() + 2;
+    records[at]
 }
 
 // A value that was tried is admitted or is not.
@@ -172,6 +182,52 @@ fn time_pattern_under(flag: u8, value: &[u8]) -> Admission
     match time_of(value) {
         Parts::Value(parts) => tried(fits_time(flag, parts)),
         Parts::Nothing => Admission::Unsuited,
+    }
+}
+
+// A word lies between the ends of an item of integers.
+fn integer_in(e: Entry, value: &[u8]) -> bool
+    ensures { λ r. ⌜ r ≡ isAdmitted (wordUnder (integers (rangeOf true 0 (recordOf e) ∷ [])) (now (value .entry))) ⌝ }
+{
+    match integer_of(value) {
+        Number::Value(v) => in_range(true, e, v),
+        Number::Nothing => false,
+    }
+}
+
+// A word is a full date between the ends of an item of dates.
+fn date_in(e: Entry, value: &[u8]) -> bool
+    ensures { λ r. ⌜ r ≡ isAdmitted (wordUnder (dates (rangeOf false 0 (recordOf e) ∷ [])) (now (value .entry))) ⌝ }
+{
+    match date_of(value) {
+        Day::Value { parts, day } => {
+            if parts != 3 {
+                return false;
+            }
+            in_range(false, e, day)
+        }
+        Day::Nothing => false,
+    }
+}
+
+// An item of a list admits a value by itself.
+pub fn item_admits(pool: &[u8], e: Entry, value: &[u8], is_string: bool) -> bool
+    requires { ⌜ Named (now pool) (recordOf e) ⌝ }
+    ensures { λ r. ⌜ r ≡ itemAdmits (now (pool .entry)) (recordOf e) «is_string» (now (value .entry)) ⌝ }
+{
+    let kind = e.kind;
+    if is_string {
+        if kind == 5 {
+            return same_bytes(value, name_of(pool, e));
+        }
+        return false;
+    }
+    match kind {
+        0..=3 => false,
+        4 => integer_in(e, value),
+        5..=6 => false,
+        7 => date_in(e, value),
+        8..=255 => false,
     }
 }
 

@@ -14,7 +14,7 @@ use Rattle.lexis.proofs.Cases.{by-cond, either}
 use Rattle.meaning.specs.Constraints.{Leaf, leaf}
 use Rattle.meaning.specs.Data.{Members, member, Content, string, word}
 use Rattle.meaning.specs.Data
-use Rattle.meaning.specs.Verdicts.{Verdict, fails}
+use Rattle.meaning.specs.Verdicts.{Verdict, valid, fails}
 use Rattle.meaning.specs.Admission.{leafNumber}
 use Rattle.meaning.specs.Judging.{placeOf, verdictOf, memberOf, judgeMember, judgeLeaf, judgeContent, judgeValue}
 use Rattle.data.specs.Tape.{isBlock, isString, number}
@@ -30,6 +30,7 @@ use Rattle.admission.specs.Items.{recordIn, nameOf, leafFrom, Lies, Items, tabl
 use Rattle.admission.specs.Answers.{findingOf, under}
 use Rattle.judge.specs.Answers.{leafVerdict, verdictIn}
 use Rattle.judge.specs.Walking.{contentOn, membersOn, datumOn, foundOn, FoundIs, LeafRow, blockOn, MembersWithin, ContentWithin, judgeFirst, Walk, ValueLink, AttributeAt, Leads, ValueIs, AttributeIs}
+use Rattle.judge.specs.Memo.{KnownIs}
 use Rattle.admission.specs.declared.Admission.{Admission}
 use Rattle.judge.specs.declared.members.Found.{Found}
 use Rattle.judge.specs.declared.members.Found.the-variants.{At, Nothing}
@@ -49,6 +50,18 @@ module _ (a : Admission) (first place : ℕ) where
 pub block-read : (tape : List ℕ) (n place start end inside : ℕ) → place ≡ number (rowAt tape n) 3 → start ≡ number (rowAt tape n) 4 → end ≡ number (rowAt tape n) 5 → inside ≡ number (rowAt tape n) 7
     → record { place = place; «type_start» = start; «type_end» = end; first = n + 1; inside = inside } ≡ blockOn tape n
 block-read tape n place start end inside p a e i = λ j. record { place = p j; «type_start» = a j; «type_end» = e j; first = n + 1; inside = i j }
+
+-- a number that is not 0
+pub value-some : (n : ℕ) → (n ≡ 0 → ⊥) → 1 ≤ n
+value-some n h = omega arith
+
+-- a leaf's first item is a record's
+pub first-lies : (records pool : List ℕ) (first : ℕ) → Items records pool first → 1 ≤ first → (1 ≤ first) × Lies records first
+first-lies records pool first i h = (h, i .there)
+
+-- a row whose value is known to be admitted
+pub value-known : (records pool s tape : List ℕ) (row first : ℕ) (r : Bool) → KnownIs records pool s tape row first r → r ≡ true → valid ≡ leafVerdict records pool s first (rowAt tape row)
+value-known records pool s tape row first r k h = ap (verdictOf first (number (rowAt tape row) 3)) (sym (k .admits h))
 
 -- the value of a row that holds a string or a word
 module _ (s : List ℕ) (rows : ℕ) (tape : List ℕ) (n start end : ℕ) (g : TapeGood (length s) rows tape) (l : LeafRow rows tape n) (es : start ≡ number (rowAt tape n) 6) (ee : end ≡ number (rowAt tape n) 7) where
@@ -103,16 +116,16 @@ module _ (records pool s tape : List ℕ) (rows : ℕ) (value : RecordNumber) (r
     pub value-lies : Lies records (value .0)
     value-lies = number-lies records pool (w .checked) (value .0) (kindAt (tableOf records pool) (value .0)) refl (kind-some (kindAt (tableOf records pool) (value .0)) refl)
 
-    module _ (e : Entry) (q : recordOf e ≡ recordIn records (value .0)) where
-      kind-read : kindAt (tableOf records pool) (value .0) ≡ e .kind
-      kind-read = sym (kind-there records pool (w .checked) (value .0) (kindAt (tableOf records pool) (value .0)) refl (kind-some (kindAt (tableOf records pool) (value .0)) refl)) ∙ ap (λ r. r .kind) (sym q)
+    module _ (kind : ℕ) (q : kind ≡ recordIn records (value .0) .kind) where
+      kind-read : kindAt (tableOf records pool) (value .0) ≡ kind
+      kind-read = sym (kind-there records pool (w .checked) (value .0) (kindAt (tableOf records pool) (value .0)) refl (kind-some (kindAt (tableOf records pool) (value .0)) refl)) ∙ sym q
 
-      items-kind : (e .kind ≡ 1 → ⊥) → among (kindAt (tableOf records pool) (value .0)) items ≡ true
+      items-kind : (kind ≡ 1 → ⊥) → among (kindAt (tableOf records pool) (value .0)) items ≡ true
       items-kind z = by-kind (kindAt (tableOf records pool) (value .0)) 1 items (l .kind (omega arith)) (λ f. absurd (z (sym kind-read ∙ f))) (λ f. f)
 
       module _ (z : row < rows) (holds : ℕ) (eh : holds ≡ number (rowAt tape row) 0) where
         -- a block under an object is still to be judged
-        pub value-nested : e .kind ≡ 1 → holds ≡ 0 → (b : Block) → b ≡ blockOn tape row → ValueIs (tableOf records pool) s rows tape (value .0) row (Nested value b)
+        pub value-nested : kind ≡ 1 → holds ≡ 0 → (b : Block) → b ≡ blockOn tape row → ValueIs (tableOf records pool) s rows tape (value .0) row (Nested value b)
         unfolding ContentWithin
         value-nested ek ez b eb =
             let c = content-block s rows tape row (sym eh ∙ ez) in
@@ -123,7 +136,7 @@ module _ (records pool s tape : List ℕ) (rows : ℕ) (value : RecordNumber) (r
               leads = (
                 kind-read ∙ ek,
                 rw eb (record { order = g .typeStart; ahead = g .typeEnd; begins = record { there = λ k. g .inside (sym eh ∙ ez) k } }),
-                rw eb (record { there = omega arith; is = λ _. let r : row + 1 - 1 ≡ row = omega arith in rw r }),
+                rw eb (record { there = omega arith; holds = λ _. let r : row + 1 - 1 ≡ row = omega arith in rw r (sym eh ∙ ez); is = λ _. let r : row + 1 - 1 ≡ row = omega arith in rw r }),
                 λ levels k. subst (λ x. ContentWithin x levels) (c ∙ ap Data.block d) k,
               );
             }
@@ -133,20 +146,20 @@ module _ (records pool s tape : List ℕ) (rows : ℕ) (value : RecordNumber) (r
           told-20 f = record { is = er ∙ ap (fails 20 (value .0)) ep ∙ f; leads = tt }
 
           -- a leaf under an object
-          pub value-leaf : e .kind ≡ 1 → (holds ≡ 0 → ⊥) → ValueIs (tableOf records pool) s rows tape (value .0) row (Told v)
+          pub value-leaf : kind ≡ 1 → (holds ≡ 0 → ⊥) → ValueIs (tableOf records pool) s rows tape (value .0) row (Told v)
           unfolding judgeValue
           value-leaf ek ez =
               told-20 (rw (object-tree records pool (w .checked) (value .0) (kind-read ∙ ek))
               (sym (leaf-under-object s rows tape row (value .0) _ (λ f. ez (eh ∙ f)))))
 
           -- a block under items
-          pub value-block : (e .kind ≡ 1 → ⊥) → holds ≡ 0 → ValueIs (tableOf records pool) s rows tape (value .0) row (Told v)
+          pub value-block : (kind ≡ 1 → ⊥) → holds ≡ 0 → ValueIs (tableOf records pool) s rows tape (value .0) row (Told v)
           unfolding judgeValue
           value-block ek ez =
               let i = leaf-there records pool (w .checked) (value .0) (items-kind ek) in
               told-20 (rw (i .tree, content-block s rows tape row (sym eh ∙ ez), i .number))
 
-        module _ (ek : e .kind ≡ 1 → ⊥) (ez : holds ≡ 0 → ⊥) where
+        module _ (ek : kind ≡ 1 → ⊥) (ez : holds ≡ 0 → ⊥) where
           pub value-items : Items records pool (value .0)
           value-items = items-there records pool (w .checked) (value .0) (kindAt (tableOf records pool) (value .0)) refl (kind-some (kindAt (tableOf records pool) (value .0)) refl)
 

@@ -131,7 +131,7 @@ module _ (records pool s : List ℕ) (root : RecordNumber) (t : TableGood record
         walk = record { checked = t; good = tape-good s tape after place start end rows last room is; few = rows-few s tape after place start end rows last room is };
         kind = k;
         good = block-good s tape after place start end rows last room is;
-        row = record { there = omega arith; is = λ h. absurd (omega arith) };
+        row = record { there = omega arith; holds = λ h. absurd (omega arith); is = λ h. absurd (omega arith) };
         within = datum-within s tape after place start end rows last room is;
       }
 

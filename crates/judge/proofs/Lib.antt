@@ -7,5 +7,6 @@ pub mod MemberSteps
 pub mod AttributeSteps
 pub mod MemoSteps
 pub mod MemoLaws
+pub mod ListSteps
 pub mod WalkSteps
 pub mod JudgeSteps

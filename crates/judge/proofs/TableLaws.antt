@@ -143,6 +143,10 @@ module _ (records pool : List ℕ) (t : TableGood records pool) where
         spelled = record { inside = λ i l o. name-there i 5 (kind-back i 5 (omega arith) o) (omega arith) refl };
       }
 
+  -- the next item of a list is a record's number
+  pub list-link-below : (n k : ℕ) → kindAt (tableOf records pool) n ≡ k → among k (4 ∷ 5 ∷ 7 ∷ []) ≡ true → 0 < field (recordIn records n) 4 → field (recordIn records n) 4 < count (tableOf records pool)
+  list-link-below n k e z h = link-there n k e (list-some k z) 4 (k ∷ []) (lit< tt) (list-link k z) h .below
+
   -- a list of items, by what each record stands for
   module _ {A : Type 0} (list : Tree → List A) (make : ℕ → A) (k : ℕ) (z : among k (4 ∷ 5 ∷ 7 ∷ []) ≡ true) (none : list nothing ≡ [])
       (one : (n : ℕ) → kindAt (tableOf records pool) n ≡ k → list (treeAt (tableOf records pool) n) ≡ make n ∷ list (treeAt (tableOf records pool) (field (recordIn records n) 4))) where
@@ -171,6 +175,17 @@ module _ (records pool : List ℕ) (t : TableGood records pool) where
     pub list-first : (n : ℕ) → kindAt (tableOf records pool) n ≡ k → list (treeAt (tableOf records pool) n) ≡ map make (itemsFrom records (length records) n)
     list-first n e = let l = records-long in list-there (length records) n (λ p. e) (λ p. omega arith)
 
+    -- a leaf of such a list, by its tree: the first item, and those behind it
+    module _ (leaf : List A → Leaf) (whole : (n : ℕ) → leafOfKind records pool n k ≡ some (leaf (map make (itemsFrom records (length records) n)))) (n : ℕ) (e : kindAt (tableOf records pool) n ≡ k) where
+      pub list-leaf : leafFrom records pool n ≡ some (leaf (make n ∷ list (treeAt (tableOf records pool) (field (recordIn records n) 4))))
+      list-leaf = ap (leafOfKind records pool n) (kind-there n k e (list-some k z)) ∙ whole n ∙ ap (λ l. some (leaf l)) (sym (list-first n e) ∙ one n e)
+
+      pub list-rest : 0 < field (recordIn records n) 4 → leafFrom records pool (field (recordIn records n) 4) ≡ some (leaf (list (treeAt (tableOf records pool) (field (recordIn records n) 4))))
+      list-rest h =
+          let x = field (recordIn records n) 4 in
+          let u : kindAt (tableOf records pool) x ≡ k = by-kind (kindAt (tableOf records pool) x) k [] (link-there n k e (list-some k z) 4 (k ∷ []) (lit< tt) (list-link k z) h .kind) (λ y. y) (λ y. absurd (false≢true y)) in
+          ap (leafOfKind records pool x) (kind-there x k u (list-some k z)) ∙ whole x ∙ ap (λ l. some (leaf l)) (sym (list-first x u))
+
   -- the leaf whose first item has a number
   pub record LeafIs (n : ℕ) : Type 0 where
     pub leaf : Leaf
@@ -197,6 +212,32 @@ module _ (records pool : List ℕ) (t : TableGood records pool) where
 
     dates-tree : kindAt (tableOf records pool) n ≡ 7 → treeAt (tableOf records pool) n ≡ ofLeaf (dates (rangeIn false records n ∷ itemsIn datesOf (treeAt (tableOf records pool) (field (recordIn records n) 4))))
     dates-tree e = tree-there n 7 e (omega arith) ∙ rw (kind-there n 7 e (omega arith))
+
+  -- the leaves of lists, by their trees, and the leaves behind their first items
+  module _ (n : ℕ) where
+    pub integers-leaf : kindAt (tableOf records pool) n ≡ 4 → leafFrom records pool n ≡ some (integers (rangeIn true records n ∷ itemsIn integersOf (treeAt (tableOf records pool) (field (recordIn records n) 4))))
+    unfolding leafOfKind
+    integers-leaf = list-leaf (itemsIn integersOf) (rangeIn true records) 4 refl refl (λ i q. ap (itemsIn integersOf) (integers-tree i q)) integers (λ i. refl) n
+
+    pub integers-rest : kindAt (tableOf records pool) n ≡ 4 → 0 < field (recordIn records n) 4 → leafFrom records pool (field (recordIn records n) 4) ≡ some (integers (itemsIn integersOf (treeAt (tableOf records pool) (field (recordIn records n) 4))))
+    unfolding leafOfKind
+    integers-rest = list-rest (itemsIn integersOf) (rangeIn true records) 4 refl refl (λ i q. ap (itemsIn integersOf) (integers-tree i q)) integers (λ i. refl) n
+
+    pub strings-leaf : kindAt (tableOf records pool) n ≡ 5 → leafFrom records pool n ≡ some (strings (textIn records pool n ∷ itemsIn stringsOf (treeAt (tableOf records pool) (field (recordIn records n) 4))))
+    unfolding leafOfKind
+    strings-leaf = list-leaf (itemsIn stringsOf) (textIn records pool) 5 refl refl (λ i q. ap (itemsIn stringsOf) (strings-tree i q)) strings (λ i. refl) n
+
+    pub strings-rest : kindAt (tableOf records pool) n ≡ 5 → 0 < field (recordIn records n) 4 → leafFrom records pool (field (recordIn records n) 4) ≡ some (strings (itemsIn stringsOf (treeAt (tableOf records pool) (field (recordIn records n) 4))))
+    unfolding leafOfKind
+    strings-rest = list-rest (itemsIn stringsOf) (textIn records pool) 5 refl refl (λ i q. ap (itemsIn stringsOf) (strings-tree i q)) strings (λ i. refl) n
+
+    pub dates-leaf : kindAt (tableOf records pool) n ≡ 7 → leafFrom records pool n ≡ some (dates (rangeIn false records n ∷ itemsIn datesOf (treeAt (tableOf records pool) (field (recordIn records n) 4))))
+    unfolding leafOfKind
+    dates-leaf = list-leaf (itemsIn datesOf) (rangeIn false records) 7 refl refl (λ i q. ap (itemsIn datesOf) (dates-tree i q)) dates (λ i. refl) n
+
+    pub dates-rest : kindAt (tableOf records pool) n ≡ 7 → 0 < field (recordIn records n) 4 → leafFrom records pool (field (recordIn records n) 4) ≡ some (dates (itemsIn datesOf (treeAt (tableOf records pool) (field (recordIn records n) 4))))
+    unfolding leafOfKind
+    dates-rest = list-rest (itemsIn datesOf) (rangeIn false records) 7 refl refl (λ i q. ap (itemsIn datesOf) (dates-tree i q)) dates (λ i. refl) n
 
   module _ (n : ℕ) where
     -- a leaf of a kind, by its tree

@@ -1,15 +1,21 @@
--- The memo of a walk: a bit for each pair of a block and an attribute, set where the attributes from that one on are known to admit the block. Assumes nothing.
+-- The memo of a walk: a bit for each pair of a row and a record. Of a block and an attribute it is set where the attributes from that one on are known to admit the block, of a
+-- string or word and an item where the items from that one on are known to admit it. Assumes nothing.
 use mathlib.Core.Path.{_≡_}
-use mathlib.Core.Bool.{Bool, true, false, cond, _&&_, _||_}
+use mathlib.Core.Bool.{Bool, true, false, not, cond, _&&_, _||_}
 use mathlib.Core.List.{List}
 use Prim.Native.Nat.{ℕ, _+_, _*_, _/_, _%_, _^_, _≤_, _<_}
 use lib.Dec.{eqb}
 use lib.ListN.{length, getD}
+use Rattle.lexis.specs.Runs.{part}
 use Rattle.meaning.specs.Verdicts.{valid}
+use Rattle.meaning.specs.Admission.{admitted}
 use Rattle.meaning.specs.Judging.{judgeAttributes}
-use Rattle.table.specs.Records.{Image, recordSize, field}
+use Rattle.data.specs.Tape.{isBlock, isString, number}
+use Rattle.data.specs.Contracts.{rowAt}
+use Rattle.table.specs.Records.{Record, Image, recordSize, field}
 use Rattle.table.specs.Trees.{attributesIn, treeAt}
-use Rattle.admission.specs.Items.{recordIn, Lies, tableOf}
+use Rattle.admission.specs.Items.{recordIn, leafFrom, Lies, tableOf, TableGood}
+use Rattle.admission.specs.Answers.{under, itemAdmits}
 use Rattle.judge.specs.Walking.{membersOn, blockOn}
 use Rattle.judge.specs.declared.members.Block.{Block}
 use Rattle.judge.specs.declared.memo.Visit.{Visit}
@@ -28,6 +34,10 @@ marked memo i = bitOf (getD memo (i / 8) 0) (i % 8)
 -- no bit is set
 pub record Blank (memo : List ℕ) : Type 0 where
   pub none : (i : ℕ) → marked memo i ≡ false
+
+-- a visit is left, or there is a memo of so many bytes
+unfoldable pub mayVisit : ℕ → ℕ → Bool
+mayVisit room left = cond (eqb left 0) (not (eqb room 0)) true
 
 -- that bit is set, if it is not behind the end, and every other is as before
 pub record Marks (before : List ℕ) (i : ℕ) (after : List ℕ) : Type 0 where
@@ -73,6 +83,40 @@ pub record ChainMarked (records before : List ℕ) (base n : ℕ) (after : List 
 abbrev pub Admits : Image → List ℕ → ℕ → List ℕ → Block → ℕ → Type 0
 Admits m s rows tape b n = judgeAttributes (attributesIn (treeAt m n)) (b .place) (membersOn s rows tape b) ≡ valid
 
--- a memo that tells the truth of the block of each row
+-- the items from n on admit a value
+abbrev pub LeafAdmits : List ℕ → List ℕ → ℕ → Bool → List ℕ → Type 0
+LeafAdmits records pool n isString w = under (leafFrom records pool n) isString w ≡ admitted
+
+-- they admit the string or word of a row
+abbrev pub RowAdmits : List ℕ → List ℕ → List ℕ → List ℕ → ℕ → ℕ → Type 0
+RowAdmits records pool s tape row n =
+    let r = rowAt tape row in
+    LeafAdmits records pool n (eqb (number r 0) isString) (part s (number r 6) (number r 7))
+
+-- an item admits a value by itself, or the item next to it is marked
+abbrev pub leadsIn : List ℕ → List ℕ → ℕ → Record → Bool → List ℕ → Bool
+leadsIn pool memo base r isString w = itemAdmits pool r isString w || (not (eqb (field r 4) 0) && marked memo (base + field r 4))
+
+-- what marking the items of a row asks: the bits from `base` on tell the truth of its value
+pub record Listing (records pool memo : List ℕ) (base : ℕ) (isString : Bool) (w : List ℕ) : Type 0 where
+  pub checked : TableGood records pool
+  pub near : base ≤ 8_388_608
+  pub admits : (n : ℕ) → 0 < n → n < recordCount records → marked memo (base + n) ≡ true → LeafAdmits records pool n isString w
+
+-- a bit that is set was set before, or is that of a record, from `base` on
+pub data OfItems (count : ℕ) (before : List ℕ) (base j : ℕ) : Type 0 where
+  old : marked before j ≡ true → OfItems count before base j
+  item : (k : ℕ) → k < count → j ≡ base + k → OfItems count before base j
+
+pub record ItemsMarked (records pool before : List ℕ) (base : ℕ) (isString : Bool) (w after : List ℕ) : Type 0 where
+  pub listing : Listing records pool after base isString w
+  pub each : (j : ℕ) → marked after j ≡ true → OfItems (recordCount records) before base j
+
+-- a memo that tells the truth of each row
 pub record MemoGood (records pool s tape : List ℕ) (rows : ℕ) (memo : List ℕ) : Type 0 where
-  pub admits : (row n : ℕ) → 0 < n → n < recordCount records → marked memo ((row + 1) * recordCount records + n) ≡ true → Admits (tableOf records pool) s rows tape (blockOn tape row) n
+  pub admits : (row n : ℕ) → number (rowAt tape row) 0 ≡ isBlock → 0 < n → n < recordCount records → marked memo ((row + 1) * recordCount records + n) ≡ true → Admits (tableOf records pool) s rows tape (blockOn tape row) n
+  pub leaves : (row n : ℕ) → isBlock < number (rowAt tape row) 0 → 0 < n → n < recordCount records → marked memo ((row + 1) * recordCount records + n) ≡ true → RowAdmits records pool s tape row n
+
+-- what the memo knows of the string or word of a row and the items from n on
+pub record KnownIs (records pool s tape : List ℕ) (row n : ℕ) (r : Bool) : Type 0 where
+  pub admits : r ≡ true → RowAdmits records pool s tape row n

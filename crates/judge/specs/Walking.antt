@@ -83,9 +83,10 @@ blockOn tape n =
     let row = rowAt tape n in
     record { place = number row 3; «type_start» = number row 4; «type_end» = number row 5; first = n + 1; inside = number row 7 }
 
--- a block whose first row tells which row's it is; the outermost block's is 0
+-- a block whose first row tells which row's it is, and the row holds a block; the outermost block's is 0
 pub record OfRow (rows : ℕ) (tape : List ℕ) (b : Block) : Type 0 where
   pub there : b .first ≤ rows
+  pub holds : 0 < b .first → number (rowAt tape (b .first - 1)) 0 ≡ isBlock
   pub is : 0 < b .first → b ≡ blockOn tape (b .first - 1)
 
 -- a datum has at most so many levels of blocks

@@ -3,9 +3,10 @@ use crate::members::Block;
 use crate::members::Found;
 use crate::members::find_member;
 use crate::members::number;
+use crate::memo::is_known;
 use admission::Admission;
 use admission::admit;
-use admission::entry_at;
+use admission::kind_of;
 use admission::name_of;
 use table::records::Entry;
 use table::records::RecordNumber;
@@ -20,6 +21,7 @@ ghost use Rattle.admission.specs.Items.{tableOf, Items};
 ghost use Rattle.admission.specs.Answers.{findingOf};
 ghost use Rattle.judge.specs.Answers.{verdictIn, leafVerdict};
 ghost use Rattle.judge.specs.Walking.{LeafRow, blockOn, Walk, ValueLink, ValueIs, AttributeAt, Begins, AttributeIs};
+ghost use Rattle.judge.specs.Memo.{MemoGood};
 
 // Document 01's reasons.
 const UNSUITED: u8 = 20;
@@ -77,7 +79,7 @@ fn told(a: Admission, first: RecordNumber, place: usize) -> Verdict
 }
 
 // The string or word of a row, by the items from a record on.
-fn judge_leaf(
+fn judge_items(
     records: &[u8],
     pool: &[u8],
     s: &[u8],
@@ -96,6 +98,31 @@ fn judge_leaf(
     let is_string = number(tape, row, 0) == 1;
     let a = admit(records, pool, first, &s[start..end], is_string);
     told(a, first, number(tape, row, 3))
+}
+
+// The same, unless the memo knows that it is admitted.
+fn judge_leaf(
+    records: &[u8],
+    pool: &[u8],
+    s: &[u8],
+    tape: &[u16],
+    rows: usize,
+    memo: &mut [u8],
+    first: RecordNumber,
+    row: usize,
+) -> Verdict
+    requires { ⌜ Walk (now records) (now pool) (now s) (now tape) rows ⌝ }
+    requires { ⌜ Items (now records) (now pool) (first .0) ⌝ }
+    requires { ⌜ 1 ≤ first .0 ⌝ }
+    requires { ⌜ LeafRow rows (now tape) row ⌝ }
+    requires { ⌜ MemoGood (now records) (now pool) (now s) (now tape) rows (now memo) ⌝ }
+    ensures { λ _. ⌜ MemoGood (now (records .entry)) (now (pool .entry)) (now (s .entry)) (now (tape .entry)) rows (now (memo .exit)) ⌝ }
+    ensures { λ r. ⌜ verdictIn r ≡ leafVerdict (now (records .entry)) (now (pool .entry)) (now (s .entry)) (first .0) (rowAt (now (tape .entry)) row) ⌝ }
+{
+    if is_known(records, pool, s, tape, rows, memo, first, row) {
+        return Verdict::Valid;
+    }
+    judge_items(records, pool, s, tape, rows, first, row)
 }
 
 // The block of a row.
@@ -119,20 +146,23 @@ fn judge_value(
     s: &[u8],
     tape: &[u16],
     rows: usize,
+    memo: &mut [u8],
     value: RecordNumber,
     row: usize,
 ) -> Step
     requires { ⌜ Walk (now records) (now pool) (now s) (now tape) rows ⌝ }
     requires { ⌜ ValueLink (tableOf (now records) (now pool)) (value .0) ⌝ }
     requires { ⌜ row < rows ⌝ }
+    requires { ⌜ MemoGood (now records) (now pool) (now s) (now tape) rows (now memo) ⌝ }
+    ensures { λ _. ⌜ MemoGood (now (records .entry)) (now (pool .entry)) (now (s .entry)) (now (tape .entry)) rows (now (memo .exit)) ⌝ }
     ensures { λ r. ⌜ ValueIs (tableOf (now (records .entry)) (now (pool .entry))) (now (s .entry)) rows (now (tape .entry)) (value .0) row r ⌝ }
 {
     if value.0 == 0 {
         return Step::Told(Verdict::Valid);
     }
-    let e = entry_at(records, value);
+    let kind = kind_of(records, value);
     let holds = number(tape, row, 0);
-    if e.kind == 1 {
+    if kind == 1 {
         if holds == 0 {
             let block = block_at(tape, row);
             return Step::Nested {
@@ -147,7 +177,7 @@ fn judge_value(
         let v = fails(UNSUITED, value, number(tape, row, 3));
         return Step::Told(v);
     }
-    let v = judge_leaf(records, pool, s, tape, rows, value, row);
+    let v = judge_leaf(records, pool, s, tape, rows, memo, value, row);
     Step::Told(v)
 }
 
@@ -158,6 +188,7 @@ pub fn judge_attribute(
     s: &[u8],
     tape: &[u16],
     rows: usize,
+    memo: &mut [u8],
     n: RecordNumber,
     e: Entry,
     block: Block,
@@ -165,6 +196,8 @@ pub fn judge_attribute(
     requires { ⌜ Walk (now records) (now pool) (now s) (now tape) rows ⌝ }
     requires { ⌜ AttributeAt (now records) (now pool) (n .0) e ⌝ }
     requires { ⌜ Begins rows (block .first) (block .inside) ⌝ }
+    requires { ⌜ MemoGood (now records) (now pool) (now s) (now tape) rows (now memo) ⌝ }
+    ensures { λ _. ⌜ MemoGood (now (records .entry)) (now (pool .entry)) (now (s .entry)) (now (tape .entry)) rows (now (memo .exit)) ⌝ }
     ensures { λ r. ⌜ AttributeIs (tableOf (now (records .entry)) (now (pool .entry))) (now (s .entry)) rows (now (tape .entry)) (n .0) block r ⌝ }
 {
     let flag = e.flag;
@@ -181,7 +214,7 @@ pub fn judge_attribute(
                 let v = fails(PRESENT, n, number(tape, row, 3));
                 return Step::Told(v);
             }
-            return judge_value(records, pool, s, tape, rows, RecordNumber(e.c), row);
+            return judge_value(records, pool, s, tape, rows, memo, RecordNumber(e.c), row);
         }
     }
 }

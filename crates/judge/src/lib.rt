@@ -6,7 +6,6 @@ mod walk;
 
 use crate::attributes::Verdict;
 use crate::members::Block;
-use crate::memo::record_count;
 use crate::walk::judge_block;
 use data::DataRead;
 use data::read_data;
@@ -21,7 +20,7 @@ use table::records::frame_of;
 use table::records::kind_at;
 ghost use mathlib.Core.Path.{_≡_};
 ghost use mathlib.Core.Option.{none};
-ghost use Prim.Native.Nat.{_≤_, _<_};
+ghost use Prim.Native.Nat.{_≤_};
 ghost use lib.ListN.{length};
 ghost use Rattle.data.specs.Answers.{TapeRoom};
 ghost use Rattle.table.specs.Records.{imageOf};
@@ -30,10 +29,10 @@ ghost use Rattle.table.specs.Trees.{objectAt};
 ghost use Rattle.judge.specs.Answer.{judged, underRoot, judgeAnswer};
 ghost use Rattle.admission.specs.Items.{tableOf, TableGood};
 ghost use Rattle.judge.specs.Answers.{verdictIn, answerOf};
-ghost use Rattle.judge.specs.Memo.{Blank};
 
-// The most bits that the smaller memos have.
-const LITTLE: usize = 262_144;
+// So many attributes are visited without a memo: more than a table has, each of which is visited once at most where no two
+// links lead to one record.
+const VISITS: u32 = 2048;
 
 // The longest text that the short tape has room for.
 const SHORT: usize = 1004;
@@ -67,19 +66,17 @@ fn answer(v: Verdict) -> JudgeResult
     }
 }
 
-// A data text by the object with a number, on a tape that has room for it and with a memo that knows nothing.
+// A data text by the object with a number, on a tape that has room for it.
 fn judge_on(
     records: &[u8],
     pool: &[u8],
     root: RecordNumber,
     text: &[u8],
     tape: &mut [u16],
-    memo: &mut [u8],
 ) -> JudgeResult
     requires { ⌜ TableGood (now records) (now pool) ⌝ }
     requires { ⌜ kindAt (tableOf (now records) (now pool)) (root .0) ≡ 1 ⌝ }
     requires { ⌜ TapeRoom (now text) (now tape) ⌝ }
-    requires { ⌜ Blank (now memo) ⌝ }
     ensures { λ r. ⌜ answerOf r ≡ underRoot (root .0) (now (text .entry)) (objectAt (tableOf (now (records .entry)) (now (pool .entry))) (root .0)) ⌝ }
 {
     match read_data(text, tape) {
@@ -100,13 +97,16 @@ fn judge_on(
                 first: 0,
                 inside: rows,
             };
+            let mut memo = [0u8; 0];
+            let mut visits = VISITS;
             let v = judge_block(
                 records,
                 pool,
                 text,
                 tape,
                 rows,
-                memo,
+                &mut memo,
+                &mut visits,
                 LEVEL_LIMIT,
                 root,
                 block,
@@ -114,70 +114,6 @@ fn judge_on(
             return answer(v);
         }
     }
-}
-
-// The same with a memo of 512 bytes, 4 KB or 32 KB.
-fn judge_little(
-    records: &[u8],
-    pool: &[u8],
-    root: RecordNumber,
-    text: &[u8],
-    tape: &mut [u16],
-    bits: usize,
-) -> JudgeResult
-    requires { ⌜ TableGood (now records) (now pool) ⌝ }
-    requires { ⌜ kindAt (tableOf (now records) (now pool)) (root .0) ≡ 1 ⌝ }
-    requires { ⌜ TapeRoom (now text) (now tape) ⌝ }
-    ensures { λ r. ⌜ answerOf r ≡ underRoot (root .0) (now (text .entry)) (objectAt (tableOf (now (records .entry)) (now (pool .entry))) (root .0)) ⌝ }
-{
-    if bits <= 4_096 {
-        let mut memo = [0u8; 512];
-        return judge_on(records, pool, root, text, tape, &mut memo);
-    }
-    if bits <= 32_768 {
-        let mut memo = [0u8; 4096];
-        return judge_on(records, pool, root, text, tape, &mut memo);
-    }
-    let mut memo = [0u8; 32768];
-    judge_on(records, pool, root, text, tape, &mut memo)
-}
-
-// The same with a memo of 128 KB, 512 KB or, for each pair of 4,097 blocks and 2,048 records, about 1 MB: entered only where a
-// table and a data text are both large.
-fn judge_big(
-    records: &[u8],
-    pool: &[u8],
-    root: RecordNumber,
-    text: &[u8],
-    tape: &mut [u16],
-    bits: usize,
-) -> JudgeResult
-    requires { ⌜ TableGood (now records) (now pool) ⌝ }
-    requires { ⌜ kindAt (tableOf (now records) (now pool)) (root .0) ≡ 1 ⌝ }
-    requires { ⌜ TapeRoom (now text) (now tape) ⌝ }
-    ensures { λ r. ⌜ answerOf r ≡ underRoot (root .0) (now (text .entry)) (objectAt (tableOf (now (records .entry)) (now (pool .entry))) (root .0)) ⌝ }
-{
-    if bits <= 1_048_576 {
-        let mut memo = [0u8; 131072];
-        return judge_on(records, pool, root, text, tape, &mut memo);
-    }
-    if bits <= 4_194_304 {
-        let mut memo = [0u8; 524288];
-        return judge_on(records, pool, root, text, tape, &mut memo);
-    }
-    let mut memo = [0u8; 1048832];
-    judge_on(records, pool, root, text, tape, &mut memo)
-}
-
-// No fewer bits than there are pairs of a block and a record: a block takes four bytes of a text, and a text that is too
-// long has none.
-fn pairs(records: &[u8], text: &[u8]) -> usize
-    requires { ⌜ length (now records) ≤ 49152 ⌝ }
-{
-    if text.len() <= TEXT_LIMIT {
-        return (text.len() / 4 + 1) * record_count(records);
-    }
-    0
 }
 
 // The same with a small tape, for a short text.
@@ -188,11 +124,7 @@ fn judge_short(records: &[u8], pool: &[u8], root: RecordNumber, text: &[u8]) -> 
     ensures { λ r. ⌜ answerOf r ≡ underRoot (root .0) (now (text .entry)) (objectAt (tableOf (now (records .entry)) (now (pool .entry))) (root .0)) ⌝ }
 {
     let mut tape = [0u16; 2304];
-    let bits = pairs(records, text);
-    if bits <= LITTLE {
-        return judge_little(records, pool, root, text, &mut tape, bits);
-    }
-    judge_big(records, pool, root, text, &mut tape, bits)
+    judge_on(records, pool, root, text, &mut tape)
 }
 
 // The same with the tape of the longest text.
@@ -202,11 +134,7 @@ fn judge_long(records: &[u8], pool: &[u8], root: RecordNumber, text: &[u8]) -> J
     ensures { λ r. ⌜ answerOf r ≡ underRoot (root .0) (now (text .entry)) (objectAt (tableOf (now (records .entry)) (now (pool .entry))) (root .0)) ⌝ }
 {
     let mut tape = [0u16; 36909];
-    let bits = pairs(records, text);
-    if bits <= LITTLE {
-        return judge_little(records, pool, root, text, &mut tape, bits);
-    }
-    judge_big(records, pool, root, text, &mut tape, bits)
+    judge_on(records, pool, root, text, &mut tape)
 }
 
 // A data text by the object with a number, in a table that passes the check.

@@ -7,6 +7,7 @@ use crate::members::Block;
 use crate::memo::enter;
 use crate::memo::is_admitted;
 use crate::memo::mark_chain;
+use crate::memo::may_visit;
 use admission::entry_at;
 use admission::name_of;
 use lexis::runs::same_bytes;
@@ -40,7 +41,8 @@ fn type_suits(pool: &[u8], s: &[u8], rows: usize, e: Entry, block: Block) -> boo
 }
 
 // A block by the object with a number: its type, then each attribute in table order, up to the first failure; a block
-// inside it has a level less. What the memo knows to be admitted is not judged again.
+// inside it has a level less. What the memo knows to be admitted is not judged again. Without a memo, a walk that has visited
+// more attributes than a table has is given up for one with a memo: the table leads to some of them in many ways.
 pub fn judge_block(
     records: &[u8],
     pool: &[u8],
@@ -48,6 +50,7 @@ pub fn judge_block(
     tape: &[u16],
     rows: usize,
     memo: &mut [u8],
+    visits: &mut u32,
     levels: usize,
     object: RecordNumber,
     block: Block,
@@ -64,8 +67,21 @@ pub fn judge_block(
     let visit = enter(records, memo, block);
     let mut n = e.e;
     while !is_admitted(memo, visit, n) {
+        if !may_visit(memo, visits) {
+            return judge_with_memo(records, pool, s, tape, rows, levels, object, block);
+        }
         let a = entry_at(records, RecordNumber(n));
-        match judge_attribute(records, pool, s, tape, rows, RecordNumber(n), a, block) {
+        match judge_attribute(
+            records,
+            pool,
+            s,
+            tape,
+            rows,
+            memo,
+            RecordNumber(n),
+            a,
+            block,
+        ) {
             Step::Told(v) => match v {
                 Verdict::Valid => {
                     n = a.d;
@@ -77,7 +93,18 @@ pub fn judge_block(
             Step::Nested {
                 object: inner,
                 block: part,
-            } => match judge_block(records, pool, s, tape, rows, memo, levels - 1, inner, part) {
+            } => match judge_block(
+                records,
+                pool,
+                s,
+                tape,
+                rows,
+                memo,
+                visits,
+                levels - 1,
+                inner,
+                part,
+            ) {
                 Verdict::Valid => {
                     n = a.d;
                 }
@@ -89,4 +116,34 @@ pub fn judge_block(
     }
     mark_chain(records, memo, visit, e.e);
     Verdict::Valid
+}
+
+// The same with a memo that has a bit for each pair of a row and a record.
+fn judge_with_memo(
+    records: &[u8],
+    pool: &[u8],
+    s: &[u8],
+    tape: &[u16],
+    rows: usize,
+    levels: usize,
+    object: RecordNumber,
+    block: Block,
+) -> Verdict
+    requires { ⌜ Under (now records) (now pool) (now s) (now tape) rows levels (object .0) block ⌝ }
+    ensures { λ r. ⌜ verdictIn r ≡ blockUnder (tableOf (now (records .entry)) (now (pool .entry))) (now (s .entry)) rows (now (tape .entry)) (object .0) block ⌝ }
+{
+    let mut memo = [0u8; 1048832];
+    let mut visits: u32 = 0;
+    judge_block(
+        records,
+        pool,
+        s,
+        tape,
+        rows,
+        &mut memo,
+        &mut visits,
+        levels,
+        object,
+        block,
+    )
 }

@@ -1,7 +1,7 @@
 -- `judge::judge_on` meets its contract. Assumes nothing.
 use borrow.Author.Needs.{needs}
 use Rattle.judge.proofs.JudgeSteps.{text-refused, text-under, text-judged}
-use Rattle.judge.proofs.MemoLaws.{memo-start}
+use Rattle.judge.proofs.MemoLaws.{memo-zeros}
 use Rattle.judge.proofs.judge_on.Statement.{statement}
 use Rattle.judge.proofs.judge_on.Tie as tie
 
@@ -20,17 +20,17 @@ returns c = search text-refused
 enum-known-place : tie.Need-enum-known-place
 enum-known-place c = search needs
 
+slice-aggregate-judge-block : tie.Need-slice-aggregate-judge-block
+slice-aggregate-judge-block c = search needs
+
 judge-block-requires : tie.Need-judge-block-requires
-judge-block-requires c κs = (search text-under, search memo-start)
+judge-block-requires c κs = (search text-under, memo-zeros _ _ _ _ _ 0)
 
 answer-requires : tie.Need-answer-requires
 answer-requires c κs = search needs
 
 same-length-2 : tie.Need-same-length-2
 same-length-2 c = search needs
-
-same-length-3 : tie.Need-same-length-3
-same-length-3 c = search needs
 
 returns-2 : tie.Need-returns-2
 returns-2 c = search text-judged
@@ -44,8 +44,8 @@ judge-on-spec =
     same-length
     returns
     enum-known-place
+    slice-aggregate-judge-block
     judge-block-requires
     answer-requires
     same-length-2
-    same-length-3
     returns-2)

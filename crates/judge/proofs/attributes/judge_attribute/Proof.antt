@@ -18,10 +18,10 @@ fails-requires : tie.Need-fails-requires
 fails-requires c κs = search needs
 
 returns : tie.Need-returns
-returns c = search member-missing
+returns c = (search needs, search member-missing)
 
 returns-2 : tie.Need-returns-2
-returns-2 c = search member-absent
+returns-2 c = (search needs, search member-absent)
 
 enum-known-row : tie.Need-enum-known-row
 enum-known-row c = search needs
@@ -33,13 +33,16 @@ fails-requires-2 : tie.Need-fails-requires-2
 fails-requires-2 c κs = search needs
 
 returns-3 : tie.Need-returns-3
-returns-3 c = search member-present
+returns-3 c = (search needs, search member-present)
 
 judge-value-requires : tie.Need-judge-value-requires
-judge-value-requires c κs = (search needs, (search attribute-link, search member-row))
+judge-value-requires c κs = (search needs, (search attribute-link, (search member-row, search needs)))
+
+same-length : tie.Need-same-length
+same-length c = search needs
 
 returns-4 : tie.Need-returns-4
-returns-4 c = search member-judged
+returns-4 c = (search needs, search member-judged)
 
 pub judge-attribute-spec : {M : Type 1} → statement M
 judge-attribute-spec =
@@ -56,4 +59,5 @@ judge-attribute-spec =
     fails-requires-2
     returns-3
     judge-value-requires
+    same-length
     returns-4)

@@ -1,50 +1,28 @@
 -- `judge::attributes::judge_leaf` meets its contract. Assumes nothing.
 use borrow.Author.Needs.{needs}
-use Rattle.judge.proofs.AttributeSteps.{value-order, value-ends, value-told}
+use Rattle.judge.proofs.AttributeSteps.{first-lies, value-known}
 use Rattle.judge.proofs.attributes.judge_leaf.Statement.{statement}
 use Rattle.judge.proofs.attributes.judge_leaf.Tie as tie
 
-number-requires : tie.Need-number-requires
-number-requires c κs = search needs
+is-known-requires : tie.Need-is-known-requires
+is-known-requires c κs = (search needs, (search needs, (search first-lies, search needs)))
 
-number-requires-2 : tie.Need-number-requires-2
-number-requires-2 c κs = search needs
-
-number-requires-3 : tie.Need-number-requires-3
-number-requires-3 c κs = search needs
-
-sub-admit : tie.Need-sub-admit
-sub-admit c = search value-order
-
-part-admit-start : tie.Need-part-admit-start
-part-admit-start c = search value-order
-
-part-admit-end : tie.Need-part-admit-end
-part-admit-end c = search value-ends
-
-admit-requires : tie.Need-admit-requires
-admit-requires c κs = search needs
-
-number-requires-4 : tie.Need-number-requires-4
-number-requires-4 c κs = search needs
-
-told-requires : tie.Need-told-requires
-told-requires c κs = search needs
+same-length : tie.Need-same-length
+same-length c = search needs
 
 returns : tie.Need-returns
-returns c = search value-told
+returns c = (search needs, search value-known)
+
+judge-items-requires : tie.Need-judge-items-requires
+judge-items-requires c κs = search needs
+
+same-length-2 : tie.Need-same-length-2
+same-length-2 c = search needs
+
+returns-2 : tie.Need-returns-2
+returns-2 c = (search needs, search needs)
 
 pub judge-leaf-spec : {M : Type 1} → statement M
 judge-leaf-spec =
     tie.close
-    (tie.spec
-    number-requires
-    number-requires-2
-    number-requires-3
-    sub-admit
-    part-admit-start
-    part-admit-end
-    admit-requires
-    number-requires-4
-    told-requires
-    returns)
+    (tie.spec is-known-requires same-length returns judge-items-requires same-length-2 returns-2)
