@@ -1,2 +1,3 @@
--- The steps of the functions.
+-- The laws of checked tables, and the steps of the functions.
 pub mod ItemSteps
+pub mod TableLaws

@@ -46,12 +46,14 @@ use Rattle.table.proofs.NameSteps.{sound-open}
 use Rattle.table.proofs.WalkLaws.{nodeOf, tree-node}
 use Rattle.judge.specs.Answer.{JudgeAnswer, refused, judged, underRoot, judgeAnswer}
 use Rattle.admission.specs.Items.{tableOf, TableGood}
-use Rattle.judge.specs.Answers.{verdictIn}
-use Rattle.judge.specs.Walking.{typeOn, datumOn, BlockGood, DatumWithin, blockUnder, Under}
-use Rattle.judge.specs.declared.members.Block as members
-use Rattle.judge.specs.declared.attributes.Verdict.{Verdict}
+use Rattle.attributes.specs.Answers.{verdictIn}
+use Rattle.rows.specs.Walking.{typeOn, datumOn, BlockGood, DatumWithin}
+use Rattle.attributes.specs.Steps.{blockUnder}
+use Rattle.judge.specs.Walking.{Under}
+use Rattle.rows.specs.declared.members.Block as members
+use Rattle.attributes.specs.declared.Verdict.{Verdict}
 use Rattle.judge.specs.declared.JudgeResult.the-variants.{Refused}
-use Rattle.judge.proofs.TableLaws.{object-tree}
+use Rattle.admission.proofs.TableLaws.{object-tree}
 use Rattle.judge.proofs.Depth.{text-within}
 
 -- a verdict, as an answer

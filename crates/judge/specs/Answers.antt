@@ -1,29 +1,9 @@
 -- What the answers of the functions stand for. Assumes nothing.
-use mathlib.Core.List.{List}
-use Prim.Native.Nat.{ℕ}
-use lib.Dec.{eqb}
-use Rattle.lexis.specs.Runs.{part}
 use Rattle.meaning.specs.Verdicts.{valid, fails}
-use Rattle.meaning.specs.Verdicts
-use Rattle.meaning.specs.Judging.{verdictOf}
-use Rattle.data.specs.Tape.{isString, number}
-use Rattle.admission.specs.Items.{leafFrom}
+use Rattle.data.specs.Tape.{number}
 use Rattle.judge.specs.Answer.{JudgeAnswer, refused, judged}
-use Rattle.admission.specs.Answers.{under}
-use Rattle.judge.specs.declared.attributes.Verdict.{Verdict}
-use Rattle.judge.specs.declared.attributes.Verdict.the-variants as verdict
 use Rattle.judge.specs.declared.JudgeResult.{JudgeResult}
 use Rattle.judge.specs.declared.JudgeResult.the-variants.{Valid, Refused, Failed}
-
--- a row's string or word by the leaf whose first item has a number
-abbrev pub leafVerdict : List ℕ → List ℕ → List ℕ → ℕ → List ℕ → Verdicts.Verdict
-leafVerdict records pool s first row =
-    verdictOf first (number row 3) (under (leafFrom records pool first) (eqb (number row 0) isString) (part s (number row 6) (number row 7)))
-
--- a verdict of the walk
-abbrev pub verdictIn : Verdict → Verdicts.Verdict
-verdictIn verdict.Valid = valid
-verdictIn (verdict.Fails f) = fails (f .reason) (f .«record» .0) (f .place)
 
 -- what judging answers: valid; a refusal, whose cause gives document 01's number, with its place; or a reason of document 01, 20 to 24, with its record and its data place
 abbrev pub answerOf : JudgeResult → JudgeAnswer

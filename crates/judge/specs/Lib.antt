@@ -1,4 +1,3 @@
 pub mod Answer
 pub mod Answers
 pub mod Walking
-pub mod Memo

@@ -1,18 +1,15 @@
 // Judging a data text by a table. The definitions stand in specs/.
-mod attributes;
-mod members;
-mod memo;
 mod walk;
 
-use crate::attributes::Verdict;
-use crate::members::Block;
 use crate::walk::judge_block;
+use attributes::Verdict;
 use data::DataRead;
 use data::read_data;
 use refusals::Cause;
 use refusals::Refusal;
 use refusals::limits::LEVEL_LIMIT;
 use refusals::limits::TEXT_LIMIT;
+use rows::members::Block;
 use table::check::CheckAnswer;
 use table::check::check;
 use table::records::RecordNumber;
@@ -28,7 +25,8 @@ ghost use Rattle.table.specs.Check.{kindAt, tableFault};
 ghost use Rattle.table.specs.Trees.{objectAt};
 ghost use Rattle.judge.specs.Answer.{judged, underRoot, judgeAnswer};
 ghost use Rattle.admission.specs.Items.{tableOf, TableGood};
-ghost use Rattle.judge.specs.Answers.{verdictIn, answerOf};
+ghost use Rattle.attributes.specs.Answers.{verdictIn};
+ghost use Rattle.judge.specs.Answers.{answerOf};
 
 // So many attributes are visited without a memo: more than a table has, each of which is visited once at most where no two
 // links lead to one record.

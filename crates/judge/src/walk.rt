@@ -1,16 +1,16 @@
 // The walk: a block by an object, and the blocks inside it by the objects of its attributes.
-use crate::attributes::Step;
-use crate::attributes::Verdict;
-use crate::attributes::fails;
-use crate::attributes::judge_attribute;
-use crate::members::Block;
-use crate::memo::enter;
-use crate::memo::is_admitted;
-use crate::memo::mark_chain;
-use crate::memo::may_visit;
 use admission::entry_at;
 use admission::name_of;
+use attributes::Step;
+use attributes::Verdict;
+use attributes::fails;
+use attributes::judge_attribute;
 use lexis::runs::same_bytes;
+use rows::members::Block;
+use rows::memo::enter;
+use rows::memo::is_admitted;
+use rows::memo::mark_chain;
+use rows::memo::may_visit;
 use table::records::Entry;
 use table::records::RecordNumber;
 ghost use mathlib.Core.Path.{_≡_};
@@ -19,9 +19,11 @@ ghost use lib.ListN.{length};
 ghost use Rattle.meaning.specs.Judging.{typeSuits};
 ghost use Rattle.table.specs.Answers.{recordOf};
 ghost use Rattle.admission.specs.Items.{nameOf, tableOf};
-ghost use Rattle.judge.specs.Answers.{verdictIn};
-ghost use Rattle.judge.specs.Walking.{typeOn, BlockGood, Under, blockUnder};
-ghost use Rattle.judge.specs.Memo.{MemoGood};
+ghost use Rattle.attributes.specs.Answers.{verdictIn};
+ghost use Rattle.rows.specs.Walking.{typeOn, BlockGood};
+ghost use Rattle.judge.specs.Walking.{Under};
+ghost use Rattle.attributes.specs.Steps.{blockUnder};
+ghost use Rattle.rows.specs.Memo.{MemoGood};
 
 // Document 01's reason for a type that differs.
 const TYPE_DIFFERS: u8 = 21;

@@ -1,0 +1,2 @@
+-- The steps of the functions.
+pub mod AttributeSteps
