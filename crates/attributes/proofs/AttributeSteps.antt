@@ -29,13 +29,13 @@ use Rattle.table.specs.declared.records.RecordNumber.{RecordNumber}
 use Rattle.admission.specs.Items.{recordIn, nameOf, leafFrom, Lies, Items, tableOf}
 use Rattle.admission.specs.Answers.{findingOf, under}
 use Rattle.attributes.specs.Answers.{leafVerdict, verdictIn}
-use Rattle.rows.specs.Walking.{contentOn, membersOn, datumOn, foundOn, FoundIs, LeafRow, blockOn, MembersWithin, ContentWithin, Walk}
+use Rattle.tape.specs.Walking.{contentOn, membersOn, datumOn, foundOn, FoundIs, LeafRow, blockOn, MembersWithin, ContentWithin, Walk}
 use Rattle.attributes.specs.Steps.{judgeFirst, ValueLink, AttributeAt, Leads, ValueIs, AttributeIs}
-use Rattle.rows.specs.Memo.{KnownIs}
+use Rattle.tape.specs.Memo.{KnownIs}
 use Rattle.admission.specs.declared.Admission.{Admission}
-use Rattle.rows.specs.declared.members.Found.{Found}
-use Rattle.rows.specs.declared.members.Found.the-variants.{At, Nothing}
-use Rattle.rows.specs.declared.members.Block.{Block}
+use Rattle.tape.specs.declared.members.Found.{Found}
+use Rattle.tape.specs.declared.members.Found.the-variants.{At, Nothing}
+use Rattle.tape.specs.declared.members.Block.{Block}
 use Rattle.attributes.specs.declared.Verdict as declared
 use Rattle.attributes.specs.declared.Verdict.the-variants as verdict
 use Rattle.attributes.specs.declared.Step.{Step}

@@ -20,9 +20,9 @@ use Rattle.table.specs.Trees.{attributesIn, valueIn, treeAt}
 use Rattle.table.specs.Answers.{recordOf}
 use Rattle.table.specs.declared.records.Entry.{Entry}
 use Rattle.admission.specs.Items.{recordIn, tableOf}
-use Rattle.rows.specs.Walking.{contentOn, membersOn, datumOn, BlockGood, OfRow, MembersWithin, ContentWithin, DatumWithin}
+use Rattle.tape.specs.Walking.{contentOn, membersOn, datumOn, BlockGood, OfRow, MembersWithin, ContentWithin, DatumWithin}
 use Rattle.attributes.specs.Answers.{verdictIn}
-use Rattle.rows.specs.declared.members.Block.{Block}
+use Rattle.tape.specs.declared.members.Block.{Block}
 use Rattle.attributes.specs.declared.Step.{Step}
 use Rattle.attributes.specs.declared.Step.the-variants.{Told, Nested}
 

@@ -17,7 +17,7 @@ use Rattle.refusals.specs.Limits.{textLimit, levelLimit, stringLimit}
 use Rattle.refusals.specs.Reading.{Reading, refused, got, andThen}
 use Rattle.data.specs.Placed.{Span, Block, Entries, Content, string, inside, spelledBlock, spelledEntries, spelledContent}
 use Rattle.data.specs.Data.{expect, typeFrom, leafFrom, Down, typed, contentFrom, nameFrom, members, blockFrom, outermost, blockOf}
-use Rattle.rows.specs.Walking.{DatumWithin, MembersWithin, ContentWithin}
+use Rattle.tape.specs.Walking.{DatumWithin, MembersWithin, ContentWithin}
 
 -- it holds of what was read, if anything was
 abbrev Got : {A : Type 0} → (A → Type 0) → Reading A → Type 0

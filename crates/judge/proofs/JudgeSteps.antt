@@ -47,10 +47,10 @@ use Rattle.table.proofs.WalkLaws.{nodeOf, tree-node}
 use Rattle.judge.specs.Answer.{JudgeAnswer, refused, judged, underRoot, judgeAnswer}
 use Rattle.admission.specs.Items.{tableOf, TableGood}
 use Rattle.attributes.specs.Answers.{verdictIn}
-use Rattle.rows.specs.Walking.{typeOn, datumOn, BlockGood, DatumWithin}
+use Rattle.tape.specs.Walking.{typeOn, datumOn, BlockGood, DatumWithin}
 use Rattle.attributes.specs.Steps.{blockUnder}
 use Rattle.judge.specs.Walking.{Under}
-use Rattle.rows.specs.declared.members.Block as members
+use Rattle.tape.specs.declared.members.Block as members
 use Rattle.attributes.specs.declared.Verdict.{Verdict}
 use Rattle.judge.specs.declared.JudgeResult.the-variants.{Refused}
 use Rattle.admission.proofs.TableLaws.{object-tree}

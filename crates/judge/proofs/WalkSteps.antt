@@ -24,12 +24,12 @@ use Rattle.table.specs.declared.records.RecordNumber.{RecordNumber}
 use Rattle.table.proofs.UseLaws.{LinkRight}
 use Rattle.admission.specs.Items.{recordIn, nameOf, Lies, tableOf, TableGood}
 use Rattle.attributes.specs.Answers.{verdictIn}
-use Rattle.rows.specs.Walking.{typeOn, membersOn, datumOn, DatumWithin, MembersWithin}
+use Rattle.tape.specs.Walking.{typeOn, membersOn, datumOn, DatumWithin, MembersWithin}
 use Rattle.attributes.specs.Steps.{judgeFirst, AttributeAt, blockUnder, Leads, AttributeIs}
 use Rattle.judge.specs.Walking.{Under}
-use Rattle.rows.specs.Memo.{marked, Marks, baseOf, VisitOf, admittedIn, ChainGood, ChainMarked, Admits, mayVisit, MemoGood}
-use Rattle.rows.specs.declared.members.Block.{Block}
-use Rattle.rows.specs.declared.memo.Visit.{Visit}
+use Rattle.tape.specs.Memo.{marked, Marks, baseOf, VisitOf, admittedIn, ChainGood, ChainMarked, Admits, mayVisit, MemoGood}
+use Rattle.tape.specs.declared.members.Block.{Block}
+use Rattle.tape.specs.declared.memo.Visit.{Visit}
 use Rattle.attributes.specs.declared.Failure.{Failure}
 use Rattle.attributes.specs.declared.Verdict.{Verdict}
 use Rattle.attributes.specs.declared.Verdict.the-variants.{Valid, Fails}
@@ -37,8 +37,8 @@ use Rattle.attributes.specs.declared.Step.{Step}
 use Rattle.attributes.specs.declared.Step.the-variants.{Told, Nested}
 use Rattle.admission.proofs.TableLaws.{by-kind, number-lies, link-there, name-there, object-tree, attribute-tree}
 use Rattle.admission.proofs.ItemSteps.{left}
-use Rattle.rows.proofs.MemoSteps.{left-some}
-use Rattle.rows.proofs.MemoLaws.{memo-visited, base-small, chain-sound, memo-admits, memo-marked}
+use Rattle.tape.proofs.MemoSteps.{left-some}
+use Rattle.tape.proofs.MemoLaws.{memo-visited, base-small, chain-sound, memo-admits, memo-marked}
 
 -- a type that is not written suits, and one that is if it is the object's
 module _ (s t : List ℕ) (start end : ℕ) where

@@ -6,8 +6,8 @@ use lib.ListN.{length}
 use Rattle.data.specs.Tape.{number}
 use Rattle.table.specs.Check.{kindAt}
 use Rattle.admission.specs.Items.{tableOf}
-use Rattle.rows.specs.declared.members.Block.{Block}
-use Rattle.rows.specs.Walking.{datumOn, BlockGood, OfRow, DatumWithin, Walk}
+use Rattle.tape.specs.declared.members.Block.{Block}
+use Rattle.tape.specs.Walking.{datumOn, BlockGood, OfRow, DatumWithin, Walk}
 
 -- what judging a block asks: the object's number is one's, and the block is within the levels left
 pub record Under (records pool s tape : List ℕ) (rows levels object : ℕ) (b : Block) : Type 0 where

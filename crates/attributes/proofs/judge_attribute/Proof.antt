@@ -1,7 +1,7 @@
 -- `attributes::judge_attribute` meets its contract. Assumes nothing.
 use borrow.Author.Needs.{needs}
 use Rattle.attributes.proofs.AttributeSteps.{attribute-name, attribute-link, member-missing, member-absent, member-row, member-present, member-judged}
-use Rattle.rows.proofs.MemberSteps.{row-lies}
+use Rattle.tape.proofs.MemberSteps.{row-lies}
 use Rattle.attributes.proofs.judge_attribute.Statement.{statement}
 use Rattle.attributes.proofs.judge_attribute.Tie as tie
 

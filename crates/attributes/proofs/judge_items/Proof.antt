@@ -1,7 +1,7 @@
 -- `attributes::judge_items` meets its contract. Assumes nothing.
 use borrow.Author.Needs.{needs}
 use Rattle.attributes.proofs.AttributeSteps.{value-told}
-use Rattle.rows.proofs.MemberSteps.{value-order, value-ends}
+use Rattle.tape.proofs.MemberSteps.{value-order, value-ends}
 use Rattle.attributes.proofs.judge_items.Statement.{statement}
 use Rattle.attributes.proofs.judge_items.Tie as tie
 

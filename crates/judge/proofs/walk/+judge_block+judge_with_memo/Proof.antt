@@ -5,7 +5,7 @@ use lib.ListN.{length, length-replicate}
 use denote.Ref.{now}
 use borrow.Author.Needs.{needs}
 use Rattle.judge.proofs.WalkSteps.{InAttributes, effort, effortOfMemo, memo-effort, object-lies, object-name, visit-small, type-differs, attributes-start, visit-near, attributes-end, attributes-chain, attributes-known, attribute-lies, attribute-at, attribute-less, told-valid, told-fails, levels-some, levels-fall, memo-fall, nested-under, nested-valid, nested-fails}
-use Rattle.rows.proofs.MemoLaws.{memo-zeros}
+use Rattle.tape.proofs.MemoLaws.{memo-zeros}
 use Rattle.admission.proofs.ItemSteps.{left}
 use Prim.Native.Nat.{ℕ, _<_}
 use borrow.Fn.Kinds.{In}
@@ -19,10 +19,10 @@ use Rattle.judge.proofs.walk.+judge_block+judge_with_memo.Lts-judge_wit
 use Rattle.admission.proofs.entry_at.Reads as entry-at-reads
 use Rattle.attributes.proofs.fails.Reads as fails-reads
 use Rattle.attributes.proofs.judge_attribute.Reads as judge-attribute-reads
-use Rattle.rows.proofs.memo.enter.Reads as enter-reads
-use Rattle.rows.proofs.memo.is_admitted.Reads as is-admitted-reads
-use Rattle.rows.proofs.memo.mark_chain.Reads as mark-chain-reads
-use Rattle.rows.proofs.memo.may_visit.Reads as may-visit-reads
+use Rattle.tape.proofs.memo.enter.Reads as enter-reads
+use Rattle.tape.proofs.memo.is_admitted.Reads as is-admitted-reads
+use Rattle.tape.proofs.memo.mark_chain.Reads as mark-chain-reads
+use Rattle.tape.proofs.memo.may_visit.Reads as may-visit-reads
 use Rattle.judge.proofs.walk.type_suits.Reads as type-suits-reads
 use Rattle.judge.proofs.walk.+judge_block+judge_with_memo.{statement}
 use Rattle.judge.proofs.walk.+judge_block+judge_with_memo.Tie.{close}
