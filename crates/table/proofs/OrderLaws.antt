@@ -37,18 +37,19 @@ pub length-put : (little : Bool) (width n : ℕ) → length (put little width n)
 length-put true width n = length-lowest width n
 length-put false width n = length-reverse (lowestFirst width n) ∙ length-lowest width n
 
--- a byte in front of a number is its lowest
+-- a number with a byte in front: its lowest byte, and what is above it
 lowest-front : (x v : ℕ) → x < 256 → (x + 256 * v) % 256 ≡ x
 lowest-front x v h = omega arith
 
 rest-front : (x v : ℕ) → x < 256 → (x + 256 * v) / 256 ≡ v
 rest-front x v h = omega arith
 
--- bytes are those of their value
+-- each is a byte
 abbrev pub Bytes : List ℕ → Type 0
 Bytes [] = Unit {0}
 Bytes (x ∷ xs) = (x < 256) × Bytes xs
 
+-- bytes are those of their value, the lowest first
 pub lowest-value : (xs : List ℕ) → Bytes xs → lowestFirst (length xs) (valueOf xs) ≡ xs
 lowest-value [] h = refl
 lowest-value (x ∷ xs) h = rw (lowest-front x (valueOf xs) (h .0), rest-front x (valueOf xs) (h .0), lowest-value xs (h .1))
