@@ -4,7 +4,6 @@ use mathlib.Core.Bool.{cond}
 use Prim.Native.Nat.{ℕ, zero, suc, _-_, _^_, _≤_, _<_}
 use native.Mathlib.Omega.{arith}
 use lib.Dec.{eqb}
-use borrow.Author.Needs.{zero≤}
 use borrow.Author.Tests.{eq-eqb, ne-eqb}
 use Rattle.table.specs.Records.{Record}
 use Rattle.table.specs.Rows.{nothing, rowOf}
@@ -53,9 +52,6 @@ unfolding rowOf
 past-seven zero = refl
 past-seven (suc k) = refl
 
-up : (n k : ℕ) → n ≤ k → (k ≡ n → ⊥) → suc n ≤ k
-up n k l h = omega arith
-
 no-fields : (k : ℕ) → 8 ≤ k → rowOf k .uses ≡ nothing
 no-fields k h =
     let e : k ≡ suc (suc (suc (suc (suc (suc (suc (suc (k - 8)))))))) = omega arith in
@@ -69,24 +65,31 @@ module _ (s : Shifts) (r : Entry) where
   pub kind-moved : (k : ℕ) (x : Record) → r .kind ≡ k → x ≡ movedAs s (rowOf k .uses) (recordOf r) → x ≡ moved s (recordOf r)
   kind-moved k x e h = h ∙ ap (λ j. movedAs s (rowOf j .uses) (recordOf r)) (sym e)
 
+  -- the kind that is left of 4 and 5
+  text : 4 ≤ r .kind → (r .kind ≡ 4 → ⊥) → r .kind < 6 → r .kind ≡ 5
+  text h h4 l = omega arith
+
+  pub text-movable : 4 ≤ r .kind → (r .kind ≡ 4 → ⊥) → r .kind < 6 → Movable s (rowOf (r .kind) .uses) (recordOf r) → Movable s (rowOf 5 .uses) (recordOf r)
+  text-movable h h4 l m = kind-movable 5 (text h h4 l) m
+
+  pub text-moved : (x : Record) → 4 ≤ r .kind → (r .kind ≡ 4 → ⊥) → r .kind < 6 → x ≡ movedAs s (rowOf 5 .uses) (recordOf r) → x ≡ moved s (recordOf r)
+  text-moved x h h4 l q = kind-moved 5 x (text h h4 l) q
+
   -- a kind that names no field
   pub none-moved : r .kind ≡ 0 → recordOf r ≡ moved s (recordOf r)
   unfolding rowOf
   none-moved e = rw e
 
-  pub booleans-moved : r .kind ≡ 3 → recordOf r ≡ moved s (recordOf r)
+  pub boolean-moved : (r .kind ≡ 0 → ⊥) → (r .kind ≡ 1 → ⊥) → (r .kind ≡ 2 → ⊥) → r .kind < 4 → recordOf r ≡ moved s (recordOf r)
   unfolding rowOf
-  booleans-moved e = rw e
+  boolean-moved h0 h1 h2 l = let e : r .kind ≡ 3 = omega arith in rw e
 
-  pub pattern-moved : r .kind ≡ 6 → recordOf r ≡ moved s (recordOf r)
+  pub pattern-moved : 6 ≤ r .kind → r .kind < 7 → recordOf r ≡ moved s (recordOf r)
   unfolding rowOf
-  pattern-moved e = rw e
+  pattern-moved h l = let e : r .kind ≡ 6 = omega arith in rw e
 
-  pub rest-moved : (r .kind ≡ 0 → ⊥) → (r .kind ≡ 1 → ⊥) → (r .kind ≡ 2 → ⊥) → (r .kind ≡ 3 → ⊥) → (r .kind ≡ 4 → ⊥) → (r .kind ≡ 5 → ⊥) → (r .kind ≡ 6 → ⊥) → (r .kind ≡ 7 → ⊥)
-      → recordOf r ≡ moved s (recordOf r)
-  rest-moved h0 h1 h2 h3 h4 h5 h6 h7 =
-      let k = r .kind in
-      rw (no-fields k (up 7 k (up 6 k (up 5 k (up 4 k (up 3 k (up 2 k (up 1 k (up 0 k zero≤ h0) h1) h2) h3) h4) h5) h6) h7))
+  pub rest-moved : 7 ≤ r .kind → (r .kind ≡ 7 → ⊥) → recordOf r ≡ moved s (recordOf r)
+  rest-moved h h7 = rw (no-fields (r .kind) (omega arith))
 
 -- integers and date intervals move alike: by their link alone
 module _ (records pool : ℕ) (r : Entry) where
@@ -110,4 +113,4 @@ pub ruleset choice-steps = (stays, moves, moves-within)
 
 pub ruleset move-steps = (object-moved, attribute-moved, item-moved, string-moved)
 
-pub ruleset kind-steps = (kind-movable, kind-moved, integer-movable, date-movable, integer-moved, date-moved, none-moved, booleans-moved, pattern-moved, rest-moved)
+pub ruleset kind-steps = (kind-movable, kind-moved, text-movable, text-moved, integer-movable, date-movable, integer-moved, date-moved, none-moved, boolean-moved, pattern-moved, rest-moved)

@@ -1,8 +1,8 @@
 -- Steps of the functions that test the fields of each kind. Assumes nothing.
-use mathlib.Core.Path.{_≡_, refl}
-use mathlib.Core.Bool.{Bool, true, _&&_, _||_, and-true, and-assoc, or-true, false≢true}
+use mathlib.Core.Path.{_≡_, refl, sym, _∙_}
+use mathlib.Core.Bool.{Bool, true, _&&_, _||_, and-true, and-assoc, and-comm, or-true, false≢true}
 use mathlib.Core.List.{List, [], _∷_}
-use Prim.Native.Nat.{ℕ, zero, suc, _+_, _≤_}
+use Prim.Native.Nat.{ℕ, zero, suc, _≤_, _<_}
 use native.Mathlib.Omega.{arith}
 use lib.Dec.{eqb, leb}
 use borrow.Author.Tests.{le-leb}
@@ -22,9 +22,9 @@ place-told bs f n least most x next r o p = p .is (imageOf bs) n (pool-opened bs
 pub pair-told : (m : Image) (n : ℕ) (u : Use) (x next : ℕ) (r : Bool) → PairIs u x next r → r ≡ fieldRight m n u x next
 pair-told m n u x next r p = p .is m n
 
--- a number that is none of the four from another on, and not below it
-past-four : (j k : ℕ) → j ≤ k → (k ≡ j → ⊥) → (k ≡ j + 1 → ⊥) → (k ≡ j + 2 → ⊥) → (k ≡ j + 3 → ⊥) → j + 4 ≤ k
-past-four j k h a b c d = omega arith
+-- a number below 4 that is none of the first three
+three : (k : ℕ) → (k ≡ 0 → ⊥) → (k ≡ 1 → ⊥) → (k ≡ 2 → ⊥) → k < 4 → k ≡ 3
+three k h0 h1 h2 l = omega arith
 
 -- a kind that names no field
 abbrev unnamed : ℕ → Bool
@@ -77,15 +77,20 @@ module _ (m : Image) (n : ℕ) (e : Entry) (r : Bool) where
   pub unused-at : (k : ℕ) → e .kind ≡ k → unnamed k ≡ true → r ≡ restNought nothing (recordOf e .fields) → r ≡ fieldsKept m n (recordOf e)
   unused-at k h u q = unused-is (rw h u) q
 
-  pub unused-from : (e .kind ≡ 0 → ⊥) → (e .kind ≡ 1 → ⊥) → (e .kind ≡ 2 → ⊥) → (e .kind ≡ 3 → ⊥) → (e .kind ≡ 4 → ⊥) → (e .kind ≡ 5 → ⊥) → (e .kind ≡ 6 → ⊥) → (e .kind ≡ 7 → ⊥)
-      → r ≡ restNought nothing (recordOf e .fields) → r ≡ fieldsKept m n (recordOf e)
-  unused-from h0 h1 h2 h3 h4 h5 h6 h7 q = unused-is (rw (le-leb 8 (e .kind) (past-four 4 (e .kind) (past-four 0 (e .kind) (omega arith) h0 h1 h2 h3) h4 h5 h6 h7)) (or-true (eqb (e .kind) 0 || eqb (e .kind) 3 || eqb (e .kind) 6))) q
+  pub unused-three : (e .kind ≡ 0 → ⊥) → (e .kind ≡ 1 → ⊥) → (e .kind ≡ 2 → ⊥) → e .kind < 4 → r ≡ restNought nothing (recordOf e .fields) → r ≡ fieldsKept m n (recordOf e)
+  unused-three h0 h1 h2 l q = unused-at 3 (three (e .kind) h0 h1 h2 l) refl q
+
+  pub unused-six : 6 ≤ e .kind → e .kind < 7 → r ≡ restNought nothing (recordOf e .fields) → r ≡ fieldsKept m n (recordOf e)
+  unused-six h l q = unused-at 6 (omega arith) refl q
+
+  pub unused-from : 7 ≤ e .kind → (e .kind ≡ 7 → ⊥) → r ≡ restNought nothing (recordOf e .fields) → r ≡ fieldsKept m n (recordOf e)
+  unused-from h h7 q = unused-is (rw (le-leb 8 (e .kind) (omega arith)) (or-true (eqb (e .kind) 0 || eqb (e .kind) 3 || eqb (e .kind) 6))) q
 
 -- the rules of the kind and flag, and of the fields
 pub rules-are : (m : Image) (n : ℕ) (e : Entry) (r : Bool)
-    → r ≡ ((within 1 8 (e .kind) && within (rowOf (e .kind) .least) (rowOf (e .kind) .most) (e .flag)) && fieldsKept m n (recordOf e))
+    → r ≡ (fieldsKept m n (recordOf e) && (within 1 8 (e .kind) && within (rowOf (e .kind) .least) (rowOf (e .kind) .most) (e .flag)))
     → r ≡ (obeys m n (recordOf e) && clean (recordOf e))
 unfolding obeys fieldsKept
-rules-are m n e r q = rw and-assoc q
+rules-are m n e r q = rw and-assoc (q ∙ and-comm (fieldsKept m n (recordOf e)) (within 1 8 (e .kind) && within (rowOf (e .kind) .least) (rowOf (e .kind) .most) (e .flag)))
 
-pub ruleset kind-steps = (place-told, pair-told, object-is, attribute-is, integer-is, string-is, interval-is, unused-at, unused-from, rules-are)
+pub ruleset kind-steps = (place-told, pair-told, object-is, attribute-is, integer-is, string-is, interval-is, unused-at, unused-three, unused-six, unused-from, rules-are)

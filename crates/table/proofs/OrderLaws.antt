@@ -1,8 +1,8 @@
 -- Byte order: what is put is got back in the order it was put in, whichever of the two that is. Assumes nothing.
 use mathlib.Core.Path.{_≡_, refl, sym, ap, _∙_}
 use mathlib.Core.Bool.{Bool, true, false}
-use mathlib.Core.List.{reverse-reverse}
-use Prim.Native.Nat.{ℕ, zero, suc, _/_, _^_, _<_}
+use mathlib.Core.List.{List, [], _∷_, reverse-reverse}
+use Prim.Native.Nat.{ℕ, zero, suc, _+_, _*_, _/_, _%_, _^_, _<_}
 use native.Mathlib.Nat.{mod-add-div, div-lt-iff-lt-mul, pow-suc}
 use native.Mathlib.Omega.{arith}
 use lib.ListN.{length, length-reverse}
@@ -36,3 +36,20 @@ length-lowest (suc width) n = ap suc (length-lowest width (n / 256))
 pub length-put : (little : Bool) (width n : ℕ) → length (put little width n) ≡ width
 length-put true width n = length-lowest width n
 length-put false width n = length-reverse (lowestFirst width n) ∙ length-lowest width n
+
+-- a number with a byte in front: its lowest byte, and what is above it
+lowest-front : (x v : ℕ) → x < 256 → (x + 256 * v) % 256 ≡ x
+lowest-front x v h = omega arith
+
+rest-front : (x v : ℕ) → x < 256 → (x + 256 * v) / 256 ≡ v
+rest-front x v h = omega arith
+
+-- each is a byte
+abbrev pub Bytes : List ℕ → Type 0
+Bytes [] = Unit {0}
+Bytes (x ∷ xs) = (x < 256) × Bytes xs
+
+-- bytes are those of their value, the lowest first
+pub lowest-value : (xs : List ℕ) → Bytes xs → lowestFirst (length xs) (valueOf xs) ≡ xs
+lowest-value [] h = refl
+lowest-value (x ∷ xs) h = rw (lowest-front x (valueOf xs) (h .0), rest-front x (valueOf xs) (h .0), lowest-value xs (h .1))

@@ -1,5 +1,5 @@
 -- Steps of the functions that write a record. Assumes nothing.
-use mathlib.Core.Path.{_≡_, ap}
+use mathlib.Core.Path.{_≡_, ap, _∙_}
 use mathlib.Core.Bool.{Bool, true, false, cond, not}
 use mathlib.Core.List.{List, [], _∷_, _++_, append-assoc, append-nil}
 use Prim.Native.Nat.{ℕ, _+_}
@@ -8,10 +8,11 @@ use lib.ListN.{length, set, length-append}
 use lib.Seq.{sets}
 use Rattle.lexis.proofs.Stores.{sets-behind}
 use Rattle.table.specs.Order.{put}
-use Rattle.table.specs.Records.{mark, encode}
-use Rattle.table.specs.Answers.{recordOf}
+use Rattle.table.specs.Records.{mark, encode, field}
+use Rattle.table.specs.Answers.{recordOf, orderedAs}
 use Rattle.table.specs.declared.records.Entry.{Entry}
 use Rattle.table.proofs.OrderLaws.{length-put}
+use Rattle.table.proofs.OrderSteps.{put-ordered}
 
 -- the mark, byte by byte, with the kind and the flag
 pub head-put : (s : List ℕ) (at : ℕ) (little : Bool) (kind flag a b : ℕ) → a ≡ cond little 0xAD 0xC0 → b ≡ cond (not little) 0xAD 0xC0
@@ -24,7 +25,7 @@ number-put : (s a b xs : List ℕ) (at k : ℕ) (little : Bool) (n : ℕ) → a 
 number-put s a b xs at k little n p l q = rw (q, p) (sets-behind xs (put little 4 n) s at (at + k) (ap (λ j. at + j) l))
 
 -- the head and the five numbers make up the record
-pub record-put : (s s0 s1 s2 s3 s4 s5 : List ℕ) (at : ℕ) (little : Bool) (r : Entry)
+record-put : (s s0 s1 s2 s3 s4 s5 : List ℕ) (at : ℕ) (little : Bool) (r : Entry)
     → s0 ≡ sets s at (put little 2 mark ++ (r .kind ∷ r .flag ∷ []))
     → s1 ≡ sets s0 (at + 4) (put little 4 (r .a)) → s2 ≡ sets s1 (at + 8) (put little 4 (r .b)) → s3 ≡ sets s2 (at + 12) (put little 4 (r .c))
     → s4 ≡ sets s3 (at + 16) (put little 4 (r .d)) → s5 ≡ sets s4 (at + 20) (put little 4 (r .e))
@@ -43,4 +44,19 @@ record-put s s0 s1 s2 s3 s4 s5 at little r e0 e1 e2 e3 e4 e5 =
     let w5 = number-put s s4 s5 d at 20 little (r .e) w4 (simp (length-append, length-put)) e5 in
     rw w5 (simp (append-assoc, append-nil))
 
-pub ruleset write-steps = (head-put, record-put)
+-- the numbers may be put in order first, and then be written lowest first
+pub record-ordered : (s s0 s1 s2 s3 s4 s5 : List ℕ) (at : ℕ) (little : Bool) (r t : Entry) → recordOf t ≡ orderedAs little (recordOf r)
+    → s0 ≡ sets s at (put little 2 mark ++ (r .kind ∷ r .flag ∷ []))
+    → s1 ≡ sets s0 (at + 4) (put true 4 (t .a)) → s2 ≡ sets s1 (at + 8) (put true 4 (t .b)) → s3 ≡ sets s2 (at + 12) (put true 4 (t .c))
+    → s4 ≡ sets s3 (at + 16) (put true 4 (t .d)) → s5 ≡ sets s4 (at + 20) (put true 4 (t .e))
+    → s5 ≡ sets s at (encode little (recordOf r))
+record-ordered s s0 s1 s2 s3 s4 s5 at little r t o e0 e1 e2 e3 e4 e5 =
+    let n : (i : ℕ) → put true 4 (field (recordOf t) i) ≡ put true 4 (field (orderedAs little (recordOf r)) i) = λ i. ap (λ x. put true 4 (field x i)) o in
+    record-put s s0 s1 s2 s3 s4 s5 at little r e0
+    (e1 ∙ ap (sets s0 (at + 4)) (n 0 ∙ put-ordered little (r .a)))
+    (e2 ∙ ap (sets s1 (at + 8)) (n 1 ∙ put-ordered little (r .b)))
+    (e3 ∙ ap (sets s2 (at + 12)) (n 2 ∙ put-ordered little (r .c)))
+    (e4 ∙ ap (sets s3 (at + 16)) (n 3 ∙ put-ordered little (r .d)))
+    (e5 ∙ ap (sets s4 (at + 20)) (n 4 ∙ put-ordered little (r .e)))
+
+pub ruleset write-steps = (head-put, record-ordered)

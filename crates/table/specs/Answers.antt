@@ -1,14 +1,15 @@
 -- What the functions take and answer, as the definitions have it. Assumes nothing.
 use mathlib.Core.Path.{_≡_}
-use mathlib.Core.Bool.{Bool, _&&_}
+use mathlib.Core.Bool.{Bool, true, _&&_}
 use mathlib.Core.Option.{Option, none, some}
-use mathlib.Core.List.{List, [], _∷_}
+use mathlib.Core.List.{List, [], _∷_, map}
 use Prim.Native.Nat.{ℕ, _+_, _*_, _≤_}
 use lib.Dec.{eqb, leb}
 use lib.ListN
 use Rattle.refusals.specs.Limits.{recordLimit, poolLimit}
 use Rattle.refusals.specs.declared.Refusal.{Refusal}
-use Rattle.table.specs.Records.{Record, Image, recordSize, field, count, header}
+use Rattle.table.specs.Order.{put, get}
+use Rattle.table.specs.Records.{Record, Image, recordSize, numberSize, field, count, header}
 use Rattle.table.specs.Rows.{Use, place, link, rowOf}
 use Rattle.table.specs.Check.{fieldRight, fieldsRight, clean}
 use Rattle.table.specs.Names.{NameAnswer, refused, named, recordAt}
@@ -37,6 +38,13 @@ partAt m n = named (record { start = recordSize * count m + field (recordAt m n)
 -- the record that an entry holds
 abbrev pub recordOf : Entry → Record
 recordOf e = record { kind = e .kind; flag = e .flag; fields = e .a ∷ e .b ∷ e .c ∷ e .d ∷ e .e ∷ [] }
+
+-- a number's bytes, the lowest first, read in an order; and a record with each number so
+abbrev pub ordered : Bool → ℕ → ℕ
+ordered little n = get little (put true numberSize n)
+
+abbrev pub orderedAs : Bool → Record → Record
+orderedAs little r = record { kind = r .kind; flag = r .flag; fields = map (ordered little) (r .fields) }
 
 -- a frame holds the counts of a table's header, which are within their limits and make up the table's length
 pub record Opened (bs : List ℕ) (f : Frame) : Type 0 where

@@ -1,5 +1,6 @@
 // Numbers in a table's bytes, in either order: the order is a parameter, true where the lowest byte comes first.
 ghost use mathlib.Core.Path.{_≡_};
+ghost use mathlib.Core.Bool.{true, false};
 ghost use mathlib.Core.List.{[], _∷_};
 ghost use Prim.Native.Nat.{_+_, _%_, _≤_};
 ghost use lib.ListN.{length, take, drop};
@@ -32,6 +33,17 @@ fn joined4(a: u8, b: u8, c: u8, d: u8) -> u32
     ensures { λ r. ⌜ r ≡ valueOf (a ∷ b ∷ c ∷ d ∷ []) ⌝ }
 {
     joined2(a, b) + 65536 * joined2(c, d)
+}
+
+// A number with its four bytes in the other order.
+pub fn swapped(n: u32) -> u32
+    ensures { λ r. ⌜ r ≡ get false (put true 4 n) ⌝ }
+{
+    let a = lowest(n);
+    let b = lowest(n / 256);
+    let c = lowest(n / 256 / 256);
+    let d = lowest(n / 256 / 256 / 256);
+    joined4(d, c, b, a)
 }
 
 // The number of 16 bits at a place.

@@ -1,6 +1,7 @@
 // Records, their numbers, and places in the pool.
 use crate::order::get16;
 use crate::order::get32;
+use crate::order::swapped;
 use refusals::limits::POOL_LIMIT;
 use refusals::limits::RECORD_LIMIT;
 ghost use mathlib.Core.Path.{_≡_};
@@ -8,7 +9,7 @@ ghost use Prim.Native.Nat.{_+_, _*_, _<_, _≤_, _^_};
 ghost use lib.ListN.{length, take, drop};
 ghost use Rattle.table.specs.Records.{recordSize, isLittle, isMarked, decode, field, header, imageOf};
 ghost use Rattle.table.specs.Check.{kindAt};
-ghost use Rattle.table.specs.Answers.{recordOf, Opened};
+ghost use Rattle.table.specs.Answers.{recordOf, orderedAs, Opened};
 
 // The most records of a table and the most bytes of its pool, as the header holds them.
 pub const RECORD_MOST: u32 = RECORD_LIMIT as u32;
@@ -91,21 +92,40 @@ pub struct Entry {
     pub e: u32,
 }
 
+// A record with the bytes of each number, the lowest first, taken in the order told. The order is tested once for all five.
+pub fn ordered(r: Entry, little: bool) -> Entry
+    ensures { λ t. ⌜ recordOf t ≡ orderedAs little (recordOf r) ⌝ }
+{
+    if little {
+        return r;
+    }
+    Entry {
+        kind: r.kind,
+        flag: r.flag,
+        a: swapped(r.a),
+        b: swapped(r.b),
+        c: swapped(r.c),
+        d: swapped(r.d),
+        e: swapped(r.e),
+    }
+}
+
 // The record at a place, each number in the record's own order.
 pub fn read(s: &[u8], at: usize) -> Entry
     requires { ⌜ at + recordSize ≤ length (now s) ⌝ }
     ensures { λ r. ⌜ recordOf r ≡ decode (take recordSize (drop at (now (s .entry)))) ⌝ }
 {
     let little = is_little(s, at);
-    Entry {
+    let r = Entry {
         kind: s[at + 2],
         flag: s[at + 3],
-        a: get32(s, at + 4, little),
-        b: get32(s, at + 8, little),
-        c: get32(s, at + 12, little),
-        d: get32(s, at + 16, little),
-        e: get32(s, at + 20, little),
-    }
+        a: get32(s, at + 4, true),
+        b: get32(s, at + 8, true),
+        c: get32(s, at + 12, true),
+        d: get32(s, at + 16, true),
+        e: get32(s, at + 20, true),
+    };
+    ordered(r, little)
 }
 
 // A table's counts, as its header has them: of records, the header among them, and of the pool's bytes.

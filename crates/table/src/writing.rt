@@ -1,6 +1,7 @@
 // A record, written in either order.
 use crate::order::put32;
 use crate::records::Entry;
+use crate::records::ordered;
 ghost use mathlib.Core.Path.{_≡_};
 ghost use mathlib.Core.Bool.{cond};
 ghost use mathlib.Core.List.{[], _∷_, _++_};
@@ -34,10 +35,11 @@ pub fn put_record(out: &mut [u8], at: usize, little: bool, r: Entry)
     requires { ⌜ at + recordSize ≤ length (now out) ⌝ }
     ensures { λ _. ⌜ now (out .exit) ≡ sets (now (out .entry)) at (encode little (recordOf r)) ⌝ }
 {
+    let t = ordered(r, little);
     put_head(out, at, little, r.kind, r.flag);
-    put32(out, at + 4, little, r.a);
-    put32(out, at + 8, little, r.b);
-    put32(out, at + 12, little, r.c);
-    put32(out, at + 16, little, r.d);
-    put32(out, at + 20, little, r.e);
+    put32(out, at + 4, true, t.a);
+    put32(out, at + 8, true, t.b);
+    put32(out, at + 12, true, t.c);
+    put32(out, at + 16, true, t.d);
+    put32(out, at + 20, true, t.e);
 }

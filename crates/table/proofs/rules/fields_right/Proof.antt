@@ -13,20 +13,20 @@ object-right-requires c κs = search needs
 attribute-right-requires : tie.Need-attribute-right-requires
 attribute-right-requires c κs = search needs
 
-unused-requires-2 : tie.Need-unused-requires-2
-unused-requires-2 c κs = search needs
-
 integer-right-requires : tie.Need-integer-right-requires
 integer-right-requires c κs = search needs
+
+unused-requires-2 : tie.Need-unused-requires-2
+unused-requires-2 c κs = search needs
 
 string-right-requires : tie.Need-string-right-requires
 string-right-requires c κs = search needs
 
-unused-requires-3 : tie.Need-unused-requires-3
-unused-requires-3 c κs = search needs
-
 interval-right-requires : tie.Need-interval-right-requires
 interval-right-requires c κs = search needs
+
+unused-requires-3 : tie.Need-unused-requires-3
+unused-requires-3 c κs = search needs
 
 unused-requires-4 : tie.Need-unused-requires-4
 unused-requires-4 c κs = search needs
@@ -44,7 +44,7 @@ returns-4 : tie.Need-returns-4
 returns-4 c = search (kind-steps, needs)
 
 returns-5 : tie.Need-returns-5
-returns-5 c = search needs
+returns-5 c = search (kind-steps, needs)
 
 returns-6 : tie.Need-returns-6
 returns-6 c = search needs
@@ -53,7 +53,7 @@ returns-7 : tie.Need-returns-7
 returns-7 c = search (kind-steps, needs)
 
 returns-8 : tie.Need-returns-8
-returns-8 c = search needs
+returns-8 c = search (kind-steps, needs)
 
 returns-9 : tie.Need-returns-9
 returns-9 c = search (kind-steps, needs)
@@ -65,11 +65,11 @@ fields-right-spec =
     unused-requires
     object-right-requires
     attribute-right-requires
-    unused-requires-2
     integer-right-requires
+    unused-requires-2
     string-right-requires
-    unused-requires-3
     interval-right-requires
+    unused-requires-3
     unused-requires-4
     returns
     returns-2

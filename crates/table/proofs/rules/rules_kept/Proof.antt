@@ -5,11 +5,11 @@ use borrow.Author.Needs.{needs}
 use Rattle.table.proofs.rules.rules_kept.Statement.{statement}
 use Rattle.table.proofs.rules.rules_kept.Tie as tie
 
-flag-right-requires : tie.Need-flag-right-requires
-flag-right-requires c κs = search needs
-
 fields-right-requires : tie.Need-fields-right-requires
 fields-right-requires c κs = search needs
+
+flag-right-requires : tie.Need-flag-right-requires
+flag-right-requires c κs = search needs
 
 returns : tie.Need-returns
 returns c = search (kind-steps, chain-steps, needs)
@@ -18,4 +18,4 @@ returns-2 : tie.Need-returns-2
 returns-2 c = search (kind-steps, chain-steps, needs)
 
 pub rules-kept-spec : {M : Type 1} → statement M
-rules-kept-spec = tie.close (tie.spec flag-right-requires fields-right-requires returns returns-2)
+rules-kept-spec = tie.close (tie.spec fields-right-requires flag-right-requires returns returns-2)

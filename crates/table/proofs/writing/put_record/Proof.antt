@@ -1,8 +1,11 @@
 -- `table::writing::put_record` meets its contract. Assumes nothing.
 use borrow.Author.Needs.{needs}
-use Rattle.table.proofs.WriteSteps.{record-put}
+use Rattle.table.proofs.WriteSteps.{record-ordered}
 use Rattle.table.proofs.writing.put_record.Statement.{statement}
 use Rattle.table.proofs.writing.put_record.Tie as tie
+
+ordered-requires : tie.Need-ordered-requires
+ordered-requires c κs = search needs
 
 put-head-requires : tie.Need-put-head-requires
 put-head-requires c κs = search needs
@@ -48,12 +51,13 @@ returns c =
     let c2 = c3 .before .before .before .before in
     let c1 = c2 .before .before .before .before in
     let c0 = c1 .before .before .before .before in
-    record-put _ _ _ _ _ _ _ _ _ _ (c0 .put-head .ensures) (c1 .put32 .ensures) (c2 .put322 .ensures) (c3 .put323 .ensures) (c4 .put324 .ensures) (c5 .put325 .ensures)
+    record-ordered _ _ _ _ _ _ _ _ _ _ _ (c0 .before .before .ordered .ensures) (c0 .put-head .ensures) (c1 .put32 .ensures) (c2 .put322 .ensures) (c3 .put323 .ensures) (c4 .put324 .ensures) (c5 .put325 .ensures)
 
 pub put-record-spec : {M : Type 1} → statement M
 put-record-spec =
     tie.close
     (tie.spec
+    ordered-requires
     put-head-requires
     add-put32
     put32-requires
