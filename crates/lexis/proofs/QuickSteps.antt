@@ -117,7 +117,7 @@ digit-run b e = rw (e, or-true)
 digit-plain : (b : ℕ) → is digit b ≡ true → is blank b ≡ false
 digit-plain b e = rw (eqb-true (sortOf b) digit e)
 
-digit-dash : (b : ℕ) → is digit b ≡ true → eqb b (byte "-") ≡ false
+pub digit-dash : (b : ℕ) → is digit b ≡ true → eqb b (byte "-") ≡ false
 unfolding sortOf
 digit-dash b e = ne-eqb b (byte "-") (λ z. false≢true (rw z at e))
 
