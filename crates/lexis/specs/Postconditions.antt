@@ -50,6 +50,19 @@ pub record StartsAlike (s : List ℕ) (from r : ℕ) : Type 0 where
   pub low : from ≤ r
   pub high : r ≤ length s
 
+-- the byte b stands at a place of the text
+pub record OpensMark (s : List ℕ) (at b : ℕ) : Type 0 where
+  pub inside : at < length s
+  pub is : byteAt s at ≡ b
+
+-- a byte with which no longer mark opens stands at a place of the text
+pub record OpensPlain (s : List ℕ) (at : ℕ) : Type 0 where
+  pub inside : at < length s
+  pub less : byteAt s at ≡ byte "<" → ⊥
+  pub greater : byteAt s at ≡ byte ">" → ⊥
+  pub dot : byteAt s at ≡ byte "." → ⊥
+  pub plus : byteAt s at ≡ byte "+" → ⊥
+
 -- the byte is the mark of data text of that sort
 abbrev pub isMark : ℕ → ℕ → Bool
 isMark b sort =
