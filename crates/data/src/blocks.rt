@@ -106,7 +106,12 @@ fn read_members(s: &[u8], levels: usize, from: usize, tape: &mut [u16], n: usize
     ensures { λ r. ⌜ RowsIs (now (s .entry)) from n (now (tape .entry)) (members (now (s .entry)) (blockFrom (now (s .entry)) levels) (length (now (s .entry)) + 1) [] from) (now (tape .exit)) r ⌝ }
 {
     let mut rows = n;
-    let mut t = data_token_at(s, from);
+    let opening = data_token_at(s, from);
+    let mut t = Token {
+        sort: opening.sort,
+        start: opening.start,
+        end: opening.end,
+    };
     loop {
         if t.sort == GREATER {
             return RowsRead::Read { rows, place: t.end };

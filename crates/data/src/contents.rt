@@ -8,7 +8,8 @@ use lexis::OPEN_ROUND;
 use lexis::STRING;
 use lexis::Token;
 use lexis::WORD_RUN;
-use lexis::data_tokens::data_token_at;
+use lexis::data_tokens::mark_token_at;
+use lexis::data_tokens::value_token_at;
 use refusals::Cause;
 use refusals::Refusal;
 use refusals::limits::STRING_LIMIT;
@@ -59,17 +60,15 @@ fn leaf_end(
     ensures { λ r. ⌜ LeafEnds (now (s .entry)) holds place start end from r ⌝ }
 {
     match expect(s, GREATER, from) {
-        Expected::Fault(fault) => {
-            return ContentStart::Faulty(fault);
-        }
+        Expected::Fault(fault) => { ContentStart::Faulty(fault) }
         Expected::Taken(close) => {
-            return ContentStart::Leaf {
+            ContentStart::Leaf {
                 holds,
                 place,
                 start,
                 end,
                 next: close.end,
-            };
+            }
         }
     }
 }
@@ -85,9 +84,10 @@ fn string_leaf(s: &[u8], place: usize, from: usize, t: Token) -> ContentStart
     let end = t.end - 1;
     if start + STRING_LIMIT < end {
         let fault = too_long(t);
-        return ContentStart::Faulty(fault);
+        ContentStart::Faulty(fault)
+    } else {
+        leaf_end(s, IS_STRING, place, start, end, t.end)
     }
-    leaf_end(s, IS_STRING, place, start, end, t.end)
 }
 
 // A good word and `>`.
@@ -100,12 +100,13 @@ fn word_leaf(s: &[u8], place: usize, from: usize, t: Token) -> ContentStart
     let start = t.start;
     let end = t.end;
     if !good(&s[start..end]) {
-        return ContentStart::Faulty(Refusal {
+        ContentStart::Faulty(Refusal {
             cause: Cause::BadWord,
             place: start,
-        });
+        })
+    } else {
+        leaf_end(s, IS_WORD, place, start, end, end)
     }
-    leaf_end(s, IS_WORD, place, start, end, end)
 }
 
 // Behind a `<` with no type: a leaf where a string or a word follows, else a block.
@@ -113,18 +114,18 @@ fn less_content(s: &[u8], place: usize, from: usize) -> ContentStart
     requires { ⌜ Behind (now s) place from ⌝ }
     ensures { λ r. ⌜ ContentIs (now (s .entry)) place (lessFrom (now (s .entry)) place from) r ⌝ }
 {
-    let t = data_token_at(s, from);
+    let t = value_token_at(s, from);
     if t.sort == STRING {
-        return string_leaf(s, place, from, t);
-    }
-    if t.sort == WORD_RUN {
-        return word_leaf(s, place, from, t);
-    }
-    ContentStart::Block {
-        place,
-        type_start: 0,
-        type_end: 0,
-        next: from,
+        string_leaf(s, place, from, t)
+    } else if t.sort == WORD_RUN {
+        word_leaf(s, place, from, t)
+    } else {
+        ContentStart::Block {
+            place,
+            type_start: 0,
+            type_end: 0,
+            next: from,
+        }
     }
 }
 
@@ -134,21 +135,19 @@ fn typed_content(s: &[u8], from: usize) -> ContentStart
     ensures { λ r. ⌜ ContentIs (now (s .entry)) from (typedContent (now (s .entry)) from) r ⌝ }
 {
     match typed_opening(s, from) {
-        Opening::Shut(fault) => {
-            return ContentStart::Faulty(fault);
-        }
+        Opening::Shut(fault) => { ContentStart::Faulty(fault) }
         Opening::Opens {
             place,
             type_start,
             type_end,
             next,
         } => {
-            return ContentStart::Block {
+            ContentStart::Block {
                 place,
                 type_start,
                 type_end,
                 next,
-            };
+            }
         }
     }
 }
@@ -158,13 +157,13 @@ pub fn content_start(s: &[u8], from: usize) -> ContentStart
     requires { ⌜ from ≤ length (now s) ⌝ }
     ensures { λ r. ⌜ ContentIs (now (s .entry)) from (contentOf (now (s .entry)) from) r ⌝ }
 {
-    let t = data_token_at(s, from);
+    let t = mark_token_at(s, from, LESS, OPEN_ROUND);
     if t.sort == OPEN_ROUND {
-        return typed_content(s, t.end);
+        typed_content(s, t.end)
+    } else if t.sort == LESS {
+        less_content(s, t.start, t.end)
+    } else {
+        let fault = syntax_fault(t);
+        ContentStart::Faulty(fault)
     }
-    if t.sort == LESS {
-        return less_content(s, t.start, t.end);
-    }
-    let fault = syntax_fault(t);
-    ContentStart::Faulty(fault)
 }

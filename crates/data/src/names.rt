@@ -99,11 +99,7 @@ pub fn member_start(s: &[u8], tape: &[u16], first: usize, end: usize, t: Token) 
     ensures { λ r. ⌜ ContentIs (now (s .entry)) (t .start + 2) (memberOf (now (s .entry)) (earlier (now (s .entry)) (now (tape .entry)) first end) t) r ⌝ }
 {
     match name_from(s, tape, first, end, t) {
-        SpanRead::Bad(fault) => {
-            return ContentStart::Faulty(fault);
-        }
-        SpanRead::Spans { start, end, next } => {
-            return content_start(s, next);
-        }
+        SpanRead::Bad(fault) => ContentStart::Faulty(fault),
+        SpanRead::Spans { start, end, next } => content_start(s, next),
     }
 }

@@ -3,7 +3,7 @@ use lexis::CLOSE_ROUND;
 use lexis::LESS;
 use lexis::OPEN_ROUND;
 use lexis::TYPE_NAME;
-use lexis::data_tokens::data_token_at;
+use lexis::data_tokens::mark_token_at;
 use lexis::data_tokens::type_token_at;
 use refusals::Refusal;
 use refusals::limits::NAME_LIMIT;
@@ -42,7 +42,7 @@ pub fn expect(s: &[u8], sort: u8, from: usize) -> Expected
     requires { ⌜ from ≤ length (now s) ⌝ }
     ensures { λ r. ⌜ ExpectIs (now (s .entry)) sort from (expect (now (s .entry)) sort from) r ⌝ }
 {
-    let t = data_token_at(s, from);
+    let t = mark_token_at(s, from, sort, sort);
     if t.sort == sort {
         return Expected::Taken(t);
     }
@@ -118,7 +118,7 @@ pub fn typed_opening(s: &[u8], from: usize) -> Opening
 pub fn outermost_opening(s: &[u8]) -> Opening
     ensures { λ r. ⌜ OutermostIs (now (s .entry)) r ⌝ }
 {
-    let t = data_token_at(s, 0);
+    let t = mark_token_at(s, 0, LESS, OPEN_ROUND);
     if t.sort == OPEN_ROUND {
         return typed_opening(s, t.end);
     }

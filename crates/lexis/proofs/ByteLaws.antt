@@ -7,7 +7,7 @@ use native.Mathlib.Decide.{decLt}
 use lib.Dec.{eqb, leb}
 use borrow.Author.Tests.{eqb-true, ne-eqb, le-leb}
 use Rattle.lexis.specs.Bytes.{sortOf, wordByte, stringByte, runByte}
-use Rattle.lexis.specs.Postconditions.{sortsOf}
+use Rattle.lexis.specs.Postconditions.{sortsOf, runMark}
 use Rattle.lexis.proofs.Cases.{and-left, and-right}
 
 -- two tests answer the same
@@ -54,14 +54,18 @@ pub run-word : (b : ℕ) (r : Bool) → r ≡ wordByte b → r ≡ true → true
 unfolding runByte
 run-word b r h e = rw (← h, e)
 
--- a byte that is none of words, nor one of three that runs hold besides
-pub run-last : (b : ℕ) (r : Bool) → r ≡ wordByte b → r ≡ false → (b ≡ 43 → ⊥) → (b ≡ 45 → ⊥) → (b ≡ 46 → ⊥) → eqb b 58 ≡ runByte b
-unfolding runByte
-run-last b r h e n m k = rw (← h, e, ne-eqb b 43 n, ne-eqb b 45 m, ne-eqb b 46 k) (or-false (eqb b 58))
+-- a byte that is none of three that runs hold besides the bytes of words
+pub mark-last : (b : ℕ) → (b ≡ 43 → ⊥) → (b ≡ 45 → ⊥) → (b ≡ 46 → ⊥) → eqb b 58 ≡ runMark b
+mark-last b n m k = rw (ne-eqb b 43 n, ne-eqb b 45 m, ne-eqb b 46 k) (or-false (eqb b 58))
   where
     or-false : (x : Bool) → x ≡ (x || false)
     or-false true = refl
     or-false false = refl
+
+-- a byte that is none of words is one of runs where it is one of those
+pub run-other : (b : ℕ) (r q : Bool) → r ≡ wordByte b → r ≡ false → q ≡ runMark b → q ≡ runByte b
+unfolding runByte
+run-other b r q h e p = rw (← h, e) p
 
 -- a row of the table of sorts is what is said of its number; the last is the only one left
 pub row : (k high r : ℕ) → high ≡ k → r ≡ sortsOf k → r ≡ sortsOf high

@@ -4,19 +4,20 @@ use mathlib.Core.Bool.{Bool, true, false, not}
 use mathlib.Core.List.{List, [], _∷_}
 use Prim.Native.Nat.{ℕ, suc, _+_, _-_, _≤_, _<_}
 use native.Mathlib.Omega.{arith}
+use native.Mathlib.Decide.{decLt}
 use lib.Dec.{eqb}
-use lib.ListN.{length, take, drop}
-use lib.Seq.{drop-drop, drop-nil}
+use lib.ListN.{length, take, drop, drop-of-length-le}
+use lib.Seq.{drop-drop, drop-nil, getD-drop}
 use borrow.Author.Tests.{eq-eqb, ne-eqb, le-leb, lt-leb, not-true, not-false}
 use Rattle.lexis.specs.Text.{byte}
-use Rattle.lexis.specs.Bytes.{sortOf, wordByte, runByte}
+use Rattle.lexis.specs.Bytes.{sortOf, is, small, capital, wordByte, runByte}
 use Rattle.lexis.specs.Runs.{past, byteAt, part, all}
 use Rattle.lexis.specs.Spelling.{Literal, wordSort, keywords, booleans}
 use Rattle.lexis.specs.Tokens.{token, noToken, spelled, quoted, textEnd, typeName, name}
 use Rattle.lexis.specs.DataTokens.{dataMarks, nameSort, run, dataTokenOn, dataTokenAt, typeTokenAt}
-use Rattle.lexis.specs.Postconditions.{PlaceIs, TokenIs, sorting}
+use Rattle.lexis.specs.Postconditions.{PlaceIs, WordEnds, TokenIs, runMark, sorting}
 use Rattle.lexis.specs.declared.Token.{Token}
-use Rattle.lexis.proofs.Places.{past-between}
+use Rattle.lexis.proofs.Places.{past-between, drop-in}
 use Rattle.lexis.proofs.ByteLaws.{run-word}
 use Rattle.lexis.proofs.DataPlaces.{data-token-found, type-token-found}
 use Rattle.lexis.proofs.TokenSteps.{promised}
@@ -37,19 +38,59 @@ module _ (ls : List Literal) (w : List ℕ) (sort : ℕ) (whole : Bool) (p : who
 word-runs : (b : ℕ) → wordByte b ≡ true → runByte b ≡ true
 word-runs b e = sym (run-word b (wordByte b) refl e)
 
--- the run at a place goes on behind the word there
-run-behind : (at : ℕ) (bs : List ℕ) → past runByte (past wordByte at bs) (drop (past wordByte at bs - at) bs) ≡ past runByte at bs
+-- a run goes on behind another whose bytes it also has
+past-on : (f g : ℕ → Bool) → ((b : ℕ) → f b ≡ true → g b ≡ true) → (at : ℕ) (bs : List ℕ) → past g (past f at bs) (drop (past f at bs - at) bs) ≡ past g at bs
 unfolding past
-run-behind at [] = rw drop-nil
-run-behind at (b ∷ bs) = by-byte (run-behind (at + 1) bs) (wordByte b) refl
+past-on f g more at [] = rw drop-nil
+past-on f g more at (b ∷ bs) = by-byte (past-on f g more (at + 1) bs) (f b) refl
   where
-    by-byte : past runByte (past wordByte (at + 1) bs) (drop (past wordByte (at + 1) bs - (at + 1)) bs) ≡ past runByte (at + 1) bs
-        → (k : Bool) → wordByte b ≡ k → past runByte (past wordByte at (b ∷ bs)) (drop (past wordByte at (b ∷ bs) - at) (b ∷ bs)) ≡ past runByte at (b ∷ bs)
+    by-byte : past g (past f (at + 1) bs) (drop (past f (at + 1) bs - (at + 1)) bs) ≡ past g (at + 1) bs
+        → (k : Bool) → f b ≡ k → past g (past f at (b ∷ bs)) (drop (past f at (b ∷ bs) - at) (b ∷ bs)) ≡ past g at (b ∷ bs)
     by-byte ih true e =
-        let l = past-between wordByte (at + 1) bs .least in
-        let n : past wordByte (at + 1) bs - at ≡ suc (past wordByte (at + 1) bs - (at + 1)) = omega arith in
-        rw (e, word-runs b e, n) ih
+        let l = past-between f (at + 1) bs .least in
+        let n : past f (at + 1) bs - at ≡ suc (past f (at + 1) bs - (at + 1)) = omega arith in
+        rw (e, more b e, n) ih
     by-byte ih false e = let n : at - at ≡ 0 = omega arith in rw (e, n)
+
+-- the same from a place of a text on
+pub run-on : (f g : ℕ → Bool) → ((b : ℕ) → f b ≡ true → g b ≡ true) → (s : List ℕ) (at w : ℕ) → PlaceIs s at (past f at (drop at s)) w → past g w (drop w s) ≡ past g at (drop at s)
+run-on f g more s at w p =
+    let e : at + (w - at) ≡ w = omega (arith, p .low) in
+    rw (← p .is, drop-drop, e) at (past-on f g more at (drop at s))
+
+-- behind a run stands no byte of it
+past-stops : (f : ℕ → Bool) → f 0 ≡ false → (at : ℕ) (bs : List ℕ) → f (byteAt bs (past f at bs - at)) ≡ false
+unfolding past
+past-stops f z at [] = z
+past-stops f z at (b ∷ bs) = by-byte (past-stops f z (at + 1) bs) (f b) refl
+  where
+    by-byte : f (byteAt bs (past f (at + 1) bs - (at + 1))) ≡ false → (k : Bool) → f b ≡ k → f (byteAt (b ∷ bs) (past f at (b ∷ bs) - at)) ≡ false
+    by-byte ih true e =
+        let l = past-between f (at + 1) bs .least in
+        let n : past f (at + 1) bs - at ≡ suc (past f (at + 1) bs - (at + 1)) = omega arith in
+        rw (e, n) ih
+    by-byte ih false e = let n : at - at ≡ 0 = omega arith in rw (e, n) e
+
+-- the word at a place ends where it stops
+pub word-stops : (s : List ℕ) (at w : ℕ) → PlaceIs s at (past wordByte at (drop at s)) w → WordEnds s w
+unfolding wordByte sortOf
+word-stops s at w p =
+    let e : at + (w - at) ≡ w = omega (arith, p .low) in
+    record { inside = p .high; stops = rw (← p .is, getD-drop at s, e) at (past-stops wordByte refl at (drop at s)) }
+
+-- a run ends at a byte that it does not have
+pub run-ends : (g : ℕ → Bool) (s : List ℕ) (at : ℕ) → at ≤ length s → g (byteAt s at) ≡ false → PlaceIs s at (past g at (drop at s)) at
+unfolding past
+run-ends g s at h e = record { is = by-place (decLt at (length s)); low = omega arith; high = h }
+  where
+    by-place : Dec (at < length s) → at ≡ past g at (drop at s)
+    by-place (yes l) = rw (drop-in s at l, e)
+    by-place (no l) = let n : length s ≤ at = omega arith in rw (drop-of-length-le s n)
+
+-- where a word ends, the run ends too, unless one of four bytes stands there
+pub end-here : (s : List ℕ) (at b : ℕ) → WordEnds s at → b ≡ byteAt s at → (r : Bool) → r ≡ runMark b → not r ≡ true → PlaceIs s at (past runByte at (drop at s)) at
+unfolding runByte
+end-here s at b w u r q n = run-ends runByte s at (w .inside) (rw (w .stops, ← u, ← q, not-true r n))
 
 -- a run is a word where the word at its place ends with it
 run-words : (at : ℕ) (bs : List ℕ) → eqb (past wordByte at bs) (past runByte at bs) ≡ all wordByte (take (past runByte at bs - at) bs)
@@ -71,14 +112,9 @@ run-words at (b ∷ bs) = by-byte (run-words (at + 1) bs) (wordByte b) refl (run
 
 -- the end of the word at a place and the end of the run there
 module _ (s : List ℕ) (at w : ℕ) (p : PlaceIs s at (past wordByte at (drop at s)) w) where
-  behind-word : past runByte w (drop w s) ≡ past runByte at (drop at s)
-  behind-word =
-      let e : at + (w - at) ≡ w = omega (arith, p .low) in
-      rw (← p .is, drop-drop, e) at (run-behind at (drop at s))
-
   module _ (end : ℕ) (q : PlaceIs s w (past runByte w (drop w s)) end) where
     run-end : end ≡ past runByte at (drop at s)
-    run-end = q .is ∙ behind-word
+    run-end = q .is ∙ run-on wordByte runByte word-runs s at w p
 
     pub run-whole : eqb w end ≡ all wordByte (part s at end)
     run-whole = rw (p .is, run-end) (run-words at (drop at s))
@@ -87,18 +123,18 @@ module _ (s : List ℕ) (at w : ℕ) (p : PlaceIs s at (past wordByte at (drop a
     run-is sorted k e = rw (e, run-end)
 
 -- the sort of a run
-module _ (behind : Bool) (w : List ℕ) (first k : ℕ) (q : k ≡ sortOf first) where
-  pub sorting-type : (r : ℕ) → behind ≡ true → k ≡ 3 → r ≡ nameSort booleans typeName w → r ≡ sorting behind w first
-  sorting-type r b e p = rw (b, ← q, e) p
+module _ (behind : Bool) (w : List ℕ) (first : ℕ) (k : Bool) where
+  pub sorting-type : (r : ℕ) → k ≡ is capital first → behind ≡ true → k ≡ true → r ≡ nameSort booleans typeName w → r ≡ sorting behind w first
+  sorting-type r q b e p = rw (b, ← q, e) p
 
-  pub sorting-none : behind ≡ true → (k ≡ 3 → ⊥) → 1 ≡ sorting behind w first
-  sorting-none b n = rw (b, ← q, ne-eqb k 3 n)
+  pub sorting-none : k ≡ is capital first → behind ≡ true → k ≡ false → 1 ≡ sorting behind w first
+  sorting-none q b e = rw (b, ← q, e)
 
-  pub sorting-name : (r : ℕ) → behind ≡ false → k ≡ 2 → r ≡ nameSort keywords name w → r ≡ sorting behind w first
-  sorting-name r b e p = rw (b, ← q, e) p
+  pub sorting-name : (r : ℕ) → k ≡ is small first → behind ≡ false → k ≡ true → r ≡ nameSort keywords name w → r ≡ sorting behind w first
+  sorting-name r q b e p = rw (b, ← q, e) p
 
-  pub sorting-word : behind ≡ false → (k ≡ 2 → ⊥) → 26 ≡ sorting behind w first
-  sorting-word b n = rw (b, ← q, ne-eqb k 2 n)
+  pub sorting-word : k ≡ is small first → behind ≡ false → k ≡ false → 26 ≡ sorting behind w first
+  sorting-word q b e = rw (b, ← q, e)
 
 -- the token that starts at a place
 module _ (sorted : List ℕ → ℕ → ℕ) (s : List ℕ) (at : ℕ) where

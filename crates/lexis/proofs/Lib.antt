@@ -16,6 +16,7 @@ pub mod SpellingSteps
 pub mod WordSteps
 pub mod TokenSteps
 pub mod DataTokenSteps
+pub mod QuickSteps
 pub mod ReaderSteps
 pub mod Stores
 pub mod Enclosed

@@ -1,16 +1,17 @@
 -- What the functions of this crate promise of their answers: an equation with a definition, and bounds. Assumes nothing.
 use mathlib.Core.Path.{_≡_}
-use mathlib.Core.Bool.{Bool, true, false, not, _&&_, _||_}
+use mathlib.Core.Bool.{Bool, true, false, cond, not, _&&_, _||_}
 use mathlib.Core.List.{List, [], _∷_}
 use Prim.Native.Nat.{ℕ, zero, suc, _+_, _*_, _≤_, _<_}
 use lib.Dec.{eqb}
 use lib.ListN.{length}
-use Rattle.lexis.specs.Bytes.{sortOf, is, blank, digit, wordByte, stringByte, runByte, lineEnd}
-use Rattle.lexis.specs.Runs.{allows}
-use Rattle.lexis.specs.Blanks.{opensComment}
-use Rattle.lexis.specs.Spelling.{Literal, keywords, booleans}
+use Rattle.lexis.specs.Bytes.{among, sortOf, is, blank, digit, wordByte, stringByte, runByte, lineEnd}
+use Rattle.lexis.specs.Text.{byte, bytes}
+use Rattle.lexis.specs.Runs.{byteAt, allows}
+use Rattle.lexis.specs.Blanks.{opensComment, tokenStart}
+use Rattle.lexis.specs.Spelling.{Literal, less, greater, keywords, booleans}
 use Rattle.lexis.specs.Tokens.{tokenAt}
-use Rattle.lexis.specs.DataTokens.{runSort, typeSort, dataTokenAt, typeTokenAt}
+use Rattle.lexis.specs.DataTokens.{equals, openRound, closeRound, runSort, typeSort, dataTokenAt, typeTokenAt}
 use Rattle.lexis.specs.declared.Token.{Token}
 use Rattle.lexis.specs.declared.reader.Tokens.{Tokens}
 use Rattle.lexis.specs.declared.reader.Tokens.the-variants.{Constraint, Data, Behind}
@@ -33,6 +34,43 @@ pub record PlaceIs (s : List ℕ) (from x r : ℕ) : Type 0 where
   pub is : r ≡ x
   pub low : from ≤ r
   pub high : r ≤ length s
+
+-- what a run of data text holds besides the bytes of words
+abbrev pub runMark : ℕ → Bool
+runMark b = among b (bytes "+-.:")
+
+-- a place of the text at which no word goes on
+pub record WordEnds (s : List ℕ) (at : ℕ) : Type 0 where
+  pub inside : at ≤ length s
+  pub stops : wordByte (byteAt s at) ≡ false
+
+-- a place of the text from which on the next token starts where it does from an earlier one
+pub record StartsAlike (s : List ℕ) (from r : ℕ) : Type 0 where
+  pub is : tokenStart s r ≡ tokenStart s from
+  pub low : from ≤ r
+  pub high : r ≤ length s
+
+-- the byte b stands at a place of the text
+pub record OpensMark (s : List ℕ) (at b : ℕ) : Type 0 where
+  pub inside : at < length s
+  pub is : byteAt s at ≡ b
+
+-- a byte with which no longer mark opens stands at a place of the text
+pub record OpensPlain (s : List ℕ) (at : ℕ) : Type 0 where
+  pub inside : at < length s
+  pub less : byteAt s at ≡ byte "<" → ⊥
+  pub greater : byteAt s at ≡ byte ">" → ⊥
+  pub dot : byteAt s at ≡ byte "." → ⊥
+  pub plus : byteAt s at ≡ byte "+" → ⊥
+
+-- the byte is the mark of data text of that sort
+abbrev pub isMark : ℕ → ℕ → Bool
+isMark b sort =
+    cond (eqb sort less) (eqb b (byte "<"))
+    (cond (eqb sort greater) (eqb b (byte ">"))
+    (cond (eqb sort equals) (eqb b (byte "="))
+    (cond (eqb sort openRound) (eqb b (byte "("))
+    (cond (eqb sort closeRound) (eqb b (byte ")")) false))))
 
 -- the test that the bytes of a class pass
 abbrev pub testOf : Class → ℕ → Bool

@@ -1,9 +1,9 @@
 // The sort of a byte, and tests on bytes.
 ghost use mathlib.Core.Path.{_≡_};
-ghost use Rattle.lexis.specs.Bytes.{sortOf, is, blank, digit, wordByte, stringByte, runByte, lineEnd};
+ghost use Rattle.lexis.specs.Bytes.{sortOf, is, blank, digit, small, capital, wordByte, stringByte, runByte, lineEnd};
 ghost use Prim.Native.Nat.{_<_};
 ghost use Rattle.lexis.specs.Runs.{byteAt};
-ghost use Rattle.lexis.specs.Postconditions.{sortsOf};
+ghost use Rattle.lexis.specs.Postconditions.{sortsOf, runMark};
 
 // The sorts of bytes; any other byte is of the sort 5.
 pub const BLANK: u8 = 0;
@@ -114,6 +114,26 @@ pub fn is_digit(b: u8) -> bool
     b <= b'9'
 }
 
+// A small letter.
+pub fn is_small(b: u8) -> bool
+    ensures { λ r. ⌜ r ≡ is small b ⌝ }
+{
+    if b < b'a' {
+        return false;
+    }
+    b <= b'z'
+}
+
+// A capital.
+pub fn is_capital(b: u8) -> bool
+    ensures { λ r. ⌜ r ≡ is capital b ⌝ }
+{
+    if b < b'A' {
+        return false;
+    }
+    b <= b'Z'
+}
+
 // A letter, a digit or `_`.
 pub fn word_byte(b: u8) -> bool
     ensures { λ r. ⌜ r ≡ wordByte b ⌝ }
@@ -149,13 +169,10 @@ pub fn string_byte(b: u8) -> bool
     b <= b'~'
 }
 
-// A byte of a run of data text: a letter, a digit, or one of `_ + - . :`.
-pub fn run_byte(b: u8) -> bool
-    ensures { λ r. ⌜ r ≡ runByte b ⌝ }
+// One of `+ - . :`.
+pub fn run_mark(b: u8) -> bool
+    ensures { λ r. ⌜ r ≡ runMark b ⌝ }
 {
-    if word_byte(b) {
-        return true;
-    }
     if b == b'+' {
         return true;
     }
@@ -166,4 +183,14 @@ pub fn run_byte(b: u8) -> bool
         return true;
     }
     b == b':'
+}
+
+// A byte of a run of data text: a letter, a digit, or one of `_ + - . :`.
+pub fn run_byte(b: u8) -> bool
+    ensures { λ r. ⌜ r ≡ runByte b ⌝ }
+{
+    if word_byte(b) {
+        return true;
+    }
+    run_mark(b)
 }

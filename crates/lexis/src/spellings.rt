@@ -31,7 +31,7 @@ ghost use lib.ListN.{length, drop};
 ghost use Rattle.lexis.specs.Spelling.{marks, elementSign, datePatterns, timePatterns, keywords, booleans, wordSort};
 ghost use Rattle.lexis.specs.Tokens.{noToken, spelled};
 ghost use Rattle.lexis.specs.DataTokens.{dataMarks};
-ghost use Rattle.lexis.specs.Postconditions.{wordsOf};
+ghost use Rattle.lexis.specs.Postconditions.{wordsOf, OpensMark, OpensPlain};
 
 // The words that are no NAME, and those that are no TYPE.
 pub enum Words {
@@ -39,13 +39,80 @@ pub enum Words {
     Booleans,
 }
 
-// The first mark of constraint text with which the bytes at a place begin, as a token; where there is none, an unreadable token.
-pub fn mark(s: &[u8], at: usize) -> Token
-    requires { ⌜ at < length (now s) ⌝ }
+// The mark `<` or `<=` at a place.
+fn less_mark(s: &[u8], at: usize) -> Token
+    requires { ⌜ OpensMark (now s) at 60 ⌝ }
+    ensures { λ r. ⌜ r ≡ spelled marks at (drop at (now (s .entry))) (noToken at) ⌝ }
+{
+    if byte_at(s, at + 1) == b'=' {
+        return Token {
+            sort: AT_MOST,
+            start: at,
+            end: at + 2,
+        };
+    }
+    Token {
+        sort: LESS,
+        start: at,
+        end: at + 1,
+    }
+}
+
+// The mark `>` or `>=` at a place.
+fn greater_mark(s: &[u8], at: usize) -> Token
+    requires { ⌜ OpensMark (now s) at 62 ⌝ }
+    ensures { λ r. ⌜ r ≡ spelled marks at (drop at (now (s .entry))) (noToken at) ⌝ }
+{
+    if byte_at(s, at + 1) == b'=' {
+        return Token {
+            sort: AT_LEAST,
+            start: at,
+            end: at + 2,
+        };
+    }
+    Token {
+        sort: GREATER,
+        start: at,
+        end: at + 1,
+    }
+}
+
+// The mark `..` at a place, of which the first dot stands there.
+fn dots_mark(s: &[u8], at: usize) -> Token
+    requires { ⌜ OpensMark (now s) at 46 ⌝ }
+    ensures { λ r. ⌜ r ≡ spelled marks at (drop at (now (s .entry))) (noToken at) ⌝ }
+{
+    if byte_at(s, at + 1) == b'.' {
+        return Token {
+            sort: DOTS,
+            start: at,
+            end: at + 2,
+        };
+    }
+    no_token(at)
+}
+
+// The mark `+/-` at a place, of which the first byte stands there.
+fn plus_minus_mark(s: &[u8], at: usize) -> Token
+    requires { ⌜ OpensMark (now s) at 43 ⌝ }
+    ensures { λ r. ⌜ r ≡ spelled marks at (drop at (now (s .entry))) (noToken at) ⌝ }
+{
+    if starts_with(s, at, b"+/-") {
+        return Token {
+            sort: PLUS_MINUS,
+            start: at,
+            end: at + 3,
+        };
+    }
+    no_token(at)
+}
+
+// The mark at a place that is the only one that opens with its byte.
+fn plain_mark(s: &[u8], at: usize) -> Token
+    requires { ⌜ OpensPlain (now s) at ⌝ }
     ensures { λ r. ⌜ r ≡ spelled marks at (drop at (now (s .entry))) (noToken at) ⌝ }
 {
     let b = s[at];
-    let next = byte_at(s, at + 1);
     match b {
         b'{' => Token {
             sort: OPEN_BRACE,
@@ -72,55 +139,22 @@ pub fn mark(s: &[u8], at: usize) -> Token
             start: at,
             end: at + 1,
         },
-        b'<' => {
-            if next == b'=' {
-                return Token {
-                    sort: AT_MOST,
-                    start: at,
-                    end: at + 2,
-                };
-            }
-            Token {
-                sort: LESS,
-                start: at,
-                end: at + 1,
-            }
-        }
-        b'>' => {
-            if next == b'=' {
-                return Token {
-                    sort: AT_LEAST,
-                    start: at,
-                    end: at + 2,
-                };
-            }
-            Token {
-                sort: GREATER,
-                start: at,
-                end: at + 1,
-            }
-        }
-        b'.' => {
-            if next == b'.' {
-                return Token {
-                    sort: DOTS,
-                    start: at,
-                    end: at + 2,
-                };
-            }
-            no_token(at)
-        }
-        b'+' => {
-            if starts_with(s, at, b"+/-") {
-                return Token {
-                    sort: PLUS_MINUS,
-                    start: at,
-                    end: at + 3,
-                };
-            }
-            no_token(at)
-        }
         _ => no_token(at),
+    }
+}
+
+// The first mark of constraint text with which the bytes at a place begin, as a token; where there is none, an unreadable token.
+pub fn mark(s: &[u8], at: usize) -> Token
+    requires { ⌜ at < length (now s) ⌝ }
+    ensures { λ r. ⌜ r ≡ spelled marks at (drop at (now (s .entry))) (noToken at) ⌝ }
+{
+    let b = s[at];
+    match b {
+        b'<' => less_mark(s, at),
+        b'>' => greater_mark(s, at),
+        b'.' => dots_mark(s, at),
+        b'+' => plus_minus_mark(s, at),
+        _ => plain_mark(s, at),
     }
 }
 

@@ -1,26 +1,29 @@
 -- What each way through the code of integers answers is what the definition says. Assumes nothing.
 use mathlib.Core.Path.{_≡_, refl, sym, _∙_}
-use mathlib.Core.Bool.{Bool, true, false, cond, not, _&&_, and-true, and-false}
+use mathlib.Core.Bool.{Bool, true, false, cond, not, _&&_, and-true, and-false, false≢true}
 use mathlib.Core.Option.{Option, none, some}
 use mathlib.Core.List.{List, [], _∷_}
-use Prim.Native.Nat.{ℕ, _+_, _*_, _-_, _^_, _≤_, _<_}
+use Prim.Native.Nat.{ℕ, zero, suc, _+_, _*_, _-_, _^_, _≤_, _<_}
 use native.Mathlib.Omega.{arith}
 use lib.Dec.{eqb, leb}
 use lib.ListN.{length, getD, take, drop, length-drop, drop-of-length-le}
 use lib.Seq.{take-all}
-use borrow.Author.Tests.{le-leb, lt-leb, leb-false, eq-eqb, ne-eqb, not-true, not-false}
+use borrow.Author.Tests.{le-leb, lt-leb, leb-true, leb-false, eq-eqb, ne-eqb, not-true, not-false}
 use mir.Syntax.{w32}
 use mir.Val.{Fits}
 use Rattle.lexis.specs.Text.{byte}
-use Rattle.lexis.specs.Bytes.{is, digit}
-use Rattle.lexis.specs.Runs.{all}
-use Rattle.lexis.proofs.Cases.{either, and-left}
+use Rattle.lexis.specs.Bytes.{within, among, blanks, marks, sortOf, is, blank, digit, small, capital, mark, other}
+use Rattle.lexis.specs.Runs.{past, all}
+use Rattle.lexis.specs.Postconditions.{PlaceIs}
+use Rattle.lexis.proofs.Cases.{either, and-left, and-right}
 use Rattle.values.specs.Integers.{valueOf, nought, greatest, plain, negative, notNegative, integerOf, pair, magnitude, inside, around}
-use Rattle.values.specs.Answers.{DigitIs, integerAnswer, digitsFrom, plainNumber}
+use Rattle.values.specs.Answers.{DigitIs, integerAnswer, digitsFrom, plainNumber, shortInteger}
+use Rattle.values.specs.Words.{reads}
 use Rattle.values.specs.declared.integers.Number.{Number}
 use Rattle.values.specs.declared.integers.Number.the-variants.{Value, Nothing}
 use Rattle.values.proofs.Common.{le-left, le-right, by-order}
 use Rattle.lexis.proofs.Places.{drop-in}
+use Rattle.lexis.proofs.QuickSteps.{digit-dash}
 
 -- digits do not take a number down
 value-least : (n : ℕ) (ds : List ℕ) → n ≤ valueOf n ds
@@ -155,6 +158,109 @@ module _ (w : List ℕ) (a : Option ℕ) where
   unfolding integerOf
   integer-digits n e = rw (ne-eqb (getD w 0 0) (byte "-") n) e
 
+-- every byte passes a test where their run ends with them
+all-past : (f : ℕ → Bool) (at : ℕ) (bs : List ℕ) → eqb (past f at bs) (at + length bs) ≡ all f bs
+unfolding past all
+all-past f at [] = eq-eqb at (at + 0) (omega arith)
+all-past f at (b ∷ bs) = by-byte (all-past f (at + 1) bs) (f b) refl
+  where
+    by-byte : eqb (past f (at + 1) bs) (at + 1 + length bs) ≡ all f bs → (k : Bool) → f b ≡ k → eqb (past f at (b ∷ bs)) (at + length (b ∷ bs)) ≡ all f (b ∷ bs)
+    by-byte ih true e = let n : at + length (b ∷ bs) ≡ at + 1 + length bs = omega arith in rw (e, n) ih
+    by-byte ih false e = rw e (ne-eqb at (at + length (b ∷ bs)) (λ z. omega arith))
+
+-- an integer of few digits
+module _ (w : List ℕ) where
+  pub short-empty : length w ≡ 0 → false ≡ shortInteger w
+  unfolding shortInteger
+  short-empty h = rw (lt-leb 1 (length w) (omega arith), and-false)
+
+  pub short-long : 9 < length w → false ≡ shortInteger w
+  unfolding shortInteger
+  short-long h = rw (lt-leb (length w) 9 h, and-false)
+
+  module _ (e : ℕ) (p : PlaceIs w 0 (past (is digit) 0 (drop 0 w)) e) where
+    digits-all : eqb e (length w) ≡ all (is digit) w
+    digits-all = let n : 0 + length w ≡ length w = omega arith in rw (p .is) (rw n at (all-past (is digit) 0 w))
+
+    pub short-other : (e ≡ length w → ⊥) → false ≡ shortInteger w
+    unfolding shortInteger
+    short-other n = rw (sym digits-all ∙ ne-eqb e (length w) n)
+
+    module _ (q : e ≡ length w) (h : length w ≡ 0 → ⊥) (l : length w ≤ 9) where
+      every : all (is digit) w ≡ true
+      every = sym digits-all ∙ eq-eqb e (length w) q
+
+      pub short-more : (getD w 0 0 ≡ byte "0" → ⊥) → true ≡ shortInteger w
+      unfolding shortInteger
+      short-more n = rw (every, le-leb 1 (length w) (omega arith), ne-eqb (getD w 0 0) (byte "0") n, le-leb (length w) 9 l)
+
+      pub short-zero : getD w 0 0 ≡ byte "0" → eqb (length w) 1 ≡ shortInteger w
+      unfolding shortInteger
+      short-zero n = rw (every, le-leb 1 (length w) (omega arith), eq-eqb (getD w 0 0) (byte "0") n, le-leb (length w) 9 l, and-true)
+
+-- ten times a number, so many times
+unfoldable tenfold : ℕ → ℕ → ℕ
+tenfold zero m = m
+tenfold (suc k) m = tenfold k (m * 10)
+
+tenfold-least : (k m : ℕ) → m ≤ tenfold k m
+unfolding tenfold
+tenfold-least zero m = omega arith
+tenfold-least (suc k) m = let h = tenfold-least k (m * 10) in omega arith
+
+tenfold-more : (k j m : ℕ) → k ≤ j → tenfold k m ≤ tenfold j m
+unfolding tenfold
+tenfold-more zero j m h = tenfold-least j m
+tenfold-more (suc k) zero m h = absurd (omega arith)
+tenfold-more (suc k) (suc j) m h = tenfold-more k j (m * 10) (omega arith)
+
+-- no byte above `9` is a digit
+above-digits : (b : ℕ) → byte "9" < b → is digit b ≡ false
+unfolding sortOf
+above-digits b h =
+    rw (lt-leb b (byte "9") h, and-false)
+    (later (among b blanks) (within (byte "a") (byte "z") b) (within (byte "A") (byte "Z") b) (among b marks))
+  where
+    later : (p q r t : Bool) → eqb (cond p blank (cond q small (cond r capital (cond t mark other)))) digit ≡ false
+    later true q r t = refl
+    later false true r t = refl
+    later false false true t = refl
+    later false false false true = refl
+    later false false false false = refl
+
+digit-most : (b : ℕ) → is digit b ≡ true → b ≤ byte "9"
+digit-most b e = by-order b (byte "9") (λ k. k) (λ k. absurd (false≢true (sym (above-digits b k) ∙ e)))
+
+-- digits behind a number
+value-most : (n m : ℕ) (ds : List ℕ) → n < m → all (is digit) ds ≡ true → valueOf n ds < tenfold (length ds) m
+unfolding valueOf all tenfold
+value-most n m [] h a = h
+value-most n m (b ∷ bs) h a =
+    let d = digit-most b (and-left (is digit b) (all (is digit) bs) a) in
+    value-most (n * 10 + (b - byte "0")) (m * 10) bs (omega arith) (and-right (is digit b) (all (is digit) bs) a)
+
+-- the first of digits is one
+first-digit : (w : List ℕ) → 1 ≤ length w → all (is digit) w ≡ true → is digit (getD w 0 0) ≡ true
+unfolding all
+first-digit [] h a = absurd (omega arith)
+first-digit (b ∷ bs) h a = and-left (is digit b) (all (is digit) bs) a
+
+-- few digits spell an integer
+pub short-reads : (w : List ℕ) → shortInteger w ≡ true → reads (integerOf w) ≡ true
+unfolding shortInteger integerOf tenfold
+short-reads w e =
+    let x = all (is digit) w in
+    let y = leb 1 (length w) in
+    let z = cond (eqb (getD w 0 0) (byte "0")) (eqb (length w) 1) true in
+    let p = and-left (plain w) (leb (length w) 9) e in
+    let xy = and-left (x && y) z p in
+    let a = and-left x y xy in
+    let l = leb-true (length w) 9 (and-right (plain w) (leb (length w) 9) e) in
+    let v = value-most 0 1 w (omega arith) a in
+    let t = tenfold-more (length w) 9 1 l in
+    let d = first-digit w (leb-true 1 (length w) (and-right x y xy)) a in
+    rw (digit-dash (getD w 0 0) d, p, le-leb (valueOf 0 w) 2_147_483_647 (omega (arith, v, t)))
+
 -- how far a number lies from 0
 module _ (d : ℕ) where
   pub magnitude-above : nought ≤ d → d - nought ≡ magnitude d
@@ -193,6 +299,11 @@ module _ (a d n : ℕ) (e : n ≡ magnitude d) where
   around-below h = rw (← e, lt-leb nought d h)
 
 pub ruleset steps = (
+  short-empty,
+  short-long,
+  short-other,
+  short-more,
+  short-zero,
   digits-above,
   digits-end,
   digits-other,

@@ -1,6 +1,6 @@
 -- What each way through the code of words answers is what the definition says. Assumes nothing.
-use mathlib.Core.Path.{_≡_, refl}
-use mathlib.Core.Bool.{Bool, true, false}
+use mathlib.Core.Path.{_≡_, refl, sym, _∙_}
+use mathlib.Core.Bool.{Bool, true, false, _||_}
 use mathlib.Core.Option.{none, some}
 use mathlib.Core.List.{List}
 use Prim.Native.Nat.{ℕ}
@@ -9,8 +9,8 @@ use Rattle.lexis.specs.Runs.{same, all}
 use Rattle.values.specs.Integers.{integerOf}
 use Rattle.values.specs.Dates.{exactly, dateOf}
 use Rattle.values.specs.Times.{timeOf}
-use Rattle.values.specs.Words.{booleanOf, good}
-use Rattle.values.specs.Answers.{integerAnswer, dateAnswer, timeAnswer, booleanAnswer}
+use Rattle.values.specs.Words.{booleanOf, reads, good}
+use Rattle.values.specs.Answers.{integerAnswer, shortInteger, dateAnswer, timeAnswer, booleanAnswer}
 use Rattle.values.specs.declared.integers.Number.{Number}
 use Rattle.values.specs.declared.integers.Number.the-variants as number
 use Rattle.values.specs.declared.dates.Day.{Day}
@@ -20,6 +20,7 @@ use Rattle.values.specs.declared.times.Parts.the-variants as time
 use Rattle.values.specs.declared.words.Boolean.{Boolean}
 use Rattle.values.specs.declared.words.Boolean.the-variants as boolean
 use Rattle.values.proofs.ShapeSteps.{exactly-same}
+use Rattle.values.proofs.IntegerSteps.{short-reads}
 
 -- True and False
 module _ (w : List ℕ) (r : Bool) (h : r ≡ exactly (bytes "True") w) where
@@ -43,6 +44,15 @@ module _ (w : List ℕ) (r : Bool) (h : r ≡ exactly (bytes "True") w) where
     pub boolean-none : s ≡ false → none ≡ booleanOf w
     unfolding booleanOf
     boolean-none q = rw (← as-true, ← h, n, ← as-false, ← i, q)
+
+-- few digits are a good word
+pub good-short : (w : List ℕ) (r : Bool) → r ≡ shortInteger w → r ≡ true → true ≡ good w
+unfolding good
+good-short w r h e = rw (short-reads w (sym h ∙ e)) (second (reads (booleanOf w)) (reads (dateOf w)) (reads (timeOf w)))
+  where
+    second : (x y z : Bool) → true ≡ (x || true || y || z)
+    second true y z = refl
+    second false y z = refl
 
 -- a good word, by the first that it reads as
 module _ (w : List ℕ) (b : Boolean) (hb : booleanAnswer b ≡ booleanOf w) where
@@ -73,6 +83,7 @@ pub ruleset steps = (
   boolean-true,
   boolean-false,
   boolean-none,
+  good-short,
   good-boolean,
   good-integer,
   good-date,

@@ -6,7 +6,7 @@ use mathlib.Core.Option.{Option, none, some}
 use mathlib.Core.List.{List}
 use Prim.Native.Nat.{ℕ, _-_, _≤_, _<_}
 use lib.Dec.{leb}
-use lib.ListN.{drop}
+use lib.ListN.{length, drop}
 use Rattle.lexis.specs.Text.{byte, bytes}
 use Rattle.lexis.specs.Bytes.{is, digit}
 use Rattle.lexis.specs.Runs.{all}
@@ -45,6 +45,10 @@ digitsFrom n ds = cond (all (is digit) ds && leb (valueOf n ds) nought) (some (v
 -- the same, spelled plainly
 unfoldable pub plainNumber : List ℕ → Option ℕ
 plainNumber ds = cond (plain ds && leb (valueOf 0 ds) nought) (some (valueOf 0 ds)) none
+
+-- at most nine digits, which spell an integer plainly
+unfoldable pub shortInteger : List ℕ → Bool
+shortInteger w = plain w && leb (length w) 9
 
 -- a date
 abbrev pub dateAnswer : Day → Option Date

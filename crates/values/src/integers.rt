@@ -2,8 +2,10 @@
 ghost use mathlib.Core.Path.{_≡_};
 ghost use mathlib.Core.Bool.{true};
 ghost use Rattle.values.specs.Integers.{integerOf, negative, notNegative, twosComplement, magnitude, inside, pair, around};
-ghost use Rattle.values.specs.Answers.{integerAnswer, digitsFrom, plainNumber};
+ghost use Rattle.values.specs.Answers.{integerAnswer, digitsFrom, plainNumber, shortInteger};
 use crate::shapes::digit_value;
+use lexis::runs::Class;
+use lexis::runs::past_run;
 use lexis::sorts::is_digit;
 
 // An integer that is read, or that none is spelled.
@@ -97,6 +99,28 @@ pub fn integer_of(w: &[u8]) -> Number
         return negative(&w[1..]);
     }
     not_negative(w)
+}
+
+// The most digits with which an integer is in the range whatever they are.
+const SHORT: usize = 9;
+
+// The bytes spell an integer with few digits and no `-`, which is then in the range.
+pub fn short_integer(w: &[u8]) -> bool
+    ensures { λ r. ⌜ r ≡ shortInteger (now (w .entry)) ⌝ }
+{
+    if w.len() == 0 {
+        return false;
+    }
+    if SHORT < w.len() {
+        return false;
+    }
+    if past_run(w, 0, Class::Digit) != w.len() {
+        return false;
+    }
+    if w[0] != b'0' {
+        return true;
+    }
+    w.len() == 1
 }
 
 // A distance as 32 bits of two's complement, and back.

@@ -6,6 +6,7 @@ use crate::dates::Day;
 use crate::dates::date_of;
 use crate::integers::Number;
 use crate::integers::integer_of;
+use crate::integers::short_integer;
 use crate::shapes::exactly;
 use crate::times::Parts;
 use crate::times::time_of;
@@ -33,6 +34,9 @@ pub fn boolean_of(w: &[u8]) -> Boolean
 pub fn good(w: &[u8]) -> bool
     ensures { λ r. ⌜ r ≡ good (now (w .entry)) ⌝ }
 {
+    if short_integer(w) {
+        return true;
+    }
     if let Boolean::Value(_) = boolean_of(w) {
         return true;
     }

@@ -5,8 +5,8 @@ use Rattle.data.proofs.ContentSteps.{content-typed, content-less, conte
 use Rattle.data.proofs.contents.content_start.Statement.{statement}
 use Rattle.data.proofs.contents.content_start.Tie as tie
 
-data-token-at-requires : tie.Need-data-token-at-requires
-data-token-at-requires c κs = search needs
+mark-token-at-requires : tie.Need-mark-token-at-requires
+mark-token-at-requires c κs = search needs
 
 typed-content-requires : tie.Need-typed-content-requires
 typed-content-requires c κs = search needs
@@ -29,11 +29,4 @@ returns-3 c = search content-fault
 pub content-start-spec : {M : Type 1} → statement M
 content-start-spec =
     tie.close
-    (tie.spec
-    data-token-at-requires
-    typed-content-requires
-    returns
-    less-content-requires
-    returns-2
-    syntax-fault-requires
-    returns-3)
+    (tie.spec mark-token-at-requires typed-content-requires less-content-requires syntax-fault-requires returns returns-2 returns-3)

@@ -21,4 +21,4 @@ returns-2 c = search leaf-closed
 
 pub leaf-end-spec : {M : Type 1} → statement M
 leaf-end-spec =
-    tie.close (tie.spec expect-requires enum-known-fault returns enum-known-close returns-2)
+    tie.close (tie.spec expect-requires enum-known-fault enum-known-close returns returns-2)

@@ -4,8 +4,8 @@ use Rattle.data.proofs.ContentSteps.{less-string, less-word, less-block
 use Rattle.data.proofs.contents.less_content.Statement.{statement}
 use Rattle.data.proofs.contents.less_content.Tie as tie
 
-data-token-at-requires : tie.Need-data-token-at-requires
-data-token-at-requires c κs = search needs
+value-token-at-requires : tie.Need-value-token-at-requires
+value-token-at-requires c κs = search needs
 
 string-leaf-requires : tie.Need-string-leaf-requires
 string-leaf-requires c κs = search needs
@@ -25,10 +25,4 @@ returns-3 c = search less-block
 pub less-content-spec : {M : Type 1} → statement M
 less-content-spec =
     tie.close
-    (tie.spec
-    data-token-at-requires
-    string-leaf-requires
-    returns
-    word-leaf-requires
-    returns-2
-    returns-3)
+    (tie.spec value-token-at-requires string-leaf-requires word-leaf-requires returns returns-2 returns-3)

@@ -28,4 +28,4 @@ returns-2 c = search string-on
 pub string-leaf-spec : {M : Type 1} → statement M
 string-leaf-spec =
     tie.close
-    (tie.spec add-start sub-end add-if1 too-long-requires returns leaf-end-requires returns-2)
+    (tie.spec add-start sub-end add-if1 too-long-requires leaf-end-requires returns returns-2)

@@ -21,4 +21,4 @@ returns-2 c = search typed-block
 
 pub typed-content-spec : {M : Type 1} → statement M
 typed-content-spec =
-    tie.close (tie.spec typed-opening-requires enum-known-fault returns enum-known-place returns-2)
+    tie.close (tie.spec typed-opening-requires enum-known-fault enum-known-place returns returns-2)

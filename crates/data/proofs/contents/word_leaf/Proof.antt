@@ -28,11 +28,4 @@ returns-2 c = search word-on
 pub word-leaf-spec : {M : Type 1} → statement M
 word-leaf-spec =
     tie.close
-    (tie.spec
-    sub-good
-    part-good-start
-    part-good-end
-    good-requires
-    returns
-    leaf-end-requires
-    returns-2)
+    (tie.spec sub-good part-good-start part-good-end good-requires leaf-end-requires returns returns-2)

@@ -25,10 +25,4 @@ returns-2 c = search member-content
 pub member-start-spec : {M : Type 1} → statement M
 member-start-spec =
     tie.close
-    (tie.spec
-    name-from-requires
-    enum-known-fault
-    returns
-    enum-known-start
-    content-start-requires
-    returns-2)
+    (tie.spec name-from-requires enum-known-fault enum-known-start content-start-requires returns returns-2)

@@ -4,8 +4,8 @@ use Rattle.data.proofs.TokenSteps.{outermost-typed, outermost-opens, ou
 use Rattle.data.proofs.tokens.outermost_opening.Statement.{statement}
 use Rattle.data.proofs.tokens.outermost_opening.Tie as tie
 
-data-token-at-requires : tie.Need-data-token-at-requires
-data-token-at-requires c κs = search needs
+mark-token-at-requires : tie.Need-mark-token-at-requires
+mark-token-at-requires c κs = search needs
 
 typed-opening-requires : tie.Need-typed-opening-requires
 typed-opening-requires c κs = search needs
@@ -26,7 +26,7 @@ pub outermost-opening-spec : {M : Type 1} → statement M
 outermost-opening-spec =
     tie.close
     (tie.spec
-    data-token-at-requires
+    mark-token-at-requires
     typed-opening-requires
     returns
     returns-2

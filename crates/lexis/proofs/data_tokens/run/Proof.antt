@@ -1,5 +1,5 @@
 -- `lexis::data_tokens::run` meets its contract. Assumes nothing.
-use Rattle.lexis.proofs.DataTokenSteps.{run-whole, run-is}
+use Rattle.lexis.proofs.DataTokenSteps.{word-stops, run-whole, run-is}
 use borrow.Author.Needs.{needs}
 use Rattle.lexis.proofs.data_tokens.run.Statement.{statement}
 use Rattle.lexis.proofs.data_tokens.run.Tie as tie
@@ -7,8 +7,8 @@ use Rattle.lexis.proofs.data_tokens.run.Tie as tie
 past-run-requires : tie.Need-past-run-requires
 past-run-requires c κs = search needs
 
-past-run-requires-2 : tie.Need-past-run-requires-2
-past-run-requires-2 c κs = search needs
+run-end-requires : tie.Need-run-end-requires
+run-end-requires c κs = search word-stops
 
 sub-run-sort : tie.Need-sub-run-sort
 sub-run-sort c = search needs
@@ -33,7 +33,7 @@ run-spec =
     tie.close
     (tie.spec
     past-run-requires
-    past-run-requires-2
+    run-end-requires
     sub-run-sort
     part-run-sort-start
     part-run-sort-end

@@ -4,8 +4,8 @@ use borrow.Author.Needs.{needs}
 use Rattle.lexis.proofs.data_tokens.run_sort.Statement.{statement}
 use Rattle.lexis.proofs.data_tokens.run_sort.Tie as tie
 
-sort-of-requires : tie.Need-sort-of-requires
-sort-of-requires c κs = search needs
+is-capital-requires : tie.Need-is-capital-requires
+is-capital-requires c κs = search needs
 
 name-sort-requires : tie.Need-name-sort-requires
 name-sort-requires c κs = search needs
@@ -15,6 +15,9 @@ returns c = search sorting-type
 
 returns-2 : tie.Need-returns-2
 returns-2 c = search sorting-none
+
+is-small-requires : tie.Need-is-small-requires
+is-small-requires c κs = search needs
 
 name-sort-requires-2 : tie.Need-name-sort-requires-2
 name-sort-requires-2 c κs = search needs
@@ -29,10 +32,11 @@ pub run-sort-spec : {M : Type 1} → statement M
 run-sort-spec =
     tie.close
     (tie.spec
-    sort-of-requires
+    is-capital-requires
     name-sort-requires
     returns
     returns-2
+    is-small-requires
     name-sort-requires-2
     returns-3
     returns-4)

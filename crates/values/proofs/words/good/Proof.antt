@@ -4,14 +4,20 @@ use Rattle.values.proofs.WordSteps.{steps}
 use Rattle.values.proofs.words.good.Statement.{statement}
 use Rattle.values.proofs.words.good.Tie as tie
 
+short-integer-requires : tie.Need-short-integer-requires
+short-integer-requires c κs = search needs
+
+returns : tie.Need-returns
+returns c = search (steps, needs)
+
 boolean-of-requires : tie.Need-boolean-of-requires
 boolean-of-requires c κs = search needs
 
 enum-told : tie.Need-enum-told
 enum-told c = search needs
 
-returns : tie.Need-returns
-returns c = search (steps, needs)
+returns-2 : tie.Need-returns-2
+returns-2 c = search (steps, needs)
 
 enum-told-2 : tie.Need-enum-told-2
 enum-told-2 c = search needs
@@ -22,8 +28,8 @@ integer-of-requires c κs = search needs
 enum-told-3 : tie.Need-enum-told-3
 enum-told-3 c = search needs
 
-returns-2 : tie.Need-returns-2
-returns-2 c = search (steps, needs)
+returns-3 : tie.Need-returns-3
+returns-3 c = search (steps, needs)
 
 enum-told-4 : tie.Need-enum-told-4
 enum-told-4 c = search needs
@@ -34,8 +40,8 @@ date-of-requires c κs = search needs
 enum-told-5 : tie.Need-enum-told-5
 enum-told-5 c = search needs
 
-returns-3 : tie.Need-returns-3
-returns-3 c = search (steps, needs)
+returns-4 : tie.Need-returns-4
+returns-4 c = search (steps, needs)
 
 enum-told-6 : tie.Need-enum-told-6
 enum-told-6 c = search needs
@@ -46,33 +52,35 @@ time-of-requires c κs = search needs
 enum-told-7 : tie.Need-enum-told-7
 enum-told-7 c = search needs
 
-returns-4 : tie.Need-returns-4
-returns-4 c = search (steps, needs)
+returns-5 : tie.Need-returns-5
+returns-5 c = search (steps, needs)
 
 enum-told-8 : tie.Need-enum-told-8
 enum-told-8 c = search needs
 
-returns-5 : tie.Need-returns-5
-returns-5 c = search (steps, needs)
+returns-6 : tie.Need-returns-6
+returns-6 c = search (steps, needs)
 
 pub good-spec : {M : Type 1} → statement M
 good-spec =
     tie.close
     (tie.spec
+    short-integer-requires
+    returns
     boolean-of-requires
     enum-told
-    returns
+    returns-2
     enum-told-2
     integer-of-requires
     enum-told-3
-    returns-2
+    returns-3
     enum-told-4
     date-of-requires
     enum-told-5
-    returns-3
+    returns-4
     enum-told-6
     time-of-requires
     enum-told-7
-    returns-4
+    returns-5
     enum-told-8
-    returns-5)
+    returns-6)
