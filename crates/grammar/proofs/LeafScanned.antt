@@ -28,8 +28,8 @@ use Rattle.refusals.proofs.Tokens.{strict-of}
 use Rattle.meaning.specs.Constraints.{Text, Leaf, booleans, integers, dates}
 use Rattle.meaning.specs.Constraints
 use Rattle.meaning.specs.Counting.{leafRecords, leafPool, textPool}
-use Rattle.items.specs.Intervals.{Ends, ends, undecided, kindBy, least, most, after, valueOf, possible, literal, upTo, above, withLiteral, between, empty, closed, Interval, interval}
-use Rattle.items.specs.Intervals
+use Rattle.intervals.specs.Intervals.{Ends, ends, undecided, kindBy, least, most, after, valueOf, possible, literal, upTo, above, withLiteral, between, empty, closed, Interval, interval}
+use Rattle.intervals.specs.Intervals
 use Rattle.items.specs.Ranges.{Start, start, overlaps, Ranges, range, ranges}
 use Rattle.items.specs.Ranges
 use Rattle.items.specs.Strings.{startString, strings, goOnStrings}

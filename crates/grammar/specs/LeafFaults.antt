@@ -19,7 +19,7 @@ use Rattle.values.specs.Integers.{Pair, pair, inside, around}
 use Rattle.refusals.specs.Limits.{recordLimit, poolLimit, stringLimit, itemLimit}
 use Rattle.refusals.specs.declared.Cause.the-variants.{EndsEarly, TooLong, Impossible, OutOfRange, EmptyInterval, TooManyItems, TooManyRecords, Overlap, PoolTooLarge}
 use Rattle.refusals.specs.Refusals.{refusal}
-use Rattle.items.specs.Intervals.{Ends, ends, least, most, after, valueOf, empty, closed}
+use Rattle.intervals.specs.Intervals.{Ends, ends, least, most, after, valueOf, empty, closed}
 use Rattle.items.specs.Ranges.{overlaps}
 use Rattle.items.specs.Leaves.{isBoolean, booleanFlag}
 use Rattle.constraint.specs.Objects.{Count, count}
