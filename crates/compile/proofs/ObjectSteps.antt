@@ -33,12 +33,13 @@ use Rattle.constraint.specs.declared.heads.ObjectHead.{ObjectHead}
 use Rattle.constraint.specs.declared.heads.ObjectHead.the-variants as objectHeadRead
 use Rattle.constraint.specs.declared.heads.AttributeHead.the-variants as attributeHeadRead
 use Rattle.table.specs.Records.{recordSize, encode, encodes}
-use Rattle.compile.specs.Flatten.{attributesLink, objectTable, attributesTable, valueTable}
-use Rattle.compile.specs.Answers.{spot, wrote, written, leafValue, Room, TreeIs, Stacked, objectRow, EndIs, ObjectPut}
-use Rattle.compile.specs.declared.spots.Spot.{Spot}
-use Rattle.compile.specs.declared.spots.TreeRead.{TreeRead}
-use Rattle.compile.specs.declared.spots.TreeRead.the-variants.{Refused, Read}
-use Rattle.compile.proofs.WritingSteps.{front}
+use Rattle.flatten.specs.Flatten.{attributesLink, objectTable, attributesTable, valueTable}
+use Rattle.emission.specs.Answers.{spot, wrote, written, leafValue, Room, objectRow, ObjectPut}
+use Rattle.compile.specs.Answers.{TreeIs, Stacked, EndIs}
+use Rattle.emission.specs.declared.spots.Spot.{Spot}
+use Rattle.emission.specs.declared.spots.TreeRead.{TreeRead}
+use Rattle.emission.specs.declared.spots.TreeRead.the-variants.{Refused, Read}
+use Rattle.emission.proofs.WritingSteps.{front}
 use Rattle.compile.proofs.ReadingLaws.{behindHead, object-refused, object-levels, object-got, HeadRead, object-head-holds, Linked, linked}
 
 -- ---- the `}` of an object that any attribute may follow

@@ -35,17 +35,18 @@ use Rattle.table.specs.Records.{Record, recordSize, encode, encodes, bytesOf}
 use Rattle.table.specs.Answers.{recordOf}
 use Rattle.table.specs.declared.records.Entry.{Entry}
 use Rattle.table.proofs.RecordLaws.{length-encode, length-encodes}
-use Rattle.compile.specs.Flatten.{make, objectTable, imageOfTree}
+use Rattle.flatten.specs.Flatten.{make, objectTable, imageOfTree}
 use Rattle.compile.specs.Answer.{compiling, done, write, compileAnswer}
 use Rattle.compile.specs.Answer
-use Rattle.compile.specs.Answers.{CopyFits, PartPut, spot, written, Stacked, TreeIs, answerOf, tableWritten, TableRoom, finished}
-use Rattle.compile.specs.declared.spots.Spot.{Spot}
-use Rattle.compile.specs.declared.spots.TreeRead.{TreeRead}
-use Rattle.compile.specs.declared.spots.TreeRead.the-variants.{Refused, Read}
+use Rattle.emission.specs.Answers.{CopyFits, PartPut, spot, written}
+use Rattle.compile.specs.Answers.{Stacked, TreeIs, answerOf, tableWritten, TableRoom, finished}
+use Rattle.emission.specs.declared.spots.Spot.{Spot}
+use Rattle.emission.specs.declared.spots.TreeRead.{TreeRead}
+use Rattle.emission.specs.declared.spots.TreeRead.the-variants.{Refused, Read}
 use Rattle.compile.specs.declared.CompileResult.{CompileResult}
 use Rattle.compile.specs.declared.CompileResult.the-variants as result
-use Rattle.compile.proofs.FlattenLaws.{object-length}
-use Rattle.compile.proofs.TreeWriting.{five-object, row-below, IsTree, is-tree, is-refused}
+use Rattle.flatten.proofs.FlattenLaws.{object-length}
+use Rattle.emission.proofs.TreeWriting.{five-object, row-below, IsTree, is-tree, is-refused}
 
 -- ---- the records and the pool in the output
 

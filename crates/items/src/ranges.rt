@@ -1,10 +1,10 @@
 // Lists of integer items and of date intervals.
+use crate::spans::put;
 use intervals::ends::IntervalRead;
 use intervals::ends::UNDECIDED;
 use intervals::ends::interval;
 use intervals::literals::LiteralRead;
 use intervals::literals::literal;
-use crate::spans::put;
 use lexis::BAR;
 use lexis::COMMA;
 use lexis::DATE;

@@ -20,10 +20,10 @@ use Rattle.compile.proofs.objects.+read_attribute+read_attributes+read_
 use Rattle.compile.proofs.objects.read_value.Reads as read-value
 use Rattle.compile.proofs.objects.read_value.Kinds as read-value-kinds
 use Rattle.compile.proofs.objects.+read_attribute+read_attributes+read_object+read_value.Lts-read_value as read-value-lts
-use Rattle.compile.proofs.heads.close_attribute.Reads as close-attribute-reads
-use Rattle.compile.proofs.heads.keep_name.Reads as keep-name-reads
-use Rattle.compile.proofs.heads.open_object.Reads as open-object-reads
-use Rattle.compile.proofs.leaves.write_leaf.Reads as write-leaf-reads
+use Rattle.emission.proofs.heads.close_attribute.Reads as close-attribute-reads
+use Rattle.emission.proofs.heads.keep_name.Reads as keep-name-reads
+use Rattle.emission.proofs.heads.open_object.Reads as open-object-reads
+use Rattle.emission.proofs.leaves.write_leaf.Reads as write-leaf-reads
 use Rattle.compile.proofs.objects.close_object.Reads as close-object-reads
 use Rattle.constraint.proofs.heads.attribute_head.Reads as attribute-head-reads
 use Rattle.constraint.proofs.heads.object_head.Reads as object-head-reads
