@@ -1,4 +1,8 @@
 // Objects and attributes, read and written; the levels left fall from object to object.
+use constraint::heads::AttributeHead;
+use constraint::heads::ObjectHead;
+use constraint::heads::attribute_head;
+use constraint::heads::object_head;
 use emission::heads::close_attribute;
 use emission::heads::keep_name;
 use emission::heads::open_object;
@@ -6,10 +10,6 @@ use emission::leaves::write_leaf;
 use emission::spots::AttributeRead;
 use emission::spots::Spot;
 use emission::spots::TreeRead;
-use constraint::heads::AttributeHead;
-use constraint::heads::ObjectHead;
-use constraint::heads::attribute_head;
-use constraint::heads::object_head;
 use lexis::CLOSE_BRACE;
 use lexis::STAR;
 use lexis::TYPE_NAME;

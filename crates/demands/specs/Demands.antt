@@ -32,9 +32,9 @@ use Rattle.grammar.specs.ConstraintGrammar.{DerivesConstraint}
 use Rattle.grammar.specs.DataGrammar.{DerivesData}
 use Rattle.grammar.specs.Admits.{Admits}
 use Rattle.grammar.specs.FirstFailure.{FirstFailure}
-use Rattle.grammar.specs.Faults.{Least, Alike}
-use Rattle.grammar.specs.ConstraintFaults
-use Rattle.grammar.specs.DataFaults
+use Rattle.faults.specs.Faults.{Least, Alike}
+use Rattle.faults.specs.ConstraintFaults
+use Rattle.faults.specs.DataFaults
 
 -- what two texts alone mean: no table is made on the way. (A constraint text that is refused has no meaning; its refusal stands in, and demand 3 never asks for it.)
 abbrev pub meaningBy : Reading Object → List ℕ → JudgeAnswer

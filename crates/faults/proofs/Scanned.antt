@@ -28,10 +28,10 @@ use Rattle.refusals.specs.Refusals.{refusal, numberOf}
 use Rattle.refusals.proofs.Tokens.{strict-of}
 use Rattle.data.specs.Placed.{Span, Block, block, noMore, entry, string, word, inside}
 use Rattle.data.specs.Data.{expect, typeFrom, leafFrom, Down, typed, contentFrom, nameFrom, members, blockFrom, outermost, blockOf, spanOf, innerSpan}
-use Rattle.grammar.specs.Faults.{andThen, noting, Least, Alike}
-use Rattle.grammar.specs.DataFaults.{Part, scanToken, scanType, scanString, scanWord, scanContent, scanName, scanMembers, scanBlock, scanOutermost, faults}
+use Rattle.faults.specs.Faults.{andThen, noting, Least, Alike}
+use Rattle.faults.specs.DataFaults.{Part, scanToken, scanType, scanString, scanWord, scanContent, scanName, scanMembers, scanBlock, scanOutermost, faults}
 use Rattle.grammar.proofs.Leaves.{false-true}
-use Rattle.grammar.proofs.Scans.{Lies, Within, within-passed, within-weaken, within-noting, within-next, within-cond, syntax-within, wanted-within, wanted-then, samePlace, Agree, later-within, later-noting, agree-cond, agree-noting, agree-map, agree-syntax, agree-passed, agree-then, wanted-agree, wanted-then-agree, unit, text-faultless, text-least, text-lies, text-refused}
+use Rattle.faults.proofs.Scans.{Lies, Within, within-passed, within-weaken, within-noting, within-next, within-cond, syntax-within, wanted-within, wanted-then, samePlace, Agree, later-within, later-noting, agree-cond, agree-noting, agree-map, agree-syntax, agree-passed, agree-then, wanted-agree, wanted-then-agree, unit, text-faultless, text-least, text-lies, text-refused}
 
 module _ (s : List ℕ) where
   token-within : (sort from : ℕ) → from ≤ length s → Within s from from (scanToken s sort from)

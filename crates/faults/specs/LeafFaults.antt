@@ -23,7 +23,7 @@ use Rattle.intervals.specs.Intervals.{Ends, ends, least, most, after, valueOf, 
 use Rattle.items.specs.Ranges.{overlaps}
 use Rattle.items.specs.Leaves.{isBoolean, booleanFlag}
 use Rattle.constraint.specs.Objects.{Count, count}
-use Rattle.grammar.specs.Faults.{Scan, ended, passed, andThen, noting, syntax, wanted}
+use Rattle.faults.specs.Faults.{Scan, ended, passed, andThen, noting, syntax, wanted}
 
 -- a token of the sort asked for
 abbrev pub scanToken : List ℕ → ℕ → ℕ → Scan Token

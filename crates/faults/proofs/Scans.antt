@@ -20,8 +20,8 @@ use Rattle.refusals.specs.declared.Cause.the-variants.{TextTooLong}
 use Rattle.refusals.specs.declared.Refusal.{Refusal}
 use Rattle.refusals.specs.Refusals.{refusal, numberOf}
 use Rattle.refusals.specs.Steps.{syntaxCause, syntaxFault}
 use Rattle.grammar.proofs.Leaves.{false-true}
-use Rattle.grammar.specs.Faults.{Scan, ended, passed, faultsIn, and, andThen, noting, syntax, wanted, textFaults, Precedes, Least, Alike}
+use Rattle.faults.specs.Faults.{Scan, ended, passed, faultsIn, and, andThen, noting, syntax, wanted, textFaults, Precedes, Least, Alike}
 
 -- what holds of all faults of a list
 pub data All (P : Refusal → Type 0) : List Refusal → Type 0 where

@@ -35,13 +35,13 @@ use Rattle.items.specs.Ranges
 use Rattle.items.specs.Strings.{startString, strings, goOnStrings}
 use Rattle.items.specs.Leaves.{isBoolean, booleanFlag, secondBoolean, booleanList, rangeLeaf, patternFlag, leaf}
 use Rattle.constraint.specs.Objects.{Count, count}
-use Rattle.grammar.specs.Faults.{Scan, ended, passed, faultsIn, and, andThen, noting, syntax, wanted}
-use Rattle.grammar.specs.LeafFaults.{scanToken, unknown, scanLiteral, scanUpTo, scanAbove, outside, scanSpread, scanFrom, scanEnds, isEmpty, scanInterval, point, scanValue, sound, overlapping, keep, scanItem, scanMore, scanItems, firstLiteral, listKind, scanString, scanStrings, scanSecond, scanBooleans, scanPattern, isPattern, scanLeaf}
-use Rattle.grammar.specs.LeafFaults
+use Rattle.faults.specs.Faults.{Scan, ended, passed, faultsIn, and, andThen, noting, syntax, wanted}
+use Rattle.faults.specs.LeafFaults.{scanToken, unknown, scanLiteral, scanUpTo, scanAbove, outside, scanSpread, scanFrom, scanEnds, isEmpty, scanInterval, point, scanValue, sound, overlapping, keep, scanItem, scanMore, scanItems, firstLiteral, listKind, scanString, scanStrings, scanSecond, scanBooleans, scanPattern, isPattern, scanLeaf}
+use Rattle.faults.specs.LeafFaults
 use Rattle.grammar.proofs.Leaves.{false-true, or-cases}
 use Rattle.grammar.proofs.Given.{Gives, got-gives, refuse-gives, cond-gives, unless-gives, then-gives, any-gives, given}
 use Rattle.grammar.proofs.Items.{Kind, isInteger, isDate}
-use Rattle.grammar.proofs.Scans.{All, allNone, Within, withinEnded, withinPassed, within-passed, within-weaken, within-noting, within-note, within-unmade, within-then, within-next, within-cond, syntax-within, wanted-then, Later, samePlace, First, firstOf, Agree, bothRefuse, bothPass, later-within, later-none, later-noting, later-then, first-noting, first-and, first-under, and-none, passes-low, agree-cond, agree-or, agree-noting, made-agree, unmade-agree, agree-map, agree-syntax, agree-passed, agree-then, wanted-then-agree}
+use Rattle.faults.proofs.Scans.{All, allNone, Within, withinEnded, withinPassed, within-passed, within-weaken, within-noting, within-note, within-unmade, within-then, within-next, within-cond, syntax-within, wanted-then, Later, samePlace, First, firstOf, Agree, bothRefuse, bothPass, later-within, later-none, later-noting, later-then, first-noting, first-and, first-under, and-none, passes-low, agree-cond, agree-or, agree-noting, made-agree, unmade-agree, agree-map, agree-syntax, agree-passed, agree-then, wanted-then-agree}
 
 module _ (s : List ℕ) where
   -- a note at a token that is passed

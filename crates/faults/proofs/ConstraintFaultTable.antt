@@ -6,10 +6,10 @@ use lib.ListN.{replicate, length}
 use Rattle.lexis.specs.Text.{bytes}
 use Rattle.items.proofs.Computes.{itemsCompute}
 use Rattle.constraint.specs.Objects.{count}
-use Rattle.grammar.specs.Faults.{faultsIn, and, andThen, noting, wanted}
-use Rattle.grammar.specs.LeafFaults.{sound, scanLiteral, scanUpTo, scanAbove, scanSpread, scanFrom, scanEnds, scanInterval, scanValue, scanItems, scanStrings, scanSecond, scanBooleans, scanPattern, scanLeaf}
-use Rattle.grammar.specs.ConstraintFaults.{scanOpening, scanBounds, scanExistence, scanType, scanCode, scanName, scanContent, scanAttribute, scanAttributes, scanBody, scanObject, faults}
-use Rattle.grammar.proofs.FaultTable.{told}
+use Rattle.faults.specs.Faults.{faultsIn, and, andThen, noting, wanted}
+use Rattle.faults.specs.LeafFaults.{sound, scanLiteral, scanUpTo, scanAbove, scanSpread, scanFrom, scanEnds, scanInterval, scanValue, scanItems, scanStrings, scanSecond, scanBooleans, scanPattern, scanLeaf}
+use Rattle.faults.specs.ConstraintFaults.{scanOpening, scanBounds, scanExistence, scanType, scanCode, scanName, scanContent, scanAttribute, scanAttributes, scanBody, scanObject, faults}
+use Rattle.faults.proofs.FaultTable.{told}
 
 unfoldable scansCompute : Unit {0}
 unfolding itemsCompute faultsIn and andThen noting wanted sound scanLiteral scanUpTo scanAbove scanSpread scanFrom scanEnds scanInterval scanValue scanItems scanStrings scanSecond scanBooleans scanPattern scanLeaf scanOpening scanBounds scanExistence scanType scanCode scanName scanContent scanAttribute scanAttributes scanBody scanObject faults

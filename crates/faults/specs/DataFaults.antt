@@ -17,7 +17,7 @@ use Rattle.refusals.specs.Limits.{levelLimit, nameLimit, stringLimit}
 use Rattle.refusals.specs.declared.Cause.the-variants.{EndsEarly, TooDeep, TooLong, BadWord, RepeatedName}
 use Rattle.refusals.specs.declared.Refusal.{Refusal}
 use Rattle.refusals.specs.Refusals.{refusal}
-use Rattle.grammar.specs.Faults.{Scan, ended, passed, andThen, noting, syntax, wanted, textFaults}
+use Rattle.faults.specs.Faults.{Scan, ended, passed, andThen, noting, syntax, wanted, textFaults}
 
 -- a scan of which the parts behind need nothing but the place
 abbrev pub Part : Type 0

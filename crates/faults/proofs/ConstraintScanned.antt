@@ -28,12 +28,12 @@ use Rattle.items.specs.Leaves
 use Rattle.constraint.specs.Existence.{opening, isNought, isOne, fromNought, fromOne, bounds, existenceFrom}
 use Rattle.constraint.specs.Objects.{Count, count, objectType, objectCode, attributeName, value, Attribute, attributeFrom, past, attributes, body, objectFrom}
 use Rattle.constraint.specs.Texts.{constraintOf}
-use Rattle.grammar.specs.Faults.{Scan, passed, andThen, syntax, wanted, Least, Alike}
-use Rattle.grammar.specs.LeafFaults.{scanToken}
-use Rattle.grammar.specs.ConstraintFaults.{scanOpening, scanBounds, scanExistence, scanType, scanCode, scanName, scanContent, behind, scanAttribute, scanAttributes, scanBody, scanObject, faults}
+use Rattle.faults.specs.Faults.{Scan, passed, andThen, syntax, wanted, Least, Alike}
+use Rattle.faults.specs.LeafFaults.{scanToken}
+use Rattle.faults.specs.ConstraintFaults.{scanOpening, scanBounds, scanExistence, scanType, scanCode, scanName, scanContent, behind, scanAttribute, scanAttributes, scanBody, scanObject, faults}
 use Rattle.grammar.proofs.Given.{Gives, refuse-gives, any-gives, given}
-use Rattle.grammar.proofs.Scans.{Lies, Within, within-passed, within-weaken, within-note, within-next, within-cond, syntax-within, wanted-within, wanted-then, samePlace, Agree, later-none, later-noting, agree-cond, agree-or, agree-noting, agree-map, agree-syntax, agree-passed, agree-then, wanted-agree, wanted-then-agree, unit, text-faultless, text-least, text-lies, text-refused}
-use Rattle.grammar.proofs.LeafScanned.{none-count, leaf-within, leaf-agree}
+use Rattle.faults.proofs.Scans.{Lies, Within, within-passed, within-weaken, within-note, within-next, within-cond, syntax-within, wanted-within, wanted-then, samePlace, Agree, later-none, later-noting, agree-cond, agree-or, agree-noting, agree-map, agree-syntax, agree-passed, agree-then, wanted-agree, wanted-then-agree, unit, text-faultless, text-least, text-lies, text-refused}
+use Rattle.faults.proofs.LeafScanned.{none-count, leaf-within, leaf-agree}
 
 abbrev itself : Token → Token
 itself t = t

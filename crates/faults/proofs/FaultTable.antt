@@ -7,8 +7,8 @@ use Rattle.lexis.specs.Text.{bytes}
 use Rattle.values.proofs.Computes.{valuesCompute}
 use Rattle.refusals.specs.declared.Refusal.{Refusal}
 use Rattle.refusals.specs.Refusals.{numberOf}
-use Rattle.grammar.specs.Faults.{faultsIn, and, andThen, noting, wanted}
-use Rattle.grammar.specs.DataFaults.{faults, scanToken, scanType, scanString, scanWord, scanContent, scanName, scanMembers, scanBlock, scanOutermost}
+use Rattle.faults.specs.Faults.{faultsIn, and, andThen, noting, wanted}
+use Rattle.faults.specs.DataFaults.{faults, scanToken, scanType, scanString, scanWord, scanContent, scanName, scanMembers, scanBlock, scanOutermost}
 
 -- numbers and places
 abbrev pub told : List Refusal → List ℕ

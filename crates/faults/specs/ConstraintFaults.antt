@@ -18,8 +18,8 @@ use Rattle.refusals.specs.declared.Refusal.{Refusal}
 use Rattle.refusals.specs.Refusals.{refusal}
 use Rattle.constraint.specs.Existence.{isNought, isOne}
 use Rattle.constraint.specs.Objects.{Count, count}
-use Rattle.grammar.specs.Faults.{Scan, ended, passed, andThen, noting, syntax, wanted, textFaults}
-use Rattle.grammar.specs.LeafFaults.{scanToken, scanLeaf}
+use Rattle.faults.specs.Faults.{Scan, ended, passed, andThen, noting, syntax, wanted, textFaults}
+use Rattle.faults.specs.LeafFaults.{scanToken, scanLeaf}
 
 -- `matches {`
 unfoldable pub scanOpening : List ℕ → ℕ → Scan Token
