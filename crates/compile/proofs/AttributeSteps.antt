@@ -191,5 +191,3 @@ module _ {s : List ℕ} {p : Spot} {first top : ℕ} {names : List ℕ} (room : 
 
 pub attribute-spans : {s : List ℕ} {p : Spot} {first top : ℕ} {names : List ℕ} → AttributeRoom s p first top names → length names ≡ 4_096 → SpansIn s names first top
 attribute-spans h l = record { room = let a = h .stacked .few in let b = h .stacked .room .records in omega arith; within = h .lies }
-
-pub ruleset attribute-steps = (attribute-spans, attribute-faulty, name-room, value-stacked, value-refused, value-closing, value-closed)

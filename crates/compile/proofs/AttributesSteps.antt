@@ -24,7 +24,6 @@ use Rattle.items.specs.Parts.{Kept}
 use Rattle.items.proofs.ItemLaws.{first-kept, second-kept, all-kept}
 use Rattle.lexis.proofs.Parts.{part-length}
 use Rattle.constraint.specs.Objects.{Count, count, value, Attribute, past, goOn, attributes, objectFrom}
-use Rattle.constraint.specs.declared.heads.AttributeHead.the-variants as attributeHeadRead
 use Rattle.constraint.proofs.TreeReading.{AttributeRead, attribute-holds, object-holds}
 use Rattle.table.specs.Records.{Record, recordSize, encodes}
 use Rattle.flatten.specs.Flatten.{attributesLink, valueLink, attributesTable, valueTable}
@@ -307,5 +306,3 @@ module _ {s : List ℕ} {little : Bool} {levels : ℕ} {p : Spot} {first : ℕ} 
 
 pub attributes-fits : {s : List ℕ} {q : Spot} {first top : ℕ} {names : List ℕ} → AttributeRoom s q first top names → top ≤ 2_048
 attributes-fits h = let a = h .stacked .few in let b = h .stacked .room .records in omega arith
-
-pub ruleset attributes-steps = (attributes-start, attributes-not, attributes-last, attributes-less, attributes-next, attributes-fits)

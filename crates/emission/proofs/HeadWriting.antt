@@ -1,8 +1,8 @@
 -- Steps of the functions that write what objects and attributes begin and end with. Assumes nothing.
 use mathlib.Core.Path.{_≡_, refl, sym, ap, _∙_}
-use mathlib.Core.Bool.{Bool, true, false}
+use mathlib.Core.Bool.{Bool, false}
 use mathlib.Core.List.{List}
-use Prim.Native.Nat.{ℕ, _+_, _*_, _-_, _≤_, _<_}
+use Prim.Native.Nat.{ℕ, _+_, _*_, _-_, _≤_}
 use native.Mathlib.Omega.{arith}
 use lib.ListN.{length}
 use lib.Seq.{sets}
@@ -13,7 +13,6 @@ use Rattle.lexis.specs.Tokens.{tokenAt}
 use Rattle.lexis.specs.Postconditions.{TokenIs}
 use Rattle.lexis.specs.declared.Token.{Token}
 use Rattle.lexis.proofs.Stores.{sets-behind}
-use Rattle.refusals.specs.Limits.{textLimit, recordLimit}
 use Rattle.refusals.specs.Steps.{expect}
 use Rattle.refusals.specs.Answers.{ExpectIs}
 use Rattle.refusals.specs.declared.Refusal.{Refusal}
@@ -27,16 +26,13 @@ use Rattle.table.specs.Records.{Record, recordSize, encode}
 use Rattle.table.specs.Answers.{recordOf}
 use Rattle.table.specs.declared.records.Entry.{Entry}
 use Rattle.flatten.specs.Flatten.{placeFor, make}
-use Rattle.emission.specs.Answers.{PartFits, PartPut, placeOf, linkBelow, spot, firstLink, objectRow, ObjectPut, NameRoom, NameKept, attributeRow, closedAttribute, CloseIs, CloseRoom, RowRoom}
+use Rattle.emission.specs.Answers.{PartFits, PartPut, placeOf, linkBelow, spot, firstLink, objectRow, ObjectPut, NameKept, attributeRow, closedAttribute, CloseIs, CloseRoom}
 use Rattle.emission.specs.declared.spots.Spot.{Spot}
 use Rattle.emission.specs.declared.spots.AttributeRead.the-variants.{Refused, Last, More}
 use Rattle.emission.proofs.WritingSteps.{place-part}
 
 pub first-there : (any : Bool) (n r : ℕ) → any ≡ false → r ≡ n + 1 → r ≡ firstLink any n
 first-there any n r a e = rw a e
-
-pub first-none : (any : Bool) (n : ℕ) → any ≡ true → 0 ≡ firstLink any n
-first-none any n a = rw a
 
 -- the entries of an object and of an attribute
 pub object-entry-is : (ts te cs ce pool first a b c d : ℕ) → a ≡ placeOf ts te pool → b ≡ te - ts → c ≡ placeOf cs ce (pool + (te - ts)) → d ≡ ce - cs
@@ -51,16 +47,7 @@ part-row : (s : List ℕ) (start end pool : ℕ) → Within s start end → (pla
 part-row s start end pool w = (place-part s start end pool w, sym (part-length s start end (w .inside)))
 
 -- what an object begins with
-module _ {s : List ℕ} {p : Spot} {ts te cs ce place : ℕ} (h : TypedPast s (p .next) (p .pool) (p .place) ts te cs ce place) (short : length s ≤ textLimit) where
-  pub type-row : RowRoom ts te (p .pool)
-  type-row = let t = h .type in let b = h .bytes in record { order = t .order; short = omega arith; room = omega arith }
-
-  pub code-row : RowRoom cs ce (p .pool + (te - ts))
-  code-row = let t = h .code in let b = h .bytes in record { order = t .order; short = omega arith; room = omega arith }
-
-  pub type-fits : PartFits s ts te (p .pool)
-  type-fits = let b = h .bytes in record { lies = h .type; room = omega arith }
-
+module _ {s : List ℕ} {p : Spot} {ts te cs ce place : ℕ} (h : TypedPast s (p .next) (p .pool) (p .place) ts te cs ce place) where
   module _ {bs bs1 : List ℕ} {middle : ℕ} (t : PartPut s ts te (p .pool) bs bs1 middle) where
     pub code-fits : PartFits s cs ce middle
     code-fits =
@@ -85,9 +72,6 @@ module _ {s : List ℕ} {p : Spot} {ts te cs ce place : ℕ} (h : TypedPast s (p
         }
 
 -- an attribute's name
-pub name-row : {s : List ℕ} {p : Spot} {start end top : ℕ} → NameRoom s p start end top → (start < 65_536) × (end < 65_536) × (top < recordLimit)
-name-row h = let a = h .part .lies in let b = h .short in let c = h .records in let d = h .few in (omega arith, omega arith, omega arith)
-
 pub name-kept : {s : List ℕ} {p : Spot} {start end top place : ℕ} {bs bs' names names' : List ℕ} {a b pool : ℕ} → a ≡ start → b ≡ end → names' ≡ withItem names top a b → PartPut s start end (p .pool) bs bs' pool
     → NameKept (part s start end) p place start end top bs names bs' names' (spot place (p .next + 1) pool)
 name-kept {p = p} {top = top} {place} {names = names} ea eb e k = record {
@@ -97,9 +81,6 @@ name-kept {p = p} {top = top} {place} {names = names} ea eb e k = record {
 }
 
 -- an attribute's record
-pub attribute-room : {s : List ℕ} {start end pool : ℕ} → PartFits s start end pool → length s ≤ textLimit → RowRoom start end pool
-attribute-room h k = let l = h .lies in record { order = l .order; short = omega arith; room = h .room }
-
 pub attribute-put : (p : Spot) (s : List ℕ) (start end : ℕ) (little : Bool) (flag last next value n : ℕ) (rs rs' : List ℕ) (e : Entry) → PartFits s start end (p .pool) → value ≡ linkBelow (p .next + 1) last → n ≡ next
     → recordOf e ≡ make 2 flag (placeOf start end (p .pool)) (end - start) value n 0 → rs' ≡ sets rs (recordSize * p .next) (encode little (recordOf e))
     → rs' ≡ sets rs (recordSize * p .next) (encode little (attributeRow flag (part s start end) (p .pool) (linkBelow (p .next + 1) last) next))
@@ -127,5 +108,3 @@ module _ {s : List ℕ} {p : Spot} {start end : ℕ} {q : Spot} (room : CloseRoo
           → CloseIs s little p flag (part s start end) q rs rs' (More (spot (close .end) (q .next) (q .pool)))
       unfolding closedAttribute
       close-more k w = record { is = λ bs. rw (expected-token e close g, ← tok .is, ne-eqb (t .sort) closeBrace k, w) }
-
-pub ruleset head-steps = (first-there, first-none, object-entry-is, attribute-entry-is, type-row, code-row, type-fits, code-fits, object-put, name-row, name-kept, attribute-room, attribute-put, close-fault, close-inside, close-last, close-more)

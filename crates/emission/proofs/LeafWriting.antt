@@ -3,7 +3,6 @@ use mathlib.Core.Path.{_≡_, refl}
 use mathlib.Core.Bool.{Bool}
 use mathlib.Core.List.{List, [], _∷_}
 use Prim.Native.Nat.{ℕ, _<_}
-use native.Mathlib.Omega.{arith}
 use lib.ListN.{length}
 use lib.Seq.{sets}
 use Rattle.refusals.specs.Limits.{recordLimit}
@@ -13,7 +12,7 @@ use Rattle.meaning.specs.Constraints.{Range, Leaf, booleans, integers, datePatt
 use Rattle.meaning.specs.Constraints
 use Rattle.meaning.specs.Counting.{leafPool, valuePool}
 use Rattle.items.specs.Leaves.{leaf}
-use Rattle.items.specs.Answers.{itemsFrom, rangeAt, textAt, LeafRoom, leafReading, Strings, LeafPast, LeafIs}
+use Rattle.items.specs.Answers.{itemsFrom, rangeAt, textAt, leafReading, Strings, LeafPast, LeafIs}
 use Rattle.items.specs.declared.leaves.LeafRead.{LeafRead}
 use Rattle.items.specs.declared.leaves.LeafRead.the-variants as leafRead
 use Rattle.table.specs.Records.{Record}
@@ -33,9 +32,6 @@ dates-table : (l : List Range) → rangesTable 7 l ≡ dateRecords l
 unfolding rangesTable
 dates-table [] = refl
 dates-table (x ∷ xs) = rw (dates-table xs)
-
-pub leaf-room : {s : List ℕ} {p : Spot} → Room s p → LeafRoom s (p .next) (p .pool) (p .place)
-leaf-room h = record { inside = h .inside; short = h .short; records = h .records; bytes = let a = h .bytes in let b = h .inside in let c = h .short in omega arith }
 
 module _ {s : List ℕ} {p : Spot} (room : Room s p) {scratch : List ℕ} {o : LeafRead} (e : LeafIs s (p .next) (p .pool) (p .place) (leaf s (p .next) (p .pool) (p .place)) scratch o) where
   read : (k : LeafRead) → o ≡ k → leafReading s (p .next) scratch k ≡ leaf s (p .next) (p .pool) (p .place)
@@ -91,20 +87,3 @@ module _ {s : List ℕ} {p : Spot} (room : Room s p) {scratch : List ℕ} {o : L
 
   pub strings-room : (count place : ℕ) → o ≡ leafRead.Strings count place → TextsRoom s p scratch count
   strings-room count place g = let h = past _ g .texts in record { few = h .few; short = room .short; records = h .records; spans = h .spans; bytes = h .bytes }
-
-pub ruleset leaf-steps = (
-  leaf-room,
-  leaf-faulty,
-  leaf-booleans,
-  leaf-date-pattern,
-  leaf-time-pattern,
-  leaf-integers,
-  leaf-dates,
-  leaf-strings,
-  booleans-room,
-  date-pattern-room,
-  time-pattern-room,
-  integers-room,
-  dates-room,
-  strings-room,
-)

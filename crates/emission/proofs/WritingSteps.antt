@@ -13,7 +13,7 @@ use borrow.Author.Tests.{eq-eqb, ne-eqb, lt-ltb, le-ltb, ltb-true, ltb-false}
 use Rattle.lexis.specs.Runs.{part}
 use Rattle.lexis.proofs.Stores.{sets-behind}
 use Rattle.values.specs.Integers.{twosComplement}
-use Rattle.meaning.specs.Constraints.{Range, Text}
+use Rattle.meaning.specs.Constraints.{Range}
 use Rattle.meaning.specs.Counting.{textPool}
 use Rattle.meaning.specs.Admission.{firstRange, firstText}
 use Rattle.items.specs.Spans.{firstOf, secondOf, spanAt, Within}
@@ -81,9 +81,6 @@ module _ {s : List ℕ} {start end at : ℕ} {before : List ℕ} {i to : ℕ} {b
       let b = inv .here in
       let n = part-length s start end (l .inside) in
       record { behind = omega arith; bytes = rw (part-none s i end h) at (inv .is) }
-
-pub part-copied : {s : List ℕ} {start end at : ℕ} {bytes : List ℕ} → PartFits s start end at → length bytes ≡ 16_384 → CopyFits s start end bytes at
-part-copied h l = record { lies = h .lies; room = let r = h .room in omega arith }
 
 -- a part's place in the pool
 pub place-part : (s : List ℕ) (start end at : ℕ) → Within s start end → placeOf start end at ≡ placeFor (part s start end) at
@@ -194,9 +191,6 @@ string-put s scratch i n end at start stop little rs bs rs' bs' place size next 
       bytes = put .bytes;
     })
 
-pub string-part : (s scratch : List ℕ) (i n at start stop : ℕ) → TextFits s scratch i n at → start ≡ firstOf scratch i → stop ≡ secondOf scratch i → PartFits s start stop at
-string-part s scratch i n at start stop fits a b = rw (a, b) (fits .part)
-
 -- the strings before item i are written: with those that are left the records and the pool are what they are to be
 abbrev textsLeft : List ℕ → Bool → List ℕ → ℕ → ℕ → ℕ → ℕ → List ℕ → List ℕ
 textsLeft s little scratch m i k pool rs = sets rs (recordSize * m) (encodes little (stringRecords pool (itemsFrom (textAt s scratch) m i k)))
@@ -263,5 +257,3 @@ module _ {s : List ℕ} {little : Bool} {p : Spot} {scratch : List ℕ} {count e
         puts = record { answer = λ t. Read (spot place (n t) (m t)); records = rw a at (inv .records) };
         bytes = rw a at (inv .bytes);
       }
-
-pub ruleset writing-steps = (pick-there, pick-none, end-integer, end-date, part-starts, part-goes-on, part-ends, part-copied, single-put, range-row, range-put, string-part, string-put, ranges-start, ranges-go-on, ranges-end, texts-start, texts-fit, texts-go-on, texts-end)

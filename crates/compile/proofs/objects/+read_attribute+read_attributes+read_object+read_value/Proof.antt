@@ -5,9 +5,9 @@ use lib.ListN.{length}
 use borrow.Author.Needs.{needs}
 use borrow.Fn.Kinds.{In}
 use borrow.Fn.PlainCycle.{Measures, is, falls, and}
-use Rattle.compile.proofs.ObjectSteps.{object-level, object-more, object-attributes, object-steps}
-use Rattle.compile.proofs.AttributeSteps.{value-refused, value-closing, value-closed, attribute-steps}
-use Rattle.compile.proofs.AttributesSteps.{InAttributes, attributes-start, attributes-next, attributes-steps}
+use Rattle.compile.proofs.ObjectSteps.{counted, object-faulty, object-past, object-inside, object-level, object-any, object-more, object-attributes, value-any, value-object, value-leaf}
+use Rattle.compile.proofs.AttributeSteps.{attribute-spans, attribute-faulty, name-room, value-stacked, value-refused, value-closing, value-closed}
+use Rattle.compile.proofs.AttributesSteps.{InAttributes, attributes-start, attributes-not, attributes-last, attributes-less, attributes-next, attributes-fits}
 use Rattle.compile.proofs.objects.read_attribute.Reads as read-attribute
 use Rattle.compile.proofs.objects.read_attribute.Kinds as read-attribute-kinds
 use Rattle.compile.proofs.objects.+read_attribute+read_attributes+read_object+read_value.Lts-read_attribute as read-attribute-lts
@@ -105,7 +105,7 @@ read-attribute-attribute-head-requires : (t : ℕ) → read-attribute-lts.Need-a
   close-attribute-reads.Asked,
   close-attribute-reads.Learnt,
 ) (read-attribute-at t) read-attribute.Post
-read-attribute-attribute-head-requires t c κs = search (object-steps, attribute-steps, attributes-steps, needs)
+read-attribute-attribute-head-requires t c κs = search (counted, attribute-spans, needs)
 
 read-attribute-enum-known-fault : (t : ℕ) → read-attribute-lts.Need-enum-known-fault (
   attribute-head-reads.Asked,
@@ -129,7 +129,7 @@ read-attribute-returns : (t : ℕ) → read-attribute-lts.Need-returns (
   close-attribute-reads.Asked,
   close-attribute-reads.Learnt,
 ) (read-attribute-at t) read-attribute.Post
-read-attribute-returns t c = search (object-steps, attribute-steps, attributes-steps, needs)
+read-attribute-returns t c = search attribute-faulty
 
 read-attribute-enum-known-start : (t : ℕ) → read-attribute-lts.Need-enum-known-start (
   attribute-head-reads.Asked,
@@ -153,7 +153,7 @@ read-attribute-keep-name-requires : (t : ℕ) → read-attribute-lts.Need-keep-n
   close-attribute-reads.Asked,
   close-attribute-reads.Learnt,
 ) (read-attribute-at t) read-attribute.Post
-read-attribute-keep-name-requires t c κs = search (object-steps, attribute-steps, attributes-steps, needs)
+read-attribute-keep-name-requires t c κs = search name-room
 
 read-attribute-add-read-value : (t : ℕ) → read-attribute-lts.Need-add-read-value (
   attribute-head-reads.Asked,
@@ -165,7 +165,7 @@ read-attribute-add-read-value : (t : ℕ) → read-attribute-lts.Need-add-read-v
   close-attribute-reads.Asked,
   close-attribute-reads.Learnt,
 ) (read-attribute-at t) read-attribute.Post
-read-attribute-add-read-value t c = search (object-steps, attribute-steps, attributes-steps, needs)
+read-attribute-add-read-value t c = search needs
 
 read-attribute-read-value-requires : (t : ℕ) → read-attribute-lts.Need-read-value-requires (
   attribute-head-reads.Asked,
@@ -177,7 +177,7 @@ read-attribute-read-value-requires : (t : ℕ) → read-attribute-lts.Need-read-
   close-attribute-reads.Asked,
   close-attribute-reads.Learnt,
 ) (read-attribute-at t) read-attribute.Post
-read-attribute-read-value-requires t c κs = (search needs, search (object-steps, attribute-steps, attributes-steps, needs))
+read-attribute-read-value-requires t c κs = (search needs, search value-stacked)
 
 read-attribute-enum-known-fault-2 : (t : ℕ) → read-attribute-lts.Need-enum-known-fault-2 (
   attribute-head-reads.Asked,
@@ -280,7 +280,7 @@ read-attributes-read-attribute-requires :
       read-attribute-below t,
       read-attribute.Post,
     ) (read-attributes-at t) read-attributes.Post read-attributes-Inv-loop read-attributes-μ-loop
-read-attributes-read-attribute-requires t c κs = (search needs, search (object-steps, attribute-steps, attributes-steps, needs))
+read-attributes-read-attribute-requires t c κs = (search needs, search needs)
 
 read-attributes-enum-known-fault : (t : ℕ) → read-attributes-lts.Need-enum-known-fault (
   read-attribute-below t,
@@ -292,7 +292,7 @@ read-attributes-returns : (t : ℕ) → read-attributes-lts.Need-returns (
   read-attribute-below t,
   read-attribute.Post,
 ) (read-attributes-at t) read-attributes.Post read-attributes-Inv-loop read-attributes-μ-loop
-read-attributes-returns t c = search (object-steps, attribute-steps, attributes-steps, needs)
+read-attributes-returns t c = search attributes-not
 
 read-attributes-enum-known-behind : (t : ℕ) → read-attributes-lts.Need-enum-known-behind (
   read-attribute-below t,
@@ -304,7 +304,7 @@ read-attributes-returns-2 : (t : ℕ) → read-attributes-lts.Need-returns-2 (
   read-attribute-below t,
   read-attribute.Post,
 ) (read-attributes-at t) read-attributes.Post read-attributes-Inv-loop read-attributes-μ-loop
-read-attributes-returns-2 t c = search (object-steps, attribute-steps, attributes-steps, needs)
+read-attributes-returns-2 t c = search attributes-last
 
 read-attributes-enum-known-behind-2 : (t : ℕ) → read-attributes-lts.Need-enum-known-behind-2 (
   read-attribute-below t,
@@ -316,13 +316,13 @@ read-attributes-add-top : (t : ℕ) → read-attributes-lts.Need-add-top (
   read-attribute-below t,
   read-attribute.Post,
 ) (read-attributes-at t) read-attributes.Post read-attributes-Inv-loop read-attributes-μ-loop
-read-attributes-add-top t c = search (object-steps, attribute-steps, attributes-steps, needs)
+read-attributes-add-top t c = search (attributes-fits, needs)
 
 read-attributes-loop-less : (t : ℕ) → read-attributes-lts.Need-loop-less (
   read-attribute-below t,
   read-attribute.Post,
 ) (read-attributes-at t) read-attributes.Post read-attributes-Inv-loop read-attributes-μ-loop
-read-attributes-loop-less t c = search (object-steps, attribute-steps, attributes-steps, needs)
+read-attributes-loop-less t c = search attributes-less
 
 read-attributes-loop-again : (t : ℕ) → read-attributes-lts.Need-loop-again (
   read-attribute-below t,
@@ -346,7 +346,7 @@ read-object-object-head-requires : (t : ℕ) → read-object-lts.Need-object-hea
   read-attributes-below t,
   read-attributes.Post,
 ) (read-object-at t) read-object.Post
-read-object-object-head-requires t c κs = search (object-steps, attribute-steps, attributes-steps, needs)
+read-object-object-head-requires t c κs = search (counted, needs)
 
 read-object-enum-known-fault : (t : ℕ) → read-object-lts.Need-enum-known-fault (
   object-head-reads.Asked,
@@ -374,7 +374,7 @@ read-object-returns : (t : ℕ) → read-object-lts.Need-returns (
   read-attributes-below t,
   read-attributes.Post,
 ) (read-object-at t) read-object.Post
-read-object-returns t c = search (object-steps, attribute-steps, attributes-steps, needs)
+read-object-returns t c = search object-faulty
 
 read-object-enum-known-a : (t : ℕ) → read-object-lts.Need-enum-known-a (
   object-head-reads.Asked,
@@ -402,7 +402,7 @@ read-object-token-at-requires : (t : ℕ) → read-object-lts.Need-token-at-requ
   read-attributes-below t,
   read-attributes.Post,
 ) (read-object-at t) read-object.Post
-read-object-token-at-requires t c κs = search (object-steps, attribute-steps, attributes-steps, needs)
+read-object-token-at-requires t c κs = search object-inside
 
 read-object-open-object-requires : (t : ℕ) → read-object-lts.Need-open-object-requires (
   object-head-reads.Asked,
@@ -416,7 +416,7 @@ read-object-open-object-requires : (t : ℕ) → read-object-lts.Need-open-objec
   read-attributes-below t,
   read-attributes.Post,
 ) (read-object-at t) read-object.Post
-read-object-open-object-requires t c κs = search (object-steps, attribute-steps, attributes-steps, needs)
+read-object-open-object-requires t c κs = search (object-past, needs)
 
 read-object-close-object-requires : (t : ℕ) → read-object-lts.Need-close-object-requires (
   object-head-reads.Asked,
@@ -430,7 +430,7 @@ read-object-close-object-requires : (t : ℕ) → read-object-lts.Need-close-obj
   read-attributes-below t,
   read-attributes.Post,
 ) (read-object-at t) read-object.Post
-read-object-close-object-requires t c κs = search (object-steps, attribute-steps, attributes-steps, needs)
+read-object-close-object-requires t c κs = search needs
 
 read-object-returns-2 : (t : ℕ) → read-object-lts.Need-returns-2 (
   object-head-reads.Asked,
@@ -444,7 +444,7 @@ read-object-returns-2 : (t : ℕ) → read-object-lts.Need-returns-2 (
   read-attributes-below t,
   read-attributes.Post,
 ) (read-object-at t) read-object.Post
-read-object-returns-2 t c = search (object-steps, attribute-steps, attributes-steps, needs)
+read-object-returns-2 t c = search object-any
 
 read-object-sub-read-attributes : (t : ℕ) → read-object-lts.Need-sub-read-attributes (
   object-head-reads.Asked,
@@ -458,7 +458,7 @@ read-object-sub-read-attributes : (t : ℕ) → read-object-lts.Need-sub-read-at
   read-attributes-below t,
   read-attributes.Post,
 ) (read-object-at t) read-object.Post
-read-object-sub-read-attributes t c = search (object-steps, attribute-steps, attributes-steps, needs)
+read-object-sub-read-attributes t c = search object-level
 
 read-object-read-attributes-requires : (t : ℕ) → read-object-lts.Need-read-attributes-requires (
   object-head-reads.Asked,
@@ -511,7 +511,7 @@ read-value-token-at-requires : (t : ℕ) → read-value-lts.Need-token-at-requir
   write-leaf-reads.Asked,
   write-leaf-reads.Learnt,
 ) (read-value-at t) read-value.Post
-read-value-token-at-requires t c κs = search (object-steps, attribute-steps, attributes-steps, needs)
+read-value-token-at-requires t c κs = search needs
 
 read-value-returns : (t : ℕ) → read-value-lts.Need-returns (
   token-at-reads.Asked,
@@ -521,7 +521,7 @@ read-value-returns : (t : ℕ) → read-value-lts.Need-returns (
   write-leaf-reads.Asked,
   write-leaf-reads.Learnt,
 ) (read-value-at t) read-value.Post
-read-value-returns t c = search (object-steps, attribute-steps, attributes-steps, needs)
+read-value-returns t c = search value-any
 
 read-value-read-object-requires : (t : ℕ) → read-value-lts.Need-read-object-requires (
   token-at-reads.Asked,
@@ -531,7 +531,7 @@ read-value-read-object-requires : (t : ℕ) → read-value-lts.Need-read-object-
   write-leaf-reads.Asked,
   write-leaf-reads.Learnt,
 ) (read-value-at t) read-value.Post
-read-value-read-object-requires t c κs = (search needs, search (object-steps, attribute-steps, attributes-steps, needs))
+read-value-read-object-requires t c κs = (search needs, search needs)
 
 read-value-returns-2 : (t : ℕ) → read-value-lts.Need-returns-2 (
   token-at-reads.Asked,
@@ -541,7 +541,7 @@ read-value-returns-2 : (t : ℕ) → read-value-lts.Need-returns-2 (
   write-leaf-reads.Asked,
   write-leaf-reads.Learnt,
 ) (read-value-at t) read-value.Post
-read-value-returns-2 t c = search (object-steps, attribute-steps, attributes-steps, needs)
+read-value-returns-2 t c = search value-object
 
 read-value-write-leaf-requires : (t : ℕ) → read-value-lts.Need-write-leaf-requires (
   token-at-reads.Asked,
@@ -551,7 +551,7 @@ read-value-write-leaf-requires : (t : ℕ) → read-value-lts.Need-write-leaf-re
   write-leaf-reads.Asked,
   write-leaf-reads.Learnt,
 ) (read-value-at t) read-value.Post
-read-value-write-leaf-requires t c κs = search (object-steps, attribute-steps, attributes-steps, needs)
+read-value-write-leaf-requires t c κs = search needs
 
 read-value-returns-3 : (t : ℕ) → read-value-lts.Need-returns-3 (
   token-at-reads.Asked,
@@ -561,7 +561,7 @@ read-value-returns-3 : (t : ℕ) → read-value-lts.Need-returns-3 (
   write-leaf-reads.Asked,
   write-leaf-reads.Learnt,
 ) (read-value-at t) read-value.Post
-read-value-returns-3 t c = search (object-steps, attribute-steps, attributes-steps, needs)
+read-value-returns-3 t c = search value-leaf
 
 pub +read-attribute+read-attributes+read-object+read-value-spec : {M : Type 1} → statement M
 +read-attribute+read-attributes+read-object+read-value-spec =

@@ -1,7 +1,6 @@
 -- `emission::heads::first_link` meets its contract. Assumes nothing.
 use borrow.Author.Needs.{needs}
-use borrow.Author.Needs.{needs}
-use Rattle.emission.proofs.HeadWriting.{head-steps}
+use Rattle.emission.proofs.HeadWriting.{first-there}
 use Rattle.emission.proofs.heads.first_link.Statement.{statement}
 use Rattle.emission.proofs.heads.first_link.Tie as tie
 
@@ -15,7 +14,7 @@ narrow-requires : tie.Need-narrow-requires
 narrow-requires c κs = search needs
 
 returns-2 : tie.Need-returns-2
-returns-2 c = search (head-steps, needs)
+returns-2 c = search first-there
 
 pub first-link-spec : {M : Type 1} → statement M
 first-link-spec = tie.close (tie.spec returns add-narrow narrow-requires returns-2)

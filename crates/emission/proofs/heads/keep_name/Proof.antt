@@ -1,7 +1,6 @@
 -- `emission::heads::keep_name` meets its contract. Assumes nothing.
 use borrow.Author.Needs.{needs}
-use borrow.Author.Needs.{needs}
-use Rattle.emission.proofs.HeadWriting.{head-steps}
+use Rattle.emission.proofs.HeadWriting.{name-kept}
 use Rattle.emission.proofs.heads.keep_name.Statement.{statement}
 use Rattle.emission.proofs.heads.keep_name.Tie as tie
 
@@ -21,7 +20,7 @@ add-t15 : tie.Need-add-t15
 add-t15 c = search needs
 
 returns : tie.Need-returns
-returns c = search (head-steps, needs)
+returns c = search name-kept
 
 pub keep-name-spec : {M : Type 1} → statement M
 keep-name-spec =

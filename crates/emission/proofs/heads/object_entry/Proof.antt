@@ -1,7 +1,6 @@
 -- `emission::heads::object_entry` meets its contract. Assumes nothing.
 use borrow.Author.Needs.{needs}
-use borrow.Author.Needs.{needs}
-use Rattle.emission.proofs.HeadWriting.{head-steps}
+use Rattle.emission.proofs.HeadWriting.{object-entry-is}
 use Rattle.emission.proofs.heads.object_entry.Statement.{statement}
 use Rattle.emission.proofs.heads.object_entry.Tie as tie
 
@@ -27,7 +26,7 @@ narrow-requires-2 : tie.Need-narrow-requires-2
 narrow-requires-2 c κs = search needs
 
 returns : tie.Need-returns
-returns c = search (head-steps, needs)
+returns c = search object-entry-is
 
 pub object-entry-spec : {M : Type 1} → statement M
 object-entry-spec =

@@ -1,7 +1,6 @@
 -- `emission::heads::open_object` meets its contract. Assumes nothing.
 use borrow.Author.Needs.{needs}
-use borrow.Author.Needs.{needs}
-use Rattle.emission.proofs.HeadWriting.{head-steps}
+use Rattle.emission.proofs.HeadWriting.{code-fits, object-put}
 use Rattle.emission.proofs.heads.open_object.Statement.{statement}
 use Rattle.emission.proofs.heads.open_object.Tie as tie
 
@@ -18,13 +17,13 @@ put-part-requires : tie.Need-put-part-requires
 put-part-requires c κs = search needs
 
 put-part-requires-2 : tie.Need-put-part-requires-2
-put-part-requires-2 c κs = search (head-steps, needs)
+put-part-requires-2 c κs = search code-fits
 
 add-t20 : tie.Need-add-t20
 add-t20 c = search needs
 
 returns : tie.Need-returns
-returns c = search (head-steps, needs)
+returns c = search object-put
 
 pub open-object-spec : {M : Type 1} → statement M
 open-object-spec =

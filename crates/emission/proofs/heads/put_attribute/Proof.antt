@@ -1,7 +1,6 @@
 -- `emission::heads::put_attribute` meets its contract. Assumes nothing.
 use borrow.Author.Needs.{needs}
-use borrow.Author.Needs.{needs}
-use Rattle.emission.proofs.HeadWriting.{head-steps}
+use Rattle.emission.proofs.HeadWriting.{attribute-put}
 use Rattle.emission.proofs.heads.put_attribute.Statement.{statement}
 use Rattle.emission.proofs.heads.put_attribute.Tie as tie
 
@@ -21,7 +20,7 @@ put-row-requires : tie.Need-put-row-requires
 put-row-requires c κs = search needs
 
 returns : tie.Need-returns
-returns c = search (head-steps, needs)
+returns c = search attribute-put
 
 pub put-attribute-spec : {M : Type 1} → statement M
 put-attribute-spec =

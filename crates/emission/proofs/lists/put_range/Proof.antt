@@ -1,7 +1,6 @@
 -- `emission::lists::put_range` meets its contract. Assumes nothing.
 use borrow.Author.Needs.{needs}
-use borrow.Author.Needs.{needs}
-use Rattle.emission.proofs.WritingSteps.{writing-steps}
+use Rattle.emission.proofs.WritingSteps.{range-put}
 use Rattle.emission.proofs.lists.put_range.Statement.{statement}
 use Rattle.emission.proofs.lists.put_range.Tie as tie
 
@@ -39,7 +38,7 @@ put-row-requires : tie.Need-put-row-requires
 put-row-requires c κs = search needs
 
 returns : tie.Need-returns
-returns c = search (writing-steps, needs)
+returns c = search range-put
 
 pub put-range-spec : {M : Type 1} → statement M
 put-range-spec =

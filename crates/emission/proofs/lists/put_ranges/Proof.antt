@@ -1,7 +1,7 @@
 -- `emission::lists::put_ranges` meets its contract. The records of the items before item `i` are written: with those that are left the records are what they are to be. Assumes nothing.
 use Prim.Native.Nat.{_-_}
 use borrow.Author.Needs.{needs}
-use Rattle.emission.proofs.WritingSteps.{InRanges, writing-steps}
+use Rattle.emission.proofs.WritingSteps.{InRanges, ranges-start, ranges-go-on, ranges-end}
 use Rattle.emission.proofs.lists.put_ranges.Statement.{statement}
 use Rattle.emission.proofs.lists.put_ranges.Tie as tie
 
@@ -12,28 +12,28 @@ abbrev μ-loop : tie.MeasureT-loop
 μ-loop records₀ little p kind scratch count place end i₀ records i = count - i
 
 add-end : tie.Need-add-end Inv-loop μ-loop
-add-end c = search (writing-steps, needs)
+add-end c = search needs
 
 loop-holds : tie.Need-loop-holds Inv-loop μ-loop
-loop-holds c = search (writing-steps, needs)
+loop-holds c = search ranges-start
 
 add-put-range : tie.Need-add-put-range Inv-loop μ-loop
-add-put-range c = search (writing-steps, needs)
+add-put-range c = search needs
 
 put-range-requires : tie.Need-put-range-requires Inv-loop μ-loop
-put-range-requires c κs = search (writing-steps, needs)
+put-range-requires c κs = search needs
 
 add-i : tie.Need-add-i Inv-loop μ-loop
-add-i c = search (writing-steps, needs)
+add-i c = search needs
 
 loop-less : tie.Need-loop-less Inv-loop μ-loop
-loop-less c = search (writing-steps, needs)
+loop-less c = search needs
 
 loop-again : tie.Need-loop-again Inv-loop μ-loop
-loop-again c = search (writing-steps, needs)
+loop-again c = search ranges-go-on
 
 returns : tie.Need-returns Inv-loop μ-loop
-returns c = search (writing-steps, needs)
+returns c = search ranges-end
 
 pub put-ranges-spec : {M : Type 1} → statement M
 put-ranges-spec =

@@ -1,7 +1,6 @@
 -- `emission::lists::put_single` meets its contract. Assumes nothing.
 use borrow.Author.Needs.{needs}
-use borrow.Author.Needs.{needs}
-use Rattle.emission.proofs.WritingSteps.{writing-steps}
+use Rattle.emission.proofs.WritingSteps.{single-put}
 use Rattle.emission.proofs.lists.put_single.Statement.{statement}
 use Rattle.emission.proofs.lists.put_single.Tie as tie
 
@@ -15,7 +14,7 @@ add-t10 : tie.Need-add-t10
 add-t10 c = search needs
 
 returns : tie.Need-returns
-returns c = search (writing-steps, needs)
+returns c = search single-put
 
 pub put-single-spec : {M : Type 1} → statement M
 put-single-spec = tie.close (tie.spec plain-requires put-row-requires add-t10 returns)

@@ -1,7 +1,6 @@
 -- `emission::lists::put_string` meets its contract. Assumes nothing.
 use borrow.Author.Needs.{needs}
-use borrow.Author.Needs.{needs}
-use Rattle.emission.proofs.WritingSteps.{writing-steps}
+use Rattle.emission.proofs.WritingSteps.{string-put}
 use Rattle.emission.proofs.lists.put_string.Statement.{statement}
 use Rattle.emission.proofs.lists.put_string.Tie as tie
 
@@ -57,7 +56,7 @@ put-part-requires : tie.Need-put-part-requires
 put-part-requires c κs = search needs
 
 returns : tie.Need-returns
-returns c = search (writing-steps, needs)
+returns c = search string-put
 
 pub put-string-spec : {M : Type 1} → statement M
 put-string-spec =
