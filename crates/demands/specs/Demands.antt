@@ -65,8 +65,8 @@ pub record RootIs (table : List ℕ) (root : ℕ) (o : Object) : Type 0 where
   pub object : objectAt (imageOf table) root ≡ some o
 
 -- Demand 2: a constraint text is accepted exactly when the rules accept it, a datum is valid exactly when they admit it, and each refusal, with its place, is given when its rule says so and at
--- no other time. The rules are document 01's, as relations: the productions of crates/grammar/specs/ConstraintGrammar.antt and DataGrammar.antt, the faults of ConstraintFaults.antt and
--- DataFaults.antt, and Admits.antt with FirstFailure.antt. Carried by the contracts of compile and judge.
+-- no other time. The rules are document 01's, as relations: the productions of crates/grammar/specs/ConstraintGrammar.antt and DataGrammar.antt, Admits.antt with FirstFailure.antt beside them, and
+-- the faults of crates/faults/specs/ConstraintFaults.antt and DataFaults.antt. Carried by the contracts of compile and judge.
 pub record Demand2 : Type 0 where
   -- 'Constraint text': "object: TYPE, optional [code], `matches {`, then `*` or one or more attributes, `}`. The text is one object". Accepted exactly where the productions derive a tree whose
   -- table the output has room for; they derive at most one.
