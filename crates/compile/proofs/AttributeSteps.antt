@@ -25,15 +25,16 @@ use Rattle.constraint.specs.declared.heads.AttributeHead.{AttributeHead}
 use Rattle.constraint.specs.declared.heads.AttributeHead.the-variants as attributeHeadRead
 use Rattle.constraint.proofs.TreeReading.{ValueRead, AttributeRead, value-holds, object-holds}
 use Rattle.table.specs.Records.{recordSize, encodes}
-use Rattle.compile.specs.Flatten.{valueLink, valueTable}
-use Rattle.compile.specs.Answers.{spot, written, linkBelow, Room, TreeIs, Stacked, NameRoom, NameKept, attributeRow, nextLink, closedAttribute, CloseIs, CloseRoom, attributeWritten, Pushed, AttributeIs, AttributeRoom}
-use Rattle.compile.specs.declared.spots.Spot.{Spot}
-use Rattle.compile.specs.declared.spots.TreeRead.{TreeRead}
-use Rattle.compile.specs.declared.spots.TreeRead.the-variants.{Refused, Read}
-use Rattle.compile.specs.declared.spots.AttributeRead as attributeReads
-use Rattle.compile.specs.declared.spots.AttributeRead.the-variants as attributeRead
-use Rattle.compile.proofs.FlattenLaws.{value-length}
-use Rattle.compile.proofs.TreeWriting.{row-below, IsTree, is-tree, is-refused, tree-room, value-link}
+use Rattle.flatten.specs.Flatten.{valueLink, valueTable}
+use Rattle.emission.specs.Answers.{spot, written, linkBelow, Room, NameRoom, NameKept, attributeRow, nextLink, closedAttribute, CloseIs, CloseRoom}
+use Rattle.compile.specs.Answers.{TreeIs, Stacked, attributeWritten, Pushed, AttributeIs, AttributeRoom}
+use Rattle.emission.specs.declared.spots.Spot.{Spot}
+use Rattle.emission.specs.declared.spots.TreeRead.{TreeRead}
+use Rattle.emission.specs.declared.spots.TreeRead.the-variants.{Refused, Read}
+use Rattle.emission.specs.declared.spots.AttributeRead as attributeReads
+use Rattle.emission.specs.declared.spots.AttributeRead.the-variants as attributeRead
+use Rattle.flatten.proofs.FlattenLaws.{value-length}
+use Rattle.emission.proofs.TreeWriting.{row-below, IsTree, is-tree, is-refused, tree-room, value-link}
 use Rattle.compile.proofs.ReadingLaws.{behindName, attribute-by, HeadRead, attribute-head-holds}
 
 -- ---- an attribute
@@ -190,5 +191,3 @@ module _ {s : List ℕ} {p : Spot} {first top : ℕ} {names : List ℕ} (room : 
 
 pub attribute-spans : {s : List ℕ} {p : Spot} {first top : ℕ} {names : List ℕ} → AttributeRoom s p first top names → length names ≡ 4_096 → SpansIn s names first top
 attribute-spans h l = record { room = let a = h .stacked .few in let b = h .stacked .room .records in omega arith; within = h .lies }
-
-pub ruleset attribute-steps = (attribute-spans, attribute-faulty, name-room, value-stacked, value-refused, value-closing, value-closed)

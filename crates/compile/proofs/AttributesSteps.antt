@@ -24,17 +24,17 @@ use Rattle.items.specs.Parts.{Kept}
 use Rattle.items.proofs.ItemLaws.{first-kept, second-kept, all-kept}
 use Rattle.lexis.proofs.Parts.{part-length}
 use Rattle.constraint.specs.Objects.{Count, count, value, Attribute, past, goOn, attributes, objectFrom}
-use Rattle.constraint.specs.declared.heads.AttributeHead.the-variants as attributeHeadRead
 use Rattle.constraint.proofs.TreeReading.{AttributeRead, attribute-holds, object-holds}
 use Rattle.table.specs.Records.{Record, recordSize, encodes}
-use Rattle.compile.specs.Flatten.{attributesLink, valueLink, attributesTable, valueTable}
-use Rattle.compile.specs.Answers.{spot, Wrote, wrote, written, Room, TreeIs, Stacked, attributeRow, attributeWrote, attributeWritten, Pushed, AttributeIs, AttributeRoom}
-use Rattle.compile.specs.declared.spots.Spot.{Spot}
-use Rattle.compile.specs.declared.spots.TreeRead.the-variants.{Refused, Read}
-use Rattle.compile.specs.declared.spots.AttributeRead as attributeReads
-use Rattle.compile.specs.declared.spots.AttributeRead.the-variants as attributeRead
-use Rattle.compile.proofs.FlattenLaws.{value-length}
-use Rattle.compile.proofs.TreeWriting.{five-value, rows-behind}
+use Rattle.flatten.specs.Flatten.{attributesLink, valueLink, attributesTable, valueTable}
+use Rattle.emission.specs.Answers.{spot, Wrote, wrote, written, Room, attributeRow, attributeWrote}
+use Rattle.compile.specs.Answers.{TreeIs, Stacked, attributeWritten, Pushed, AttributeIs, AttributeRoom}
+use Rattle.emission.specs.declared.spots.Spot.{Spot}
+use Rattle.emission.specs.declared.spots.TreeRead.the-variants.{Refused, Read}
+use Rattle.emission.specs.declared.spots.AttributeRead as attributeReads
+use Rattle.emission.specs.declared.spots.AttributeRead.the-variants as attributeRead
+use Rattle.flatten.proofs.FlattenLaws.{value-length}
+use Rattle.emission.proofs.TreeWriting.{five-value, rows-behind}
 use Rattle.compile.proofs.ReadingLaws.{Linked, linked, turn}
 use Rattle.compile.proofs.AttributeSteps.{AttributeOf, kept-both}
 
@@ -306,5 +306,3 @@ module _ {s : List ℕ} {little : Bool} {levels : ℕ} {p : Spot} {first : ℕ} 
 
 pub attributes-fits : {s : List ℕ} {q : Spot} {first top : ℕ} {names : List ℕ} → AttributeRoom s q first top names → top ≤ 2_048
 attributes-fits h = let a = h .stacked .few in let b = h .stacked .room .records in omega arith
-
-pub ruleset attributes-steps = (attributes-start, attributes-not, attributes-last, attributes-less, attributes-next, attributes-fits)

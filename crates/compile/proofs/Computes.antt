@@ -2,7 +2,7 @@
 use Rattle.constraint.proofs.Computes.{constraintComputes}
 use Rattle.meaning.proofs.Computes.{meaningComputes}
 use Rattle.table.proofs.Computes.{tableComputes}
-use Rattle.compile.specs.Flatten.{objectTable, imageOfTree}
+use Rattle.flatten.specs.Flatten.{objectTable, imageOfTree}
 use Rattle.compile.specs.Answer.{compileAnswer}
 
 unfoldable pub compileComputes : Unit {0}

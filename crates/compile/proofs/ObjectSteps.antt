@@ -25,20 +25,19 @@ use Rattle.refusals.proofs.StepLaws.{expected-fault, expected-token}
 use Rattle.refusals.proofs.Readings.{Holds}
 use Rattle.meaning.specs.Constraints.{Object, object, Attributes, noMore, Value, any, nested}
 use Rattle.meaning.specs.Counting.{objectPool, attributePool, valuePool}
-use Rattle.items.specs.Leaves
 use Rattle.items.proofs.ItemLaws.{all-kept}
 use Rattle.constraint.specs.Objects.{count, value, past, attributes, objectFrom}
 use Rattle.constraint.specs.Answers.{Counted, objectHead, typedReading, TypedPast, ObjectHeadIs}
 use Rattle.constraint.specs.declared.heads.ObjectHead.{ObjectHead}
 use Rattle.constraint.specs.declared.heads.ObjectHead.the-variants as objectHeadRead
-use Rattle.constraint.specs.declared.heads.AttributeHead.the-variants as attributeHeadRead
 use Rattle.table.specs.Records.{recordSize, encode, encodes}
-use Rattle.compile.specs.Flatten.{attributesLink, objectTable, attributesTable, valueTable}
-use Rattle.compile.specs.Answers.{spot, wrote, written, leafValue, Room, TreeIs, Stacked, objectRow, EndIs, ObjectPut}
-use Rattle.compile.specs.declared.spots.Spot.{Spot}
-use Rattle.compile.specs.declared.spots.TreeRead.{TreeRead}
-use Rattle.compile.specs.declared.spots.TreeRead.the-variants.{Refused, Read}
-use Rattle.compile.proofs.WritingSteps.{front}
+use Rattle.flatten.specs.Flatten.{attributesLink, objectTable, attributesTable, valueTable}
+use Rattle.emission.specs.Answers.{spot, wrote, written, leafValue, Room, objectRow, ObjectPut}
+use Rattle.compile.specs.Answers.{TreeIs, Stacked, EndIs}
+use Rattle.emission.specs.declared.spots.Spot.{Spot}
+use Rattle.emission.specs.declared.spots.TreeRead.{TreeRead}
+use Rattle.emission.specs.declared.spots.TreeRead.the-variants.{Refused, Read}
+use Rattle.emission.proofs.WritingSteps.{front}
 use Rattle.compile.proofs.ReadingLaws.{behindHead, object-refused, object-levels, object-got, HeadRead, object-head-holds, Linked, linked}
 
 -- ---- the `}` of an object that any attribute may follow
@@ -162,5 +161,3 @@ module _ (s : List ℕ) (p : Spot) (t : Token) (tok : TokenIs s (p .place) (toke
   pub value-leaf : (little : Bool) (names rs bs rs' bs' : List ℕ) (r : TreeRead) → (t .sort ≡ star → ⊥) → (t .sort ≡ typeName → ⊥) → wrote r rs' bs' ≡ written valueTable valuePool little p rs bs (leafValue s p)
       → TreeIs top names names (written valueTable valuePool little p rs bs (ValueOf s levels p)) rs' bs' r
   value-leaf little names rs bs rs' bs' r k l h = record { is = h ∙ rw (← tok .is, ne-eqb (t .sort) star k, ne-eqb (t .sort) typeName l); kept = all-kept names top }
-
-pub ruleset object-steps = (end-fault, end-taken, counted, object-faulty, object-past, object-inside, object-level, object-any, object-more, object-attributes, value-any, value-object, value-leaf)

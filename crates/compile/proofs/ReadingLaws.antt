@@ -24,7 +24,7 @@ use Rattle.constraint.specs.Objects.{Count, count, objectType, objectCode, attr
 use Rattle.constraint.specs.Answers.{Typed, objectHead, Named, attributeHead}
 use Rattle.constraint.proofs.TreeReading.{Exists, CodeRead, type-holds, code-holds, name-holds, existence-holds, opening-holds}
 use Rattle.constraint.proofs.TreeReading
-use Rattle.compile.specs.Flatten.{attributesLink}
+use Rattle.flatten.specs.Flatten.{attributesLink}
 
 -- one reading after another, whichever are joined first
 pub then-then : {A B C : Type 0} (r : Reading A) (f : A → ℕ → Reading B) (g : B → ℕ → Reading C) → andThen (andThen r f) g ≡ andThen r (λ a p. andThen (f a p) g)

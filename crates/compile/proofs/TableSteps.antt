@@ -35,29 +35,23 @@ use Rattle.table.specs.Records.{Record, recordSize, encode, encodes, bytesOf}
 use Rattle.table.specs.Answers.{recordOf}
 use Rattle.table.specs.declared.records.Entry.{Entry}
 use Rattle.table.proofs.RecordLaws.{length-encode, length-encodes}
-use Rattle.compile.specs.Flatten.{make, objectTable, imageOfTree}
+use Rattle.flatten.specs.Flatten.{make, objectTable, imageOfTree}
 use Rattle.compile.specs.Answer.{compiling, done, write, compileAnswer}
 use Rattle.compile.specs.Answer
-use Rattle.compile.specs.Answers.{CopyFits, PartPut, spot, written, Stacked, TreeIs, answerOf, tableWritten, TableRoom, finished}
-use Rattle.compile.specs.declared.spots.Spot.{Spot}
-use Rattle.compile.specs.declared.spots.TreeRead.{TreeRead}
-use Rattle.compile.specs.declared.spots.TreeRead.the-variants.{Refused, Read}
+use Rattle.emission.specs.Answers.{PartPut, spot, written}
+use Rattle.compile.specs.Answers.{TreeIs, answerOf, tableWritten, TableRoom, finished}
+use Rattle.emission.specs.declared.spots.Spot.{Spot}
+use Rattle.emission.specs.declared.spots.TreeRead.{TreeRead}
+use Rattle.emission.specs.declared.spots.TreeRead.the-variants.{Refused, Read}
 use Rattle.compile.specs.declared.CompileResult.{CompileResult}
-use Rattle.compile.specs.declared.CompileResult.the-variants as result
-use Rattle.compile.proofs.FlattenLaws.{object-length}
-use Rattle.compile.proofs.TreeWriting.{five-object, row-below, IsTree, is-tree, is-refused}
+use Rattle.flatten.proofs.FlattenLaws.{object-length}
+use Rattle.emission.proofs.TreeWriting.{five-object, row-below, IsTree, is-tree, is-refused}
 
 -- ---- the records and the pool in the output
 
 pub output-short : (little : Bool) (end : ℕ) (q : Spot) (rs bs out : List ℕ) → length out < recordSize * q .next + q .pool → compiling (Answer.refused (refusal OutputTooShort end)) out ≡ tableWritten little end q rs bs out
 unfolding tableWritten
 output-short little end q rs bs out h = rw (lt-ltb (length out) (recordSize * q .next + q .pool) h)
-
-pub records-fit : {q : Spot} {rs out : List ℕ} → TableRoom q → recordSize * q .next + q .pool ≤ length out → length rs ≡ 49_152 → CopyFits rs 0 (recordSize * q .next) out 0
-records-fit h l k = record { lies = record { order = omega arith; inside = let r = h .records in omega arith }; room = omega arith }
-
-pub bytes-fit : {q : Spot} {bs : List ℕ} (out : List ℕ) {out1 : List ℕ} → TableRoom q → recordSize * q .next + q .pool ≤ length out → length out1 ≡ length out → length bs ≡ 16_384 → CopyFits bs 0 (q .pool) out1 (recordSize * q .next)
-bytes-fit out h l m k = record { lies = record { order = omega arith; inside = let r = h .bytes in omega arith }; room = omega arith }
 
 pub output-written : (little : Bool) (end : ℕ) (q : Spot) (rs bs out rs1 out1 out2 : List ℕ) (a b c d : ℕ) (e : Entry) → recordSize * q .next + q .pool ≤ length out → a ≡ q .next → b ≡ q .pool → recordOf e ≡ make 0 0 a b 1 0 0
     → rs1 ≡ sets rs (recordSize * 0) (encode little (recordOf e)) → PartPut rs1 0 (recordSize * q .next) 0 out out1 c → PartPut bs 0 (q .pool) (recordSize * q .next) out1 out2 d
@@ -82,9 +76,6 @@ module _ {text : List ℕ} (q : Spot) {o : Expected} (e : ExpectIs text textEnd 
 pub compile-long : (text out : List ℕ) (little : Bool) → textLimit < length text → compiling (Answer.refused (refusal TextTooLong textLimit)) out ≡ compileAnswer text little out
 unfolding compileAnswer constraintOf
 compile-long text out little h = rw (lt-ltb textLimit (length text) h)
-
-pub compile-starts : (text : List ℕ) → length text ≤ textLimit → Stacked text (spot 0 1 0) 0
-compile-starts text h = record { room = record { inside = omega arith; short = h; records = omega arith; bytes = omega arith }; few = omega arith }
 
 -- a run from the first place on
 from-front : (vs l : List ℕ) → length vs ≤ length l → sets l 0 vs ≡ vs ++ drop (length vs) l
@@ -178,5 +169,3 @@ module _ (text : List ℕ) (short : length text ≤ textLimit) (little : Bool) (
         by (got t p) =
             (λ i. tableWritten little (length text) (spot-is i) (read .records i) (read .bytes i) out)
             ∙ table-is little (length text) (q .place) (read .tree) rs bs out p lr lb records-room pool-room
-
-pub ruleset table-steps = (output-short, records-fit, bytes-fit, output-written, finish-fault, finish-taken, compile-long, compile-starts, compile-refused, compile-inside, compile-room, compile-done)

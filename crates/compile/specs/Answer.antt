@@ -13,7 +13,7 @@ use Rattle.refusals.specs.declared.Cause.the-variants.{OutputTooShort}
 use Rattle.meaning.specs.Constraints.{Object}
 use Rattle.constraint.specs.Texts.{constraintOf}
 use Rattle.table.specs.Records.{bytesOf}
-use Rattle.compile.specs.Flatten.{imageOfTree}
+use Rattle.flatten.specs.Flatten.{imageOfTree}
 
 pub data CompileAnswer : Type 0 where
   refused : Refusal → CompileAnswer

@@ -1,3 +1,2 @@
-pub mod Flatten
 pub mod Answer
 pub mod Answers

@@ -1,17 +1,11 @@
 // Compiling a constraint text into a table. The definitions stand in specs/.
-mod heads;
-mod leaves;
-mod lists;
 mod objects;
 mod output;
-mod pool;
-mod rows;
-mod spots;
 
 use crate::objects::read_object;
 use crate::output::finish;
-use crate::spots::Spot;
-use crate::spots::TreeRead;
+use emission::spots::Spot;
+use emission::spots::TreeRead;
 use refusals::Cause;
 use refusals::Refusal;
 use refusals::limits::LEVEL_LIMIT;

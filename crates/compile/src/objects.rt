@@ -1,15 +1,15 @@
 // Objects and attributes, read and written; the levels left fall from object to object.
-use crate::heads::close_attribute;
-use crate::heads::keep_name;
-use crate::heads::open_object;
-use crate::leaves::write_leaf;
-use crate::spots::AttributeRead;
-use crate::spots::Spot;
-use crate::spots::TreeRead;
 use constraint::heads::AttributeHead;
 use constraint::heads::ObjectHead;
 use constraint::heads::attribute_head;
 use constraint::heads::object_head;
+use emission::heads::close_attribute;
+use emission::heads::keep_name;
+use emission::heads::open_object;
+use emission::leaves::write_leaf;
+use emission::spots::AttributeRead;
+use emission::spots::Spot;
+use emission::spots::TreeRead;
 use lexis::CLOSE_BRACE;
 use lexis::STAR;
 use lexis::TYPE_NAME;
@@ -21,8 +21,9 @@ ghost use Prim.Native.Nat.{_+_, _≤_};
 ghost use lib.ListN.{length};
 ghost use Rattle.meaning.specs.Counting.{objectPool, attributePool, valuePool};
 ghost use Rattle.constraint.specs.Objects.{count, value, attributes, objectFrom};
-ghost use Rattle.compile.specs.Flatten.{objectTable, attributesTable, valueTable};
-ghost use Rattle.compile.specs.Answers.{written, Stacked, TreeIs, EndIs, AttributeRoom, AttributeIs};
+ghost use Rattle.flatten.specs.Flatten.{objectTable, attributesTable, valueTable};
+ghost use Rattle.emission.specs.Answers.{written};
+ghost use Rattle.compile.specs.Answers.{Stacked, TreeIs, EndIs, AttributeRoom, AttributeIs};
 
 // The `}` of an object behind its `*`.
 fn close_object(s: &[u8], p: Spot, from: usize) -> TreeRead

@@ -1,9 +1,9 @@
 // A table from the scratch to the output.
 use crate::CompileResult;
-use crate::pool::copy;
-use crate::pool::narrow;
-use crate::rows::put_row;
-use crate::spots::Spot;
+use emission::pool::copy;
+use emission::pool::narrow;
+use emission::rows::put_row;
+use emission::spots::Spot;
 use lexis::TEXT_END;
 use refusals::Cause;
 use refusals::Refusal;
@@ -17,7 +17,7 @@ ghost use Rattle.lexis.specs.Tokens.{textEnd};
 ghost use Rattle.refusals.specs.Steps.{expect};
 ghost use Rattle.table.specs.Answers.{recordOf};
 ghost use Rattle.compile.specs.Answer.{compiling};
-ghost use Rattle.compile.specs.Flatten.{make};
+ghost use Rattle.flatten.specs.Flatten.{make};
 ghost use Rattle.compile.specs.Answers.{answerOf, tableWritten, TableRoom, finished};
 
 // The number of the root.

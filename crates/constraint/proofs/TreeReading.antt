@@ -30,7 +30,7 @@ use Rattle.meaning.specs.Proper.{ProperName, ProperObject, ProperAttributes, Pr
 use Rattle.meaning.specs.Counting.{objectRecords, objectPool, objectNumbers, attributeRecords, attributePool, attributeNumbers, valueRecords, valuePool, valueNumbers, upFrom}
 use Rattle.meaning.proofs.Numbers.{up-append}
 use Rattle.items.specs.Leaves
-use Rattle.items.proofs.IntervalReading.{token-past}
+use Rattle.intervals.proofs.IntervalReading.{token-past}
 use Rattle.items.proofs.LeafReading.{TreeRead, LeafRead, leaf-holds, inner-sub}
 use Rattle.constraint.specs.Existence.{opening, isNought, isOne, fromNought, fromOne, bounds, existenceFrom}
 use Rattle.constraint.specs.Objects.{Count, count, objectType, objectCode, attributeName, value, Attribute, attributeFrom, past, attributes, body, objectBy, objectFrom}

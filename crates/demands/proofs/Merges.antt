@@ -33,11 +33,11 @@ use Rattle.merge.specs.Lists.{Step, Carried, carried, behind, afterStep, afterS
 use Rattle.merge.proofs.MergeLaws.{count-merged, tree-kept, tree-moved}
 use Rattle.merge.proofs.CheckedMerge.{checked-merge}
 use Rattle.merge.proofs.Answers.{Joined, merge-gives}
-use Rattle.compile.specs.Flatten.{imageOfTree}
+use Rattle.flatten.specs.Flatten.{imageOfTree}
 use Rattle.compile.specs.Answer.{compileAnswer, tableOf, write}
 use Rattle.compile.specs.Answer as Compile
-use Rattle.compile.proofs.FlattenLaws.{tree-compiled}
-use Rattle.compile.proofs.CheckedCompiled.{checked-compiled}
+use Rattle.flatten.proofs.FlattenLaws.{tree-compiled}
+use Rattle.flatten.proofs.CheckedCompiled.{checked-compiled}
 use Rattle.judge.specs.Answer.{judgeDatum, judgeText, judgeAnswer, movedAnswer}
 use Rattle.judge.specs.Answer as Judge
 use Rattle.demands.specs.Demands.{meaningBy, meaningOf, Demand3}

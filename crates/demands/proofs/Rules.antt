@@ -30,13 +30,13 @@ use Rattle.grammar.specs.ConstraintGrammar.{DerivesConstraint}
 use Rattle.grammar.specs.DataGrammar.{DerivesData}
 use Rattle.grammar.specs.Admits.{Admits}
 use Rattle.grammar.specs.FirstFailure.{FirstFailure}
-use Rattle.grammar.specs.Faults.{Least, Alike}
-use Rattle.grammar.specs.ConstraintFaults
-use Rattle.grammar.specs.DataFaults
+use Rattle.faults.specs.Faults.{Least, Alike}
+use Rattle.faults.specs.ConstraintFaults
+use Rattle.faults.specs.DataFaults
 use Rattle.grammar.proofs.Constrained
 use Rattle.grammar.proofs.Derived
-use Rattle.grammar.proofs.Scanned
-use Rattle.grammar.proofs.ConstraintScanned
+use Rattle.faults.proofs.Scanned
+use Rattle.faults.proofs.ConstraintScanned
 use Rattle.grammar.proofs.Judged.{valid-admits, fails-first}
 use Rattle.demands.specs.Demands.{Demand2, TooShort, RootIs}
 

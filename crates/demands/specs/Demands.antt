@@ -32,9 +32,9 @@ use Rattle.grammar.specs.ConstraintGrammar.{DerivesConstraint}
 use Rattle.grammar.specs.DataGrammar.{DerivesData}
 use Rattle.grammar.specs.Admits.{Admits}
 use Rattle.grammar.specs.FirstFailure.{FirstFailure}
-use Rattle.grammar.specs.Faults.{Least, Alike}
-use Rattle.grammar.specs.ConstraintFaults
-use Rattle.grammar.specs.DataFaults
+use Rattle.faults.specs.Faults.{Least, Alike}
+use Rattle.faults.specs.ConstraintFaults
+use Rattle.faults.specs.DataFaults
 
 -- what two texts alone mean: no table is made on the way. (A constraint text that is refused has no meaning; its refusal stands in, and demand 3 never asks for it.)
 abbrev pub meaningBy : Reading Object → List ℕ → JudgeAnswer
@@ -65,8 +65,8 @@ pub record RootIs (table : List ℕ) (root : ℕ) (o : Object) : Type 0 where
   pub object : objectAt (imageOf table) root ≡ some o
 
 -- Demand 2: a constraint text is accepted exactly when the rules accept it, a datum is valid exactly when they admit it, and each refusal, with its place, is given when its rule says so and at
--- no other time. The rules are document 01's, as relations: the productions of crates/grammar/specs/ConstraintGrammar.antt and DataGrammar.antt, the faults of ConstraintFaults.antt and
--- DataFaults.antt, and Admits.antt with FirstFailure.antt. Carried by the contracts of compile and judge.
+-- no other time. The rules are document 01's, as relations: the productions of crates/grammar/specs/ConstraintGrammar.antt and DataGrammar.antt, Admits.antt with FirstFailure.antt beside them, and
+-- the faults of crates/faults/specs/ConstraintFaults.antt and DataFaults.antt. Carried by the contracts of compile and judge.
 pub record Demand2 : Type 0 where
   -- 'Constraint text': "object: TYPE, optional [code], `matches {`, then `*` or one or more attributes, `}`. The text is one object". Accepted exactly where the productions derive a tree whose
   -- table the output has room for; they derive at most one.

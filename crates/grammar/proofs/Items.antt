@@ -22,8 +22,8 @@ use Rattle.refusals.specs.declared.Cause.the-variants.{Impossible, OutOfRange, 
 use Rattle.refusals.specs.Steps.{syntaxCause, expect}
 use Rattle.meaning.specs.Constraints.{Range, Text, Leaf, booleans, datePattern, timePattern}
 use Rattle.meaning.specs.Constraints
-use Rattle.items.specs.Intervals.{Ends, ends, undecided, kindBy, least, most, after, valueOf, possible, empty, closed, withLiteral, between, Interval, interval}
-use Rattle.items.specs.Intervals
+use Rattle.intervals.specs.Intervals.{Ends, ends, undecided, kindBy, least, most, after, valueOf, possible, empty, closed, withLiteral, between, Interval, interval}
+use Rattle.intervals.specs.Intervals
 use Rattle.items.specs.Ranges.{Start, start, item, meet, overlaps, Ranges, range, ranges}
 use Rattle.items.specs.Strings.{startString, strings}
 use Rattle.items.specs.Leaves.{isBoolean, booleanFlag, secondBoolean, booleanList, rangeLeaf, leaf}

@@ -18,7 +18,7 @@ use Rattle.values.specs.Integers.{Pair, pair, inside, around}
 use Rattle.refusals.specs.Limits.{recordLimit, poolLimit, stringLimit, itemLimit}
 use Rattle.meaning.specs.Constraints.{Range, Text, Leaf, booleans, integers, dates, datePattern, timePattern}
 use Rattle.meaning.specs.Constraints
-use Rattle.items.specs.Intervals.{Ends, ends, least, most, after, valueOf, empty, closed}
+use Rattle.intervals.specs.Intervals.{Ends, ends, least, most, after, valueOf, empty, closed}
 use Rattle.items.specs.Ranges.{range}
 use Rattle.grammar.specs.DataGrammar.{Distinct}
 

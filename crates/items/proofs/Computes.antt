@@ -2,7 +2,7 @@
 use Rattle.values.proofs.Computes.{valuesCompute}
 use Rattle.refusals.specs.Refusals.{numberOf}
 use Rattle.refusals.specs.Steps.{expect}
-use Rattle.items.specs.Intervals.{literal, upTo, above, spread, from, between, interval}
+use Rattle.intervals.specs.Intervals.{literal, upTo, above, spread, from, between, interval}
 use Rattle.items.specs.Ranges.{start, ranges}
 use Rattle.items.specs.Strings.{startString, strings}
 use Rattle.items.specs.Leaves.{secondBoolean, booleanList, leaf}

@@ -28,11 +28,11 @@ use Rattle.meaning.specs.Constraints.{Range, Text, Leaf, booleans, integers, da
 use Rattle.meaning.specs.Constraints
 use Rattle.meaning.specs.Proper.{Some, Each, ProperIntegers, ProperDates, ProperString, ProperLeaf}
 use Rattle.meaning.specs.Counting.{textNumbers, textPool, leafNumbers, leafRecords, leafPool, upFrom}
-use Rattle.items.specs.Intervals.{undecided}
+use Rattle.intervals.specs.Intervals.{undecided}
 use Rattle.items.specs.Ranges.{Ranges, ranges}
 use Rattle.items.specs.Strings.{startString, goOnStrings, strings}
 use Rattle.items.specs.Leaves.{isBoolean, booleanFlag, secondBoolean, booleanList, rangeLeaf, patternFlag, leaf}
-use Rattle.items.proofs.IntervalReading.{token-past}
+use Rattle.intervals.proofs.IntervalReading.{token-past}
 use Rattle.items.proofs.RangeReading.{ProperRange, Listed, ranges-holds}
 
 -- a tree that was read from a place on up to p, the first record's number given: the numbers and the count of its records, what makes it proper, and its pool bytes

@@ -19,7 +19,7 @@ use Rattle.refusals.specs.declared.Cause.the-variants.{TooManyRecords, Overlap}
 use Rattle.refusals.specs.declared.Refusal.{Refusal}
 use Rattle.refusals.proofs.Readings.{Holds}
 use Rattle.meaning.specs.Constraints.{Leaf, booleans, datePattern, timePattern}
-use Rattle.items.specs.Intervals.{undecided}
+use Rattle.intervals.specs.Intervals.{undecided}
 use Rattle.items.specs.Ranges.{Ranges, ranges}
 use Rattle.items.specs.Strings.{strings}
 use Rattle.items.specs.Leaves.{isBoolean, booleanFlag, secondBoolean, booleanList, leaf}

@@ -22,10 +22,10 @@ use Rattle.refusals.proofs.Tokens.{fault-holds}
 use Rattle.meaning.specs.Constraints.{Range}
 use Rattle.meaning.specs.Proper.{Some}
 use Rattle.meaning.specs.Counting.{rangeNumbers, upFrom}
-use Rattle.items.specs.Intervals.{undecided, Interval, interval, literal}
+use Rattle.intervals.specs.Intervals.{undecided, Interval, interval, literal}
 use Rattle.items.specs.Ranges.{Start, start, item, overlaps, Ranges, goOn, ranges}
-use Rattle.items.proofs.Pairs.{Kind, kind-strict, ProperPair}
-use Rattle.items.proofs.IntervalReading.{Asked, Literal, Shut, token-past, literal-holds, interval-holds}
+use Rattle.intervals.proofs.Pairs.{Kind, kind-strict, ProperPair}
+use Rattle.intervals.proofs.IntervalReading.{Asked, Literal, Shut, token-past, literal-holds, interval-holds}
 
 -- an item's first token, from a place on; a value stands in no list of dates
 pub record Started (s : List ℕ) (asked from : ℕ) (x : Start) (p : ℕ) : Type 0 where

@@ -20,22 +20,23 @@ use Rattle.refusals.specs.declared.Cause.the-variants.{TooManyItems, TooManyRec
 use Rattle.refusals.specs.declared.Refusal.{Refusal}
 use Rattle.refusals.proofs.Readings.{Holds}
 use Rattle.meaning.specs.Constraints.{Range}
-use Rattle.items.specs.Intervals.{undecided, Interval, interval}
+use Rattle.intervals.specs.Intervals.{undecided, Interval, interval}
 use Rattle.items.specs.Ranges.{Start, start, item, meet, overlaps, Ranges, range, withFirst, ranges}
 use Rattle.items.specs.Spans.{withItem, firstOf, secondOf, latest}
 use Rattle.items.specs.Answers.{pairAt, rangeAt, itemsFrom}
-use Rattle.items.specs.Parts.{LiteralIs, Asked, At, shut, intervalReading, IntervalPast, IntervalIs, startReading, started, Before, StartPast, StartIs, roomy, pairsOf, rangeReading, keptRange, ItemRoom, KeepRoom, RangePast, Kept, RangeIs, RangesIs, ListRoom}
-use Rattle.items.specs.declared.literals.LiteralRead.{LiteralRead}
-use Rattle.items.specs.declared.literals.LiteralRead.the-variants as literalRead
-use Rattle.items.specs.declared.intervals.IntervalRead.{IntervalRead}
-use Rattle.items.specs.declared.intervals.IntervalRead.the-variants as intervalRead
+use Rattle.intervals.specs.Answers.{LiteralIs, Asked, At, shut, intervalReading, IntervalPast, IntervalIs}
+use Rattle.items.specs.Parts.{startReading, started, Before, StartPast, StartIs, roomy, pairsOf, rangeReading, keptRange, ItemRoom, KeepRoom, RangePast, Kept, RangeIs, RangesIs, ListRoom}
+use Rattle.intervals.specs.declared.literals.LiteralRead.{LiteralRead}
+use Rattle.intervals.specs.declared.literals.LiteralRead.the-variants as literalRead
+use Rattle.intervals.specs.declared.ends.IntervalRead.{IntervalRead}
+use Rattle.intervals.specs.declared.ends.IntervalRead.the-variants as intervalRead
 use Rattle.items.specs.declared.ranges.StartRead.{StartRead}
 use Rattle.items.specs.declared.ranges.StartRead.the-variants as startRead
 use Rattle.items.specs.declared.ranges.RangeRead.{RangeRead}
 use Rattle.items.specs.declared.ranges.RangeRead.the-variants as rangeRead
 use Rattle.items.specs.declared.ranges.RangesRead.the-variants as rangesRead
 use Rattle.items.proofs.RangeReading.{Started, start-holds}
-use Rattle.items.proofs.IntervalSteps.{literal-refused, literal-got}
+use Rattle.intervals.proofs.IntervalSteps.{literal-refused, literal-got}
 use Rattle.items.proofs.ItemLaws.{item-first, item-second, item-kept, all-kept, first-kept, second-kept, latest-more, latest-same, items-last, items-same, roomy-none, roomy-some}
 
 -- a value that may stand in the list

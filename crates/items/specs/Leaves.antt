@@ -15,7 +15,7 @@ use Rattle.refusals.specs.Reading.{Reading, got, andThen, unless}
 use Rattle.meaning.specs.Constraints.{Leaf, booleans, integers, dates, datePattern, timePattern}
 use Rattle.meaning.specs.Constraints
 use Rattle.refusals.specs.Steps.{syntaxFault}
-use Rattle.items.specs.Intervals.{undecided}
+use Rattle.intervals.specs.Intervals.{undecided}
 use Rattle.items.specs.Ranges.{Ranges, ranges}
 use Rattle.items.specs.Strings.{strings}
 

@@ -1,4 +1,3 @@
-pub mod Intervals
 pub mod Ranges
 pub mod Strings
 pub mod Leaves

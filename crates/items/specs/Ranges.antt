@@ -13,7 +13,7 @@ use Rattle.refusals.specs.declared.Cause.the-variants.{TooManyItems, TooManyRec
 use Rattle.refusals.specs.Reading.{Reading, got, refuse, andThen, unless}
 use Rattle.meaning.specs.Constraints.{Range}
 use Rattle.refusals.specs.Steps.{syntaxFault}
-use Rattle.items.specs.Intervals.{Interval, interval, literal}
+use Rattle.intervals.specs.Intervals.{Interval, interval, literal}
 
 -- an item's first token: its place, and whether it is a value, with the value
 pub record Start : Type 0 where

@@ -1,10 +1,10 @@
 // Lists of integer items and of date intervals.
-use crate::intervals::IntervalRead;
-use crate::intervals::UNDECIDED;
-use crate::intervals::interval;
-use crate::literals::LiteralRead;
-use crate::literals::literal;
 use crate::spans::put;
+use intervals::ends::IntervalRead;
+use intervals::ends::UNDECIDED;
+use intervals::ends::interval;
+use intervals::literals::LiteralRead;
+use intervals::literals::literal;
 use lexis::BAR;
 use lexis::COMMA;
 use lexis::DATE;
@@ -24,7 +24,8 @@ ghost use Rattle.lexis.specs.Tokens.{integer, date};
 ghost use Rattle.values.specs.Integers.{pair};
 ghost use Rattle.refusals.specs.Limits.{itemLimit};
 ghost use Rattle.items.specs.Ranges.{start, item, meet, overlaps, ranges};
-ghost use Rattle.items.specs.Parts.{startReading, Before, StartIs, started, At, shut, IntervalIs, pairsOf, keptRange, ItemRoom, KeepRoom, RangeIs, ListRoom, RangesIs};
+ghost use Rattle.intervals.specs.Answers.{At, shut, IntervalIs};
+ghost use Rattle.items.specs.Parts.{startReading, Before, StartIs, started, pairsOf, keptRange, ItemRoom, KeepRoom, RangeIs, ListRoom, RangesIs};
 
 // An item's first token: its place, whether it is a value, with the value, and the place behind it, or its refusal.
 pub enum StartRead {

@@ -1,16 +1,13 @@
 -- `compile::compile` meets its contract. Assumes nothing.
 use Prim.Native.Nat.{ℕ}
-use Prim.Native.Nat.{ℕ}
-use lib.ListN.{length-replicate}
 use lib.ListN.{length-replicate}
 use borrow.Author.Needs.{needs}
-use borrow.Author.Needs.{needs}
-use Rattle.compile.proofs.TableSteps.{compile-done, table-steps}
+use Rattle.compile.proofs.TableSteps.{compile-done, compile-long, compile-refused, compile-inside, compile-room}
 use Rattle.compile.proofs.compile.Statement.{statement}
 use Rattle.compile.proofs.compile.Tie as tie
 
 returns : tie.Need-returns
-returns c = search (table-steps, needs)
+returns c = search compile-long
 
 read-object-requires : tie.Need-read-object-requires
 read-object-requires c κs = search needs
@@ -19,13 +16,13 @@ enum-known-fault : tie.Need-enum-known-fault
 enum-known-fault c = search needs
 
 returns-2 : tie.Need-returns-2
-returns-2 c = search (table-steps, needs)
+returns-2 c = search compile-refused
 
 enum-known-q : tie.Need-enum-known-q
 enum-known-q c = search needs
 
 finish-requires : tie.Need-finish-requires
-finish-requires c κs = search (table-steps, needs)
+finish-requires c κs = search (compile-inside, compile-room, needs)
 
 same-length : tie.Need-same-length
 same-length c = search needs

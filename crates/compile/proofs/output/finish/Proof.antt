@@ -1,7 +1,6 @@
 -- `compile::output::finish` meets its contract. Assumes nothing.
 use borrow.Author.Needs.{needs}
-use borrow.Author.Needs.{needs}
-use Rattle.compile.proofs.TableSteps.{table-steps}
+use Rattle.compile.proofs.TableSteps.{finish-fault, finish-taken}
 use Rattle.compile.proofs.output.finish.Statement.{statement}
 use Rattle.compile.proofs.output.finish.Tie as tie
 
@@ -12,7 +11,7 @@ enum-known-fault : tie.Need-enum-known-fault
 enum-known-fault c = search needs
 
 returns : tie.Need-returns
-returns c = search (table-steps, needs)
+returns c = search finish-fault
 
 enum-told : tie.Need-enum-told
 enum-told c = search needs
@@ -24,7 +23,7 @@ same-length : tie.Need-same-length
 same-length c = search needs
 
 returns-2 : tie.Need-returns-2
-returns-2 c = search (table-steps, needs)
+returns-2 c = search finish-taken
 
 pub finish-spec : {M : Type 1} → statement M
 finish-spec =

@@ -1,7 +1,6 @@
 -- `compile::output::write_table` meets its contract. Assumes nothing.
 use borrow.Author.Needs.{needs}
-use borrow.Author.Needs.{needs}
-use Rattle.compile.proofs.TableSteps.{table-steps}
+use Rattle.compile.proofs.TableSteps.{output-short, output-written}
 use Rattle.compile.proofs.output.write_table.Statement.{statement}
 use Rattle.compile.proofs.output.write_table.Tie as tie
 
@@ -12,7 +11,7 @@ add-length : tie.Need-add-length
 add-length c = search needs
 
 returns : tie.Need-returns
-returns c = search (table-steps, needs)
+returns c = search output-short
 
 narrow-requires : tie.Need-narrow-requires
 narrow-requires c κs = search needs
@@ -36,7 +35,7 @@ same-length : tie.Need-same-length
 same-length c = search needs
 
 returns-2 : tie.Need-returns-2
-returns-2 c = search (table-steps, needs)
+returns-2 c = search output-written
 
 pub write-table-spec : {M : Type 1} → statement M
 write-table-spec =

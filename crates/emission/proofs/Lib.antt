@@ -1,0 +1,5 @@
+-- The laws of the definitions.
+pub mod WritingSteps
+pub mod LeafWriting
+pub mod HeadWriting
+pub mod TreeWriting

@@ -1,0 +1,157 @@
+-- Trees as they are written: one behind another, and what holds where one was read. Assumes nothing.
+use mathlib.Core.Path.{_≡_, refl, sym, ap, _∙_}
+use mathlib.Core.Bool.{Bool}
+use mathlib.Core.List.{List, [], _∷_, _++_, append-assoc}
+use Prim.Native.Nat.{ℕ, _+_, _*_, _-_, _≤_}
+use native.Mathlib.Omega.{arith}
+use lib.ListN.{length}
+use lib.Seq.{sets}
+use Rattle.lexis.proofs.Stores.{sets-sets, sets-behind}
+use Rattle.lexis.proofs.Parts.{sub-length}
+use Rattle.refusals.specs.Reading.{Reading, refused, got}
+use Rattle.refusals.specs.declared.Refusal.{Refusal}
+use Rattle.meaning.specs.Constraints.{Range, Text, Leaf, booleans, integers, strings, datePattern, dates, timePattern, Object, object, Attributes, noMore, attribute, Value, any, nested, leaf}
+use Rattle.meaning.specs.Admission.{firstRange, firstText}
+use Rattle.meaning.specs.Counting.{rangeNumbers, textNumbers, valueRecords, valueNumbers, objectNumbers, objectRecords, upFrom}
+use Rattle.meaning.specs.Proper.{ProperValue}
+use Rattle.items.proofs.LeafReading.{TreeRead}
+use Rattle.lexis.proofs.Parts.{part-length}
+use Rattle.table.specs.Records.{Record, recordSize, fieldCount, encode, encodes}
+use Rattle.table.proofs.RecordLaws.{AllFive, length-encode, length-encodes}
+use Rattle.flatten.specs.Flatten.{integerRecords, dateRecords, stringRecords, leafRecords, valueLink, objectTable, attributesTable, valueTable}
+use Rattle.emission.specs.Answers.{spot, Wrote, wrote, written, linkBelow, Room}
+use Rattle.emission.specs.declared.spots.Spot.{Spot}
+use Rattle.emission.specs.declared.spots.TreeRead.the-variants.{Refused, Read}
+use Rattle.emission.specs.declared.spots.TreeRead
+use Rattle.emission.proofs.WritingSteps.{pick-there, pick-none}
+
+-- ---- records, one behind another
+
+five-append : (xs ys : List Record) → AllFive xs → AllFive ys → AllFive (xs ++ ys)
+five-append [] ys f g = g
+five-append (x ∷ xs) ys f g = (f .0, five-append xs ys (f .1) g)
+
+five-integers : (l : List Range) → AllFive (integerRecords l)
+five-integers [] = tt
+five-integers (x ∷ xs) = (refl, five-integers xs)
+
+five-dates : (l : List Range) → AllFive (dateRecords l)
+five-dates [] = tt
+five-dates (x ∷ xs) = (refl, five-dates xs)
+
+five-strings : (l : List Text) (pool : ℕ) → AllFive (stringRecords pool l)
+five-strings [] pool = tt
+five-strings (x ∷ xs) pool = (refl, five-strings xs (pool + length (x .text)))
+
+five-leaf : (l : Leaf) (pool : ℕ) → AllFive (leafRecords pool l)
+five-leaf (booleans n f) pool = (refl, tt)
+five-leaf (integers l) pool = five-integers l
+five-leaf (strings l) pool = five-strings l pool
+five-leaf (datePattern n f) pool = (refl, tt)
+five-leaf (dates l) pool = five-dates l
+five-leaf (timePattern n f) pool = (refl, tt)
+
+-- every record of a tree has five numbers
+mutual
+  unfolding objectTable attributesTable valueTable
+
+  pub five-object : (o : Object) (pool : ℕ) → AllFive (objectTable o pool)
+  five-object (object n t c xs) pool = (refl, five-attributes xs (pool + length t + length c))
+
+  pub five-attributes : (xs : Attributes) (pool : ℕ) → AllFive (attributesTable xs pool)
+  five-attributes noMore pool = tt
+  five-attributes (attribute n e w v more) pool =
+      (refl, five-append (valueTable v (pool + length w)) _ (five-value v (pool + length w)) (five-attributes more _))
+
+  pub five-value : (v : Value) (pool : ℕ) → AllFive (valueTable v pool)
+  five-value any pool = tt
+  five-value (nested o) pool = five-object o pool
+  five-value (leaf l) pool = five-leaf l pool
+
+encodes-append : (little : Bool) (xs ys : List Record) → encodes little (xs ++ ys) ≡ encodes little xs ++ encodes little ys
+encodes-append little [] ys = refl
+encodes-append little (x ∷ xs) ys = rw (encodes-append little xs ys, append-assoc)
+
+-- records behind others
+pub rows-behind : (little : Bool) (xs ys : List Record) (n m : ℕ) (out : List ℕ) → AllFive xs → m ≡ n + length xs
+    → sets (sets out (recordSize * n) (encodes little xs)) (recordSize * m) (encodes little ys) ≡ sets out (recordSize * n) (encodes little (xs ++ ys))
+rows-behind little xs ys n m out f e =
+    let l = length-encodes little xs f in
+    sets-behind (encodes little xs) (encodes little ys) out (recordSize * n) (recordSize * m) (omega arith) ∙ ap (λ (x : List ℕ). sets out (recordSize * n) x) (sym (encodes-append little xs ys))
+
+-- a record below others that are written already
+pub row-below : (little : Bool) (r : Record) (xs : List Record) (n : ℕ) (out : List ℕ) → length (r .fields) ≡ fieldCount
+    → sets (sets out (recordSize * (n + 1)) (encodes little xs)) (recordSize * n) (encode little r) ≡ sets out (recordSize * n) (encodes little (r ∷ xs))
+row-below little r xs n out f =
+    let l = length-encode little r f in
+    sym (sets-sets (encode little r) (encodes little xs) out (recordSize * n) (recordSize * (n + 1)) (omega arith))
+    ∙ sets-behind (encode little r) (encodes little xs) out (recordSize * n) (recordSize * (n + 1)) (omega arith)
+
+-- ---- what an answer says of the tree that was read
+
+pub record IsTree {A : Type 0} (table : A → ℕ → List Record) (pool : A → List ℕ) (little : Bool) (p : Spot) (rs bs rs' bs' : List ℕ) (q : Spot) (x : Reading A) : Type 0 where
+  pub tree : A
+  pub is : x ≡ got tree (q .place)
+  pub spot : q ≡ spot (q .place) (p .next + length (table tree (p .pool))) (p .pool + length (pool tree))
+  pub records : rs' ≡ sets rs (recordSize * p .next) (encodes little (table tree (p .pool)))
+  pub bytes : bs' ≡ sets bs (p .pool) (pool tree)
+
+module _ {A : Type 0} (table : A → ℕ → List Record) (pool : A → List ℕ) (little : Bool) (p : Spot) (rs bs rs' bs' : List ℕ) where
+  pub is-tree : (q : Spot) (x : Reading A) → wrote (Read q) rs' bs' ≡ written table pool little p rs bs x → IsTree table pool little p rs bs rs' bs' q x
+  unfolding written
+  is-tree q (refused x) e =
+      let o : Read q ≡ Refused x = ap (λ (w : Wrote TreeRead.TreeRead). w .answer) e in
+      let z : _≡_ {A = ℕ} 0 1 = cc in
+      absurd (omega arith)
+  is-tree q (got a at) e =
+      let o : Read q ≡ Read (spot at (p .next + length (table a (p .pool))) (p .pool + length (pool a))) = ap (λ (w : Wrote TreeRead.TreeRead). w .answer) e in
+      let k : q ≡ spot at (p .next + length (table a (p .pool))) (p .pool + length (pool a)) = cc in
+      let l : q .place ≡ at = ap (λ (w : Spot). w .place) k in
+      record {
+        tree = a;
+        is = ap (λ (y : ℕ). got a y) (sym l);
+        spot = k ∙ ap (λ (y : ℕ). spot y (p .next + length (table a (p .pool))) (p .pool + length (pool a))) (sym l);
+        records = ap (λ (w : Wrote TreeRead.TreeRead). w .records) e;
+        bytes = ap (λ (w : Wrote TreeRead.TreeRead). w .bytes) e;
+      }
+
+  pub is-refused : (y : Refusal) (x : Reading A) → wrote (Refused y) rs' bs' ≡ written table pool little p rs bs x → x ≡ refused y
+  unfolding written
+  is-refused y (refused x) e = let o : Refused y ≡ Refused x = ap (λ (w : Wrote TreeRead.TreeRead). w .answer) e in cc
+  is-refused y (got a at) e =
+      let o : Refused y ≡ Read (spot at (p .next + length (table a (p .pool))) (p .pool + length (pool a))) = ap (λ (w : Wrote TreeRead.TreeRead). w .answer) e in
+      let z : _≡_ {A = ℕ} 0 1 = cc in
+      absurd (omega arith)
+
+-- where a tree was read there is room behind it
+pub tree-room : {s : List ℕ} {p q : Spot} {ns : List ℕ} {records : ℕ} {Proper : Type 0} {bs : List ℕ} (table : List Record) → Room s p → TreeRead s (p .next) (p .place) ns records Proper bs (q .place) → length table ≡ records
+    → q ≡ spot (q .place) (p .next + length table) (p .pool + length bs) → Room s q
+tree-room {s} {p} {q} {bs = bs} table room h l e =
+    let n : q .next ≡ p .next + length table = ap (λ (w : Spot). w .next) e in
+    let m : q .pool ≡ p .pool + length bs = ap (λ (w : Spot). w .pool) e in
+    let k = sub-length (h .pool) in
+    let j = part-length s (p .place) (q .place) (h .most) in
+    let r = h .room (room .records) in
+    let a = room .bytes in
+    let b = h .least in
+    record { inside = h .most; short = room .short; records = omega arith; bytes = omega arith }
+
+-- the link to a value is the number of its first record, 0 where it has none
+ranges-link : (l : List Range) (n : ℕ) → 1 ≤ length l → rangeNumbers l ≡ upFrom n (length l) → firstRange l ≡ n
+ranges-link [] n h e = absurd (omega arith)
+ranges-link (x ∷ xs) n h e = cc
+
+texts-link : (l : List Text) (n : ℕ) → 1 ≤ length l → textNumbers l ≡ upFrom n (length l) → firstText l ≡ n
+texts-link [] n h e = absurd (omega arith)
+texts-link (x ∷ xs) n h e = cc
+
+pub value-link : (v : Value) (n : ℕ) → valueNumbers v ≡ upFrom n (valueRecords v) → ProperValue v → linkBelow n (n + valueRecords v) ≡ valueLink v
+unfolding valueNumbers valueRecords objectNumbers objectRecords ProperValue
+value-link any n e g = sym (pick-none n (n + 0) n (omega arith))
+value-link (nested (object m t c xs)) n e g = let k : n ≡ m = cc in sym (pick-there n _ n m (omega arith) (sym k))
+value-link (leaf (booleans m f)) n e g = let k : n ≡ m = cc in sym (pick-there n _ n m (omega arith) (sym k))
+value-link (leaf (integers l)) n e g = let h : 1 ≤ length l = g .0 in sym (pick-there n _ n _ (omega arith) (ranges-link l n h e))
+value-link (leaf (strings l)) n e g = let h : 1 ≤ length l = g .0 in sym (pick-there n _ n _ (omega arith) (texts-link l n h e))
+value-link (leaf (datePattern m f)) n e g = let k : n ≡ m = cc in sym (pick-there n _ n m (omega arith) (sym k))
+value-link (leaf (dates l)) n e g = let h : 1 ≤ length l = g .0 in sym (pick-there n _ n _ (omega arith) (ranges-link l n h e))
+value-link (leaf (timePattern m f)) n e g = let k : n ≡ m = cc in sym (pick-there n _ n m (omega arith) (sym k))

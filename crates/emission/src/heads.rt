@@ -1,0 +1,205 @@
+// What is written of an object before its attributes, and of an attribute around its value.
+use crate::pool::narrow;
+use crate::pool::place_of;
+use crate::pool::put_part;
+use crate::rows::link_below;
+use crate::rows::put_row;
+use crate::spots::AttributeRead;
+use crate::spots::Spot;
+use lexis::CLOSE_BRACE;
+use lexis::tokens::token_at;
+use refusals::steps::Expected;
+use refusals::steps::expect;
+use table::records::Entry;
+ghost use mathlib.Core.Path.{_≡_};
+ghost use Prim.Native.Nat.{_+_, _*_, _-_, _≤_, _<_};
+ghost use lib.ListN.{length};
+ghost use lib.Seq.{sets};
+ghost use Rattle.lexis.specs.Runs.{part};
+ghost use Rattle.refusals.specs.Limits.{textLimit, recordLimit};
+ghost use Rattle.items.specs.Spans.{withItem};
+ghost use Rattle.constraint.specs.Answers.{TypedPast};
+ghost use Rattle.table.specs.Records.{recordSize, encode};
+ghost use Rattle.table.specs.Answers.{recordOf};
+ghost use Rattle.flatten.specs.Flatten.{make};
+ghost use Rattle.emission.specs.Answers.{PartFits, placeOf, firstLink, ObjectPut, NameRoom, NameKept, attributeRow, CloseRoom, CloseIs, RowRoom, linkBelow};
+
+// The kinds of objects and of attributes.
+const OBJECT_KIND: u8 = 1;
+
+const ATTRIBUTE_KIND: u8 = 2;
+
+// The number of an object's first attribute, 0 where any may follow.
+fn first_link(any: bool, n: usize) -> u32
+    requires { ⌜ n < recordLimit ⌝ }
+    ensures { λ r. ⌜ r ≡ firstLink any n ⌝ }
+{
+    if any {
+        return 0;
+    }
+    narrow(n + 1)
+}
+
+// An object's record by the places of its type and its code, with so many bytes in the pool before them.
+fn object_entry(
+    type_start: usize,
+    type_end: usize,
+    code_start: usize,
+    code_end: usize,
+    pool: usize,
+    first: u32,
+) -> Entry
+    requires { ⌜ RowRoom «type_start» «type_end» pool ⌝ }
+    requires { ⌜ RowRoom «code_start» «code_end» (pool + («type_end» - «type_start»)) ⌝ }
+    ensures { λ r. ⌜ recordOf r ≡ make 1 0 (placeOf «type_start» «type_end» pool) («type_end» - «type_start») (placeOf «code_start» «code_end» (pool + («type_end» - «type_start»))) («code_end» - «code_start») first ⌝ }
+{
+    let type_size = type_end - type_start;
+    let code_size = code_end - code_start;
+    Entry {
+        kind: OBJECT_KIND,
+        flag: 0,
+        a: place_of(type_start, type_end, pool),
+        b: narrow(type_size),
+        c: place_of(code_start, code_end, pool + type_size),
+        d: narrow(code_size),
+        e: first,
+    }
+}
+
+// Writes an object's record and its names; the spot behind its opening brace. Where `any` holds it has no attributes.
+pub fn open_object(
+    s: &[u8],
+    little: bool,
+    p: Spot,
+    type_start: usize,
+    type_end: usize,
+    code_start: usize,
+    code_end: usize,
+    place: usize,
+    any: bool,
+    records: &mut [u8; 49152],
+    bytes: &mut [u8; 16384],
+) -> Spot
+    requires { ⌜ TypedPast (now s) (p .next) (p .pool) (p .place) «type_start» «type_end» «code_start» «code_end» place ⌝ }
+    requires { ⌜ length (now s) ≤ textLimit ⌝ }
+    ensures { λ r. ⌜ ObjectPut (part (now (s .entry)) «type_start» «type_end») (part (now (s .entry)) «code_start» «code_end») little p place any (now (records .entry)) (now (bytes .entry)) (now (records .exit)) (now (bytes .exit)) r ⌝ }
+{
+    let first = first_link(any, p.next);
+    let entry = object_entry(type_start, type_end, code_start, code_end, p.pool, first);
+    put_row(records, little, p.next, entry);
+    let middle = put_part(s, type_start, type_end, bytes, p.pool);
+    let pool = put_part(s, code_start, code_end, bytes, middle);
+    Spot {
+        place,
+        next: p.next + 1,
+        pool,
+    }
+}
+
+// Puts a name's two places on the stack.
+fn push(names: &mut [u32; 4096], top: usize, start: u32, end: u32)
+    requires { ⌜ top < recordLimit ⌝ }
+    ensures { λ _. ⌜ now (names .exit) ≡ withItem (now (names .entry)) top start end ⌝ }
+{
+    names[2 * top] = start;
+    names[2 * top + 1] = end;
+}
+
+// Writes an attribute's name to the pool and to the stack; the spot behind its opening brace.
+pub fn keep_name(
+    s: &[u8],
+    p: Spot,
+    start: usize,
+    end: usize,
+    place: usize,
+    bytes: &mut [u8; 16384],
+    names: &mut [u32; 4096],
+    top: usize,
+) -> Spot
+    requires { ⌜ NameRoom (now s) p start end top ⌝ }
+    ensures { λ r. ⌜ NameKept (part (now (s .entry)) start end) p place start end top (now (bytes .entry)) (now (names .entry)) (now (bytes .exit)) (now (names .exit)) r ⌝ }
+{
+    push(names, top, narrow(start), narrow(end));
+    let pool = put_part(s, start, end, bytes, p.pool);
+    Spot {
+        place,
+        next: p.next + 1,
+        pool,
+    }
+}
+
+// An attribute's record, by its existence, the places of its name, and the links to its value and to the next attribute.
+fn attribute_entry(flag: u8, start: usize, end: usize, pool: usize, value: u32, next: u32) -> Entry
+    requires { ⌜ RowRoom start end pool ⌝ }
+    ensures { λ r. ⌜ recordOf r ≡ make 2 flag (placeOf start end pool) (end - start) value next 0 ⌝ }
+{
+    let size = end - start;
+    Entry {
+        kind: ATTRIBUTE_KIND,
+        flag,
+        a: place_of(start, end, pool),
+        b: narrow(size),
+        c: value,
+        d: next,
+        e: 0,
+    }
+}
+
+// Writes the record of an attribute whose value ends before record `end`, with the number of the next attribute, or 0.
+fn put_attribute(
+    s: &[u8],
+    records: &mut [u8; 49152],
+    little: bool,
+    p: Spot,
+    flag: u8,
+    name_start: usize,
+    name_end: usize,
+    end: usize,
+    next: usize,
+)
+    requires { ⌜ PartFits (now s) «name_start» «name_end» (p .pool) ⌝ }
+    requires { ⌜ (length (now s) ≤ textLimit) × (p .next < recordLimit) × (next ≤ recordLimit) ⌝ }
+    ensures { λ _. ⌜ now (records .exit) ≡ sets (now (records .entry)) (recordSize * p .next) (encode little (attributeRow flag (part (now (s .entry)) «name_start» «name_end») (p .pool) (linkBelow (p .next + 1) end) next)) ⌝ }
+{
+    let value = link_below(p.next + 1, end);
+    let entry = attribute_entry(flag, name_start, name_end, p.pool, value, narrow(next));
+    put_row(records, little, p.next, entry);
+}
+
+// The `}` of an attribute behind its value, and its record, once the token behind is seen.
+pub fn close_attribute(
+    s: &[u8],
+    little: bool,
+    p: Spot,
+    flag: u8,
+    start: usize,
+    end: usize,
+    q: Spot,
+    records: &mut [u8; 49152],
+) -> AttributeRead
+    requires { ⌜ CloseRoom (now s) p start end q ⌝ }
+    ensures { λ r. ⌜ CloseIs (now (s .entry)) little p flag (part (now (s .entry)) start end) q (now (records .entry)) (now (records .exit)) r ⌝ }
+{
+    match expect(s, CLOSE_BRACE, q.place) {
+        Expected::Fault(fault) => {
+            return AttributeRead::Refused(fault);
+        }
+        Expected::Taken(close) => {
+            let t = token_at(s, close.end);
+            if t.sort == CLOSE_BRACE {
+                put_attribute(s, records, little, p, flag, start, end, q.next, 0);
+                return AttributeRead::Last(Spot {
+                    place: t.end,
+                    next: q.next,
+                    pool: q.pool,
+                });
+            }
+            put_attribute(s, records, little, p, flag, start, end, q.next, q.next);
+            return AttributeRead::More(Spot {
+                place: close.end,
+                next: q.next,
+                pool: q.pool,
+            });
+        }
+    }
+}

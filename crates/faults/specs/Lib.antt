@@ -1,0 +1,4 @@
+pub mod Faults
+pub mod DataFaults
+pub mod LeafFaults
+pub mod ConstraintFaults

@@ -1,0 +1,4 @@
+-- The laws of the definitions.
+pub mod Placed
+pub mod FlattenLaws
+pub mod CheckedCompiled

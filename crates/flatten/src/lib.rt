@@ -1,0 +1,1 @@
+// A tree as a table. The definitions stand in specs/.

@@ -1,0 +1,4 @@
+-- The laws of the definitions.
+pub mod Pairs
+pub mod IntervalReading
+pub mod IntervalSteps

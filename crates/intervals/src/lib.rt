@@ -1,0 +1,3 @@
+// Literals and intervals of constraint text. The definitions stand in specs/.
+pub mod ends;
+pub mod literals;
