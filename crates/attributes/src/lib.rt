@@ -159,27 +159,26 @@ fn judge_value(
     ensures { λ r. ⌜ ValueIs (tableOf (now (records .entry)) (now (pool .entry))) (now (s .entry)) rows (now (tape .entry)) (value .0) row r ⌝ }
 {
     if value.0 == 0 {
-        return Step::Told(Verdict::Valid);
-    }
-    let kind = kind_of(records, value);
-    let holds = number(tape, row, 0);
-    if kind == 1 {
-        if holds == 0 {
-            let block = block_at(tape, row);
-            return Step::Nested {
-                object: value,
-                block,
-            };
+        Step::Told(Verdict::Valid)
+    } else {
+        let kind = kind_of(records, value);
+        let holds = number(tape, row, 0);
+        if kind == 1 {
+            if holds == 0 {
+                let block = block_at(tape, row);
+                Step::Nested {
+                    object: value,
+                    block,
+                }
+            } else {
+                Step::Told(fails(UNSUITED, value, number(tape, row, 3)))
+            }
+        } else if holds == 0 {
+            Step::Told(fails(UNSUITED, value, number(tape, row, 3)))
+        } else {
+            Step::Told(judge_leaf(records, pool, s, tape, rows, memo, value, row))
         }
-        let v = fails(UNSUITED, value, number(tape, row, 3));
-        return Step::Told(v);
     }
-    if holds == 0 {
-        let v = fails(UNSUITED, value, number(tape, row, 3));
-        return Step::Told(v);
-    }
-    let v = judge_leaf(records, pool, s, tape, rows, memo, value, row);
-    Step::Told(v)
 }
 
 // The members of a block, by the attribute with a number.
@@ -205,17 +204,17 @@ pub fn judge_attribute(
     match find_member(s, tape, rows, block.first, block.inside, name_of(pool, e)) {
         Found::Nothing => {
             if flag == REQUIRED {
-                let v = fails(MISSING, n, block.place);
-                return Step::Told(v);
+                Step::Told(fails(MISSING, n, block.place))
+            } else {
+                Step::Told(Verdict::Valid)
             }
-            return Step::Told(Verdict::Valid);
         }
         Found::At(row) => {
             if flag == PROHIBITED {
-                let v = fails(PRESENT, n, number(tape, row, 3));
-                return Step::Told(v);
+                Step::Told(fails(PRESENT, n, number(tape, row, 3)))
+            } else {
+                judge_value(records, pool, s, tape, rows, memo, RecordNumber(e.c), row)
             }
-            return judge_value(records, pool, s, tape, rows, memo, RecordNumber(e.c), row);
         }
     }
 }

@@ -17,12 +17,6 @@ enum-told c = search needs
 fails-requires : tie.Need-fails-requires
 fails-requires c κs = search needs
 
-returns : tie.Need-returns
-returns c = (search needs, search member-missing)
-
-returns-2 : tie.Need-returns-2
-returns-2 c = (search needs, search member-absent)
-
 enum-known-row : tie.Need-enum-known-row
 enum-known-row c = search needs
 
@@ -32,17 +26,23 @@ number-requires c κs = (search (row-lies, member-row), search needs)
 fails-requires-2 : tie.Need-fails-requires-2
 fails-requires-2 c κs = search needs
 
-returns-3 : tie.Need-returns-3
-returns-3 c = (search needs, search member-present)
-
 judge-value-requires : tie.Need-judge-value-requires
 judge-value-requires c κs = (search needs, (search attribute-link, (search member-row, search needs)))
+
+returns : tie.Need-returns
+returns c = (search needs, search (member-missing, member-absent, member-present, member-judged))
+
+returns-2 : tie.Need-returns-2
+returns-2 c = (search needs, search (member-missing, member-absent, member-present, member-judged))
+
+returns-3 : tie.Need-returns-3
+returns-3 c = (search needs, search (member-missing, member-absent, member-present, member-judged))
 
 same-length : tie.Need-same-length
 same-length c = search needs
 
 returns-4 : tie.Need-returns-4
-returns-4 c = (search needs, search member-judged)
+returns-4 c = (search needs, search (member-missing, member-absent, member-present, member-judged))
 
 pub judge-attribute-spec : {M : Type 1} → statement M
 judge-attribute-spec =
@@ -52,12 +52,12 @@ judge-attribute-spec =
     find-member-requires
     enum-told
     fails-requires
-    returns
-    returns-2
     enum-known-row
     number-requires
     fails-requires-2
-    returns-3
     judge-value-requires
+    returns
+    returns-2
+    returns-3
     same-length
     returns-4)
