@@ -10,6 +10,7 @@ pub fn cases(stream: &mut Stream) {
     ladders(stream);
     tails(stream);
     fans(stream);
+    lists(stream);
 }
 
 /// So many objects, each with so many attributes of one name that all lead to the next object; those of the last are
@@ -119,6 +120,53 @@ fn fans(stream: &mut Stream) {
             let data = wide(members, more);
             let title = format!("{members} members and{more} by {objects} objects and {chain} attributes");
             add(stream, &title, &table, 1, data.as_bytes());
+        }
+    }
+}
+
+/// Objects of so many levels, each leading on by `p` and by `q`; the last has so many attributes `v`, each of which leads into one
+/// list of as many items at another item, the last item first. The last item alone is of the value 5.
+fn listed(levels: u32, width: u32, kind: u8) -> Table {
+    let (last, items) = (1 + 3 * levels, 2 + 3 * levels + width);
+    let mut records = Vec::new();
+    for level in 0..levels {
+        let own = 1 + 3 * level;
+        records.push(record(1, 0, [0, 1, 0, 0, own + 1]));
+        records.push(record(2, 1, [1, 1, own + 3, own + 2, 0]));
+        records.push(record(2, 1, [2, 1, own + 3, 0, 0]));
+    }
+    records.push(record(1, 0, [0, 1, 0, 0, last + 1]));
+    for at in 0..width {
+        let next = if at + 1 == width { 0 } else { last + at + 2 };
+        records.push(record(2, 1, [3, 1, items + width - 1 - at, next, 0]));
+    }
+    for at in 0..width {
+        let next = if at + 1 == width { 0 } else { items + at + 1 };
+        let (low, high) = match (kind, at + 1 == width) {
+            (5, true) => (4, 1),
+            (5, false) => (0, 1),
+            (_, true) => (5, 5),
+            (_, false) => (6, 9),
+        };
+        records.push(record(kind, 0, [low, high, 0, 0, next]));
+    }
+    table(1, &records, b"Apqv5")
+}
+
+/// A data text of so many levels of `p` and `q` around members, the last of which may differ.
+fn forked(levels: u32, inside: &str, last: &str) -> String {
+    if levels == 0 {
+        return format!("<{last}>");
+    }
+    format!("<p={} q={}>", forked(levels - 1, inside, inside), forked(levels - 1, inside, last))
+}
+
+fn lists(stream: &mut Stream) {
+    for (levels, width, kind, good) in [(3, 20, 4, "v=<5>"), (3, 20, 5, "v=<\"5\">"), (8, 1_000, 4, "v=<5>"), (8, 1_000, 5, "v=<\"5\">")] {
+        let table = ordered(&listed(levels, width, kind), "lb").bytes();
+        for last in [good, "v=<4>", "v=<\"A\">", "v=<>", "w=<4>"] {
+            let title = format!("{levels} levels of two blocks, {last} in the last, by {width} attributes into a list of kind {kind}");
+            add(stream, &title, &table, 1, forked(levels, good, last).as_bytes());
         }
     }
 }
