@@ -1,3 +1,4 @@
 mod CopySteps
 mod DigestSteps
 mod Counting
+mod HeadSteps

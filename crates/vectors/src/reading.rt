@@ -10,7 +10,7 @@ ghost use Prim.Native.Nat.{_≤_};
 ghost use mathlib.Core.Path.{_≡_};
 ghost use lib.ListN.{length};
 ghost use Rattle.io.specs.Counts.{Counts};
-ghost use Rattle.vectors.specs.Reading.{Grown, cut, Copied};
+ghost use Rattle.vectors.specs.Reading.{headOf, HeadRead, Grown, cut, Copied};
 
 // What a case begins with. Kind 0 says that no case is left.
 pub struct Head {
@@ -19,10 +19,11 @@ pub struct Head {
     pub number: u32,
 }
 
-// Reads what the next case begins with.
-pub fn read_head() -> Head {
-    let mut head = [0u8; 6];
-    let n = io::read_full(0, &mut head);
+// What six bytes say that a case begins with; none where fewer were read.
+fn head_of(head: &[u8], n: usize) -> Head
+    requires { ⌜ 6 ≤ length (now head) ⌝ }
+    ensures { λ r. ⌜ r ≡ headOf (now (head .entry)) n ⌝ }
+{
     if n < 6 {
         return Head {
             kind: 0,
@@ -33,8 +34,17 @@ pub fn read_head() -> Head {
     Head {
         kind: head[0],
         little: head[1] == 1,
-        number: get32(&head, 2, false),
+        number: get32(head, 2, false),
     }
+}
+
+// Reads what the next case begins with. Of the bytes that are read nothing can be said.
+pub fn read_head() -> Head
+    ensures { λ r. ⌜ HeadRead r ⌝ }
+{
+    let mut head = [0u8; 6];
+    let n = io::read_full(0, &mut head);
+    head_of(&head, n)
 }
 
 // Repeats the bytes before a place, so many, up to an end.
