@@ -1,14 +1,13 @@
 -- What a step of the search for a repeated name and of the readers of names shows; and the names of a block's earlier rows. Assumes nothing.
 use mathlib.Core.Path.{_≡_, refl, sym, ap, _∙_}
-use mathlib.Core.Bool.{Bool, true, false, cond, _||_}
+use mathlib.Core.Bool.{Bool, true, false, _||_}
 use mathlib.Core.List.{List, [], _∷_}
 use Prim.Native.Nat.{ℕ, _+_, _*_, _-_, _≤_, _<_}
 use native.Mathlib.Omega.{arith}
-use lib.Dec.{ltb}
-use lib.ListN.{length, getD, drop, drop-of-length-le}
-use lib.Seq.{drop-cons, drop-drop, getD-take, getD-drop}
-use borrow.Author.Tests.{eq-eqb, ne-eqb, lt-ltb, le-ltb, ltb-true, ltb-false}
-use Rattle.lexis.specs.Runs.{byteAt, part, same, listed}
+use lib.ListN.{length, drop}
+use lib.Seq.{drop-drop}
+use borrow.Author.Tests.{lt-ltb, le-ltb}
+use Rattle.lexis.specs.Runs.{letterAt, part, same, listed}
 use Rattle.lexis.specs.Tokens.{spelling}
 use Rattle.lexis.specs.DataTokens.{equals}
 use Rattle.lexis.specs.declared.Token.{Token}
@@ -21,7 +20,7 @@ use Rattle.data.specs.Placed.{span}
 use Rattle.data.specs.Data.{expect, nameFrom, spanOf}
 use Rattle.data.specs.Tape.{rowSize}
 use Rattle.refusals.specs.Answers.{ExpectIs}
-use Rattle.data.specs.Answers.{spanReading, SpanPast, SpanIs, ContentIs, contentOf, Inside, letterAt, numberAt, earlier, Chain, Earlier, memberOf}
+use Rattle.data.specs.Answers.{spanReading, SpanPast, SpanIs, ContentIs, contentOf, Inside, numberAt, earlier, Chain, Earlier, memberOf}
 use Rattle.refusals.specs.declared.steps.Expected.{Expected}
 use Rattle.refusals.specs.declared.steps.Expected.the-variants.{Fault, Taken}
 use Rattle.data.specs.declared.tokens.SpanRead.{SpanRead}
@@ -30,68 +29,8 @@ use Rattle.data.specs.declared.contents.ContentStart.{ContentStart}
 use Rattle.data.specs.declared.contents.ContentStart.the-variants.{Faulty}
 use Rattle.refusals.proofs.StepLaws.{expected-fault, expected-token, expected-past}
 use Rattle.lexis.proofs.Parts.{part-length}
+use Rattle.lexis.proofs.Letters.{head, letter-first, letter-inside, head-differ, head-end, head-on}
 use Rattle.data.proofs.ContentSteps.{content-lower}
-
--- one more than a list's first number, 0 where it has none
-abbrev first : List ℕ → ℕ
-first [] = 0
-first (x ∷ xs) = x + 1
-
--- a letter of a name, and none at its end
-pub letter-there : (s : List ℕ) (at end b : ℕ) → at < end → b ≡ byteAt s at → b + 1 ≡ letterAt s at end
-letter-there s at end b h e = rw (lt-ltb at end h, e)
-
-pub letter-none : (s : List ℕ) (at end : ℕ) → end ≤ at → 0 ≡ letterAt s at end
-letter-none s at end h = rw (le-ltb at end h)
-
--- a letter of a name is the first number of what is left of it
-module _ (s : List ℕ) (start end i : ℕ) (inside : end ≤ length s) (le : start + i ≤ end) where
-  long : length (part s start end) ≡ end - start
-  long = part-length s start end inside
-
-  letter-first : letterAt s (start + i) end ≡ first (drop i (part s start end))
-  letter-first = by (ltb (start + i) end) refl
-    where
-      by : (b : Bool) → ltb (start + i) end ≡ b → cond b (byteAt s (start + i) + 1) 0 ≡ first (drop i (part s start end))
-      by true e =
-          let l : start + i < end = ltb-true (start + i) end e in
-          let n = long in
-          let h : i < length (part s start end) = omega arith in
-          let g : getD (part s start end) i 0 ≡ byteAt s (start + i) = getD-take (end - start) (drop start s) i 0 (omega arith) ∙ getD-drop start s i 0 in
-          rw (drop-cons (part s start end) i 0 h, g)
-      by false e =
-          let l : end ≤ start + i = ltb-false (start + i) end e in
-          let n = long in
-          let h : length (part s start end) ≤ i = omega arith in
-          rw (drop-of-length-le (part s start end) h)
-
--- a letter that is not 0 stands in the name
-letter-inside : (s : List ℕ) (at end x : ℕ) → x ≡ letterAt s at end → (x ≡ 0 → ⊥) → at < end
-letter-inside s at end x e n = by (ltb at end) refl
-  where
-    by : (b : Bool) → ltb at end ≡ b → at < end
-    by true f = ltb-true at end f
-    by false f = absurd (n (e ∙ ap (λ b. cond b (byteAt s at + 1) 0) f))
-
--- two names, by their letters
-first-differ : (xs ys : List ℕ) → (first xs ≡ first ys → ⊥) → same xs ys ≡ false
-unfolding same
-first-differ [] [] n = absurd (n refl)
-first-differ [] (y ∷ ys) n = refl
-first-differ (x ∷ xs) [] n = refl
-first-differ (x ∷ xs) (y ∷ ys) n = rw (ne-eqb x y (λ e. n (ap (λ k. k + 1) e)))
-
-first-end : (xs ys : List ℕ) → first xs ≡ first ys → first xs ≡ 0 → same xs ys ≡ true
-unfolding same
-first-end [] [] e z = refl
-first-end [] (y ∷ ys) e z = absurd (omega arith)
-first-end (x ∷ xs) ys e z = absurd (omega arith)
-
-first-on : (xs ys : List ℕ) → first xs ≡ first ys → (first xs ≡ 0 → ⊥) → same xs ys ≡ same (drop 1 xs) (drop 1 ys)
-unfolding same
-first-on [] ys e n = absurd (n refl)
-first-on (x ∷ xs) [] e n = absurd (omega arith)
-first-on (x ∷ xs) (y ∷ ys) e n = rw (eq-eqb x y (omega arith))
 
 -- the rows from n on lead up to the last
 chain-low : (s tape : List ℕ) (n end : ℕ) (ws : List (List ℕ)) → Chain s tape n end ws → n ≤ end
@@ -168,14 +107,14 @@ module _ (s tape : List ℕ) (low end start stop n : ℕ) (again : Bool) (inv : 
   names-in from to l e f = rw (e, f) (enter (inv .names) (inv .chain) l (inv .is))
 
 module _ (s tape : List ℕ) (low end start stop n from to i : ℕ) (again : Bool) (inv : InLetters s tape low end start stop n from to i again) (x y : ℕ) (ex : x ≡ letterAt s (start + i) stop) (ey : y ≡ letterAt s (from + i) to) where
-  here : x ≡ first (drop i (part s start stop))
-  here = let g = inv .span in ex ∙ letter-first s start stop i (g .inside) (inv .here)
+  here : x ≡ head (drop i (part s start stop))
+  here = let g = inv .span in ex ∙ letter-first s start stop i (g .inside)
 
-  there : y ≡ first (drop i (part s from to))
-  there = ey ∙ letter-first s from to i (inv .inside) (inv .there)
+  there : y ≡ head (drop i (part s from to))
+  there = ey ∙ letter-first s from to i (inv .inside)
 
   differ : (x ≡ y → ⊥) → same (drop i (part s start stop)) (drop i (part s from to)) ≡ false
-  differ d = first-differ _ _ (λ e. d (here ∙ e ∙ sym there))
+  differ d = head-differ _ _ (λ e. d (here ∙ e ∙ sym there))
 
   pub letters-differ : (l : ℕ) → (x ≡ y → ⊥) → l ≡ numberAt tape n 8 → InNames s tape low end start stop l again
   letters-differ l d e = rw e (record {
@@ -192,7 +131,7 @@ module _ (s tape : List ℕ) (low end start stop n from to i : ℕ) (again : Boo
   names-less l e = omega arith
 
   pub letters-end : x ≡ y → x ≡ 0 → true ≡ listed (part s start stop) (earlier s tape low end)
-  letters-end e z = rw (first-end (drop i (part s start stop)) (drop i (part s from to)) (sym here ∙ e ∙ there) (sym here ∙ z)) at (inv .is)
+  letters-end e z = rw (head-end (drop i (part s start stop)) (drop i (part s from to)) (sym here ∙ e ∙ there) (sym here ∙ z)) at (inv .is)
 
   module _ (e : x ≡ y) (z : x ≡ 0 → ⊥) where
     here-more : start + i < stop
@@ -205,7 +144,7 @@ module _ (s tape : List ℕ) (low end start stop n from to i : ℕ) (again : Boo
     letters-on =
         let a = here-more in
         let b = there-more in
-        let f = first-on (drop i (part s start stop)) (drop i (part s from to)) (sym here ∙ e ∙ there) (λ g. z (here ∙ g)) in
+        let f = head-on (drop i (part s start stop)) (drop i (part s from to)) (sym here ∙ e ∙ there) (λ g. z (here ∙ g)) in
         record {
           names = inv .names;
           chain = inv .chain;

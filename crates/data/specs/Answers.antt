@@ -7,7 +7,7 @@ use Prim.Native.Nat.{ℕ, zero, suc, _+_, _*_, _-_, _≤_, _<_}
 use lib.Dec.{eqb, ltb}
 use lib.ListN.{length, getD}
 use lib.Seq.{sets}
-use Rattle.lexis.specs.Runs.{byteAt, part}
+use Rattle.lexis.specs.Runs.{part}
 use Rattle.lexis.specs.Spelling.{greater}
 use Rattle.lexis.specs.Tokens.{name}
 use Rattle.lexis.specs.Tokens
@@ -138,10 +138,6 @@ pub record LeafEnds (s : List ℕ) (holds place start end from : ℕ) (r : Conte
 pub record Inside (s : List ℕ) (start end : ℕ) : Type 0 where
   pub order : start < end
   pub inside : end ≤ length s
-
--- one more than the byte at a place of a name, 0 at the name's end
-abbrev pub letterAt : List ℕ → ℕ → ℕ → ℕ
-letterAt s at end = cond (ltb at end) (byteAt s at + 1) 0
 
 -- the number i of row n
 abbrev pub numberAt : List ℕ → ℕ → ℕ → ℕ

@@ -6,6 +6,7 @@ use crate::tokens::SpanRead;
 use crate::tokens::expect;
 use lexis::EQUALS;
 use lexis::Token;
+use lexis::runs::letter;
 use refusals::Cause;
 use refusals::Refusal;
 use refusals::limits::NAME_LIMIT;
@@ -16,22 +17,7 @@ ghost use Prim.Native.Nat.{_+_, _≤_};
 ghost use lib.ListN.{length};
 ghost use Rattle.lexis.specs.Runs.{part, listed};
 ghost use Rattle.data.specs.Data.{nameFrom};
-ghost use Rattle.data.specs.Answers.{letterAt, Inside, Earlier, earlier, SpanIs, ContentIs, memberOf};
-
-// A byte of the text, as a number.
-fn wide(b: u8) -> usize
-    ensures { λ r. ⌜ r ≡ b ⌝ }
-{
-    b as usize
-}
-
-// One more than the byte at a place of a name, and 0 at the name's end.
-fn letter(s: &[u8], at: usize, end: usize) -> usize
-    requires { ⌜ end ≤ length (now s) ⌝ }
-    ensures { λ r. ⌜ r ≡ letterAt (now (s .entry)) at end ⌝ }
-{
-    if at < end { wide(s[at]) + 1 } else { 0 }
-}
+ghost use Rattle.data.specs.Answers.{Inside, Earlier, earlier, SpanIs, ContentIs, memberOf};
 
 // Whether the bytes from `start` up to `stop` are a name of the rows from `first` on, from link to link, up to `end`.
 fn repeated(s: &[u8], tape: &[u16], first: usize, end: usize, start: usize, stop: usize) -> bool

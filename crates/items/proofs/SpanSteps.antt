@@ -1,73 +1,14 @@
 -- What a step of the search for a repeated span shows, and what holds of spans by twos. Assumes nothing.
-use mathlib.Core.Path.{_≡_, refl, sym, ap, _∙_}
-use mathlib.Core.Bool.{Bool, true, false, cond, _||_}
-use mathlib.Core.List.{List, [], _∷_}
+use mathlib.Core.Path.{_≡_, refl, sym, _∙_}
+use mathlib.Core.Bool.{Bool, true, false, _||_}
+use mathlib.Core.List.{List, []}
 use Prim.Native.Nat.{ℕ, suc, _+_, _*_, _-_, _≤_, _<_}
 use native.Mathlib.Omega.{arith}
-use lib.Dec.{ltb}
-use lib.ListN.{length, getD, drop, drop-of-length-le}
-use lib.Seq.{drop-cons, drop-drop, getD-take, getD-drop}
-use borrow.Author.Tests.{eq-eqb, ne-eqb, lt-ltb, le-ltb, ltb-true, ltb-false}
-use Rattle.lexis.specs.Runs.{byteAt, part, same, listed}
-use Rattle.lexis.proofs.Parts.{part-length}
-use Rattle.items.specs.Spans.{firstOf, secondOf, spanAt, latest, earlier, SpansIn, letterAt}
-
--- one more than a list's first number, 0 where it has none
-abbrev head : List ℕ → ℕ
-head [] = 0
-head (x ∷ xs) = x + 1
-
--- a letter of a run, and none at its end
-pub letter-there : (s : List ℕ) (at end b : ℕ) → at < end → b ≡ byteAt s at → b + 1 ≡ letterAt s at end
-letter-there s at end b h e = rw (lt-ltb at end h, e)
-
-pub letter-none : (s : List ℕ) (at end : ℕ) → end ≤ at → 0 ≡ letterAt s at end
-letter-none s at end h = rw (le-ltb at end h)
-
--- a letter of a run is the first number of what is left of it
-letter-first : (s : List ℕ) (start end i : ℕ) → end ≤ length s → letterAt s (start + i) end ≡ head (drop i (part s start end))
-letter-first s start end i inside = by (ltb (start + i) end) refl
-  where
-    by : (b : Bool) → ltb (start + i) end ≡ b → cond b (byteAt s (start + i) + 1) 0 ≡ head (drop i (part s start end))
-    by true e =
-        let l : start + i < end = ltb-true (start + i) end e in
-        let n = part-length s start end inside in
-        let h : i < length (part s start end) = omega arith in
-        let g : getD (part s start end) i 0 ≡ byteAt s (start + i) = getD-take (end - start) (drop start s) i 0 (omega arith) ∙ getD-drop start s i 0 in
-        rw (drop-cons (part s start end) i 0 h, g)
-    by false e =
-        let l : end ≤ start + i = ltb-false (start + i) end e in
-        let n = part-length s start end inside in
-        let h : length (part s start end) ≤ i = omega arith in
-        rw (drop-of-length-le (part s start end) h)
-
--- a letter that is not 0 stands in the run
-letter-inside : (s : List ℕ) (at end x : ℕ) → x ≡ letterAt s at end → (x ≡ 0 → ⊥) → at < end
-letter-inside s at end x e n = by (ltb at end) refl
-  where
-    by : (b : Bool) → ltb at end ≡ b → at < end
-    by true f = ltb-true at end f
-    by false f = absurd (n (e ∙ ap (λ b. cond b (byteAt s at + 1) 0) f))
-
--- two runs, by their letters
-head-differ : (xs ys : List ℕ) → (head xs ≡ head ys → ⊥) → same xs ys ≡ false
-unfolding same
-head-differ [] [] n = absurd (n refl)
-head-differ [] (y ∷ ys) n = refl
-head-differ (x ∷ xs) [] n = refl
-head-differ (x ∷ xs) (y ∷ ys) n = rw (ne-eqb x y (λ e. n (ap (λ k. k + 1) e)))
-
-head-end : (xs ys : List ℕ) → head xs ≡ head ys → head xs ≡ 0 → same xs ys ≡ true
-unfolding same
-head-end [] [] e z = refl
-head-end [] (y ∷ ys) e z = absurd (omega arith)
-head-end (x ∷ xs) ys e z = absurd (omega arith)
-
-head-on : (xs ys : List ℕ) → head xs ≡ head ys → (head xs ≡ 0 → ⊥) → same xs ys ≡ same (drop 1 xs) (drop 1 ys)
-unfolding same
-head-on [] ys e n = absurd (n refl)
-head-on (x ∷ xs) [] e n = absurd (omega arith)
-head-on (x ∷ xs) (y ∷ ys) e n = rw (eq-eqb x y (omega arith))
+use lib.ListN.{length, drop}
+use lib.Seq.{drop-drop}
+use Rattle.lexis.specs.Runs.{letterAt, part, same, listed}
+use Rattle.lexis.proofs.Letters.{head, letter-first, letter-inside, head-differ, head-end, head-on}
+use Rattle.items.specs.Spans.{firstOf, secondOf, spanAt, latest, earlier, SpansIn}
 
 -- at the spans before n of the search for the bytes from `start` up to `stop`
 pub record InNames (s spans : List ℕ) (first end start stop n : ℕ) (again : Bool) : Type 0 where

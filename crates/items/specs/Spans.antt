@@ -1,10 +1,8 @@
 -- Items by twos in a list of numbers, item i at 2i and 2i + 1: a pair, or a span of the text by its two places. Assumes nothing.
-use mathlib.Core.Bool.{cond}
 use mathlib.Core.List.{List, [], _∷_}
 use Prim.Native.Nat.{ℕ, zero, suc, _+_, _*_, _-_, _≤_, _<_}
-use lib.Dec.{ltb}
 use lib.ListN.{length, getD, set}
-use Rattle.lexis.specs.Runs.{byteAt, part}
+use Rattle.lexis.specs.Runs.{part}
 
 -- the two numbers of item i
 abbrev pub firstOf : List ℕ → ℕ → ℕ
@@ -39,7 +37,3 @@ pub record Within (s : List ℕ) (start stop : ℕ) : Type 0 where
 pub record SpansIn (s spans : List ℕ) (first end : ℕ) : Type 0 where
   pub room : 2 * end ≤ length spans
   pub within : (i : ℕ) → first ≤ i → i < end → Within s (firstOf spans i) (secondOf spans i)
-
--- one more than the byte at a place of a run, 0 at the run's end
-abbrev pub letterAt : List ℕ → ℕ → ℕ → ℕ
-letterAt s at end = cond (ltb at end) (byteAt s at + 1) 0

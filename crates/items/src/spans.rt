@@ -1,17 +1,11 @@
 // Items by twos in numbers: item i stands at 2i and 2i + 1. A span is an item that names two places of a text.
+use lexis::runs::letter;
 ghost use mathlib.Core.Path.{_≡_};
 ghost use Prim.Native.Nat.{_+_, _*_, _≤_, _<_};
 ghost use lib.ListN.{length, getD};
 ghost use Rattle.lexis.specs.Runs.{part, listed};
 ghost use Rattle.refusals.specs.Limits.{itemLimit};
-ghost use Rattle.items.specs.Spans.{withItem, letterAt, earlier, SpansIn};
-
-// A byte of the text, as a number.
-fn wide(b: u8) -> usize
-    ensures { λ r. ⌜ r ≡ b ⌝ }
-{
-    b as usize
-}
+ghost use Rattle.items.specs.Spans.{withItem, earlier, SpansIn};
 
 // A number of a span, as a place.
 fn place(x: u32) -> usize
@@ -26,14 +20,6 @@ fn number(spans: &[u32], i: usize) -> usize
     ensures { λ r. ⌜ r ≡ getD (now (spans .entry)) i 0 ⌝ }
 {
     place(spans[i])
-}
-
-// One more than the byte at a place of a run, and 0 at the run's end.
-fn letter(s: &[u8], at: usize, end: usize) -> usize
-    requires { ⌜ end ≤ length (now s) ⌝ }
-    ensures { λ r. ⌜ r ≡ letterAt (now (s .entry)) at end ⌝ }
-{
-    if at < end { wide(s[at]) + 1 } else { 0 }
 }
 
 // Whether the bytes from `start` up to `stop` are those of a span from `first` on, up to `end`.

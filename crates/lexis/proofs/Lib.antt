@@ -20,3 +20,4 @@ pub mod QuickSteps
 pub mod ReaderSteps
 pub mod Stores
 pub mod Enclosed
+pub mod Letters

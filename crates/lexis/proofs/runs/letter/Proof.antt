@@ -1,9 +1,9 @@
--- `data::names::letter` meets its contract. Assumes nothing.
-use native.Mathlib.Omega.{arith}
+-- `lexis::runs::letter` meets its contract. Assumes nothing.
 use borrow.Author.Needs.{needs}
-use Rattle.data.proofs.NameSteps.{letter-there, letter-none}
-use Rattle.data.proofs.names.letter.Statement.{statement}
-use Rattle.data.proofs.names.letter.Tie as tie
+use native.Mathlib.Omega.{arith}
+use Rattle.lexis.proofs.Letters.{letter-there, letter-none}
+use Rattle.lexis.proofs.runs.letter.Statement.{statement}
+use Rattle.lexis.proofs.runs.letter.Tie as tie
 
 shared-slice-read-wide : tie.Need-shared-slice-read-wide
 shared-slice-read-wide c = search needs
