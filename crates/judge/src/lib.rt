@@ -8,7 +8,6 @@ use data::read_data;
 use refusals::Cause;
 use refusals::Refusal;
 use refusals::limits::LEVEL_LIMIT;
-use refusals::limits::TEXT_LIMIT;
 use table::check::CheckAnswer;
 use table::check::check;
 use table::records::RecordNumber;

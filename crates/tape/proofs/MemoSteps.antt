@@ -13,7 +13,7 @@ use Rattle.values.proofs.Common.{allBelow, below, by-order}
 use Rattle.table.specs.Answers.{recordOf}
 use Rattle.table.specs.declared.records.Entry.{Entry}
 use Rattle.admission.specs.Items.{recordIn, Lies}
-use Rattle.tape.specs.Memo.{bitOf, withBit, marked, Marks, recordCount, baseOf, VisitOf, admittedIn, OnChain, here, later, ChainGood, Marking, before, new, ChainMarked}
+use Rattle.tape.specs.Memo.{bitOf, withBit, marked, Marks, recordCount, baseOf, VisitOf, seenBefore, admittedIn, OnChain, here, later, ChainGood, Marking, before, new, ChainMarked}
 use Rattle.tape.specs.declared.members.Block.{Block}
 use Rattle.tape.specs.declared.memo.Visit.{Visit}
 use Rattle.admission.proofs.ItemSteps.{left}
@@ -100,6 +100,10 @@ mark-outside memo i h = record { set = λ k. absurd (omega arith); other = λ j 
 pub base-fits : (records : List ℕ) (b : Block) (count : ℕ) → count ≡ recordCount records → baseOf records b ≤ 8_388_608 → b .first * count < 2 ^ 64
 base-fits records b count e h = rw e (omega arith)
 
+pub seen-outermost : (records memo : List ℕ) (b : Block) → b .first ≡ 0 → false ≡ seenBefore records memo b
+unfolding seenBefore
+seen-outermost records memo b z = rw z
+
 module _ (records : List ℕ) (b : Block) (count base : ℕ) (ec : count ≡ recordCount records) (eb : base ≡ b .first * count) (small : baseOf records b ≤ 8_388_608) where
   base-is : base ≡ baseOf records b
   base-is = eb ∙ ap (λ c. b .first * c) ec
@@ -112,6 +116,10 @@ module _ (records : List ℕ) (b : Block) (count base : ℕ) (ec : count ≡ rec
 
   pub visit-row : (seen : Bool) → (b .first ≡ 0 → ⊥) → VisitOf records b (record { base = base; again = seen })
   visit-row seen z = record { base = base-is; small = base-near; again = λ h. omega arith }
+
+  pub seen-row : (memo : List ℕ) (p : ℕ) → p ≡ base + 0 → (seen : Bool) → seen ≡ marked memo p → (b .first ≡ 0 → ⊥) → seen ≡ seenBefore records memo b
+  unfolding seenBefore
+  seen-row memo p e seen h z = let q = base-is in let f : p ≡ baseOf records b = omega arith in rw (ne-eqb (b .first) 0 z, ← f) h
 
   pub visit-marks : (p : ℕ) → p ≡ base + 0 → (memo after : List ℕ) → Marks memo p after → Marks memo (baseOf records b) after
   visit-marks p e memo after m = let q = base-is in let f : p ≡ baseOf records b = omega arith in rw f at m

@@ -51,6 +51,10 @@ recordCount records = length records / recordSize
 abbrev pub baseOf : List ℕ → Block → ℕ
 baseOf records b = b .first * recordCount records
 
+-- the block of a row whose first bit is set was judged before
+unfoldable pub seenBefore : List ℕ → List ℕ → Block → Bool
+seenBefore records memo b = not (eqb (b .first) 0) && marked memo (baseOf records b)
+
 -- a visit of a block, at its base; only a block of a row was judged before
 pub record VisitOf (records : List ℕ) (b : Block) (v : Visit) : Type 0 where
   pub base : v .base ≡ baseOf records b

@@ -13,7 +13,7 @@ ghost use Rattle.lexis.specs.Bytes.{among};
 ghost use Rattle.table.specs.Answers.{recordOf};
 ghost use Rattle.admission.specs.Items.{Lies, Named};
 ghost use Rattle.tape.specs.Walking.{LeafRow, Walk};
-ghost use Rattle.tape.specs.Memo.{bitOf, withBit, marked, Marks, recordCount, baseOf, VisitOf, admittedIn, ChainGood, ChainMarked, mayVisit, leadsIn, Listing, ItemsMarked, MemoGood, KnownIs};
+ghost use Rattle.tape.specs.Memo.{bitOf, withBit, marked, Marks, recordCount, baseOf, VisitOf, seenBefore, admittedIn, ChainGood, ChainMarked, mayVisit, leadsIn, Listing, ItemsMarked, MemoGood, KnownIs};
 
 // The bytes of a record.
 const RECORD_SIZE: usize = 24;
@@ -88,6 +88,7 @@ fn pair(visit: Visit, n: u32) -> usize
 pub fn enter(records: &[u8], memo: &mut [u8], block: Block) -> Visit
     requires { ⌜ baseOf (now records) block ≤ 8388608 ⌝ }
     ensures { λ r. ⌜ VisitOf (now (records .entry)) block r ⌝ }
+    ensures { λ r. ⌜ r .again ≡ seenBefore (now (records .entry)) (now (memo .entry)) block ⌝ }
     ensures { λ _. ⌜ Marks (now (memo .entry)) (baseOf (now (records .entry)) block) (now (memo .exit)) ⌝ }
 {
     let base = block.first * record_count(records);

@@ -1,6 +1,6 @@
 -- `tape::memo::enter` meets its contract. Assumes nothing.
 use borrow.Author.Needs.{needs}
-use Rattle.tape.proofs.MemoSteps.{base-fits, base-near, visit-outermost, visit-row, visit-marks}
+use Rattle.tape.proofs.MemoSteps.{base-fits, base-near, visit-outermost, visit-row, visit-marks, seen-outermost, seen-row}
 use Rattle.tape.proofs.memo.enter.Statement.{statement}
 use Rattle.tape.proofs.memo.enter.Tie as tie
 
@@ -23,13 +23,13 @@ same-length : tie.Need-same-length
 same-length c = search needs
 
 returns : tie.Need-returns
-returns c = (search visit-outermost, search visit-marks)
+returns c = (search visit-outermost, (search seen-outermost, search visit-marks))
 
 same-length-2 : tie.Need-same-length-2
 same-length-2 c = search needs
 
 returns-2 : tie.Need-returns-2
-returns-2 c = (search visit-row, search visit-marks)
+returns-2 c = (search visit-row, (search seen-row, search visit-marks))
 
 pub enter-spec : {M : Type 1} → statement M
 enter-spec =
