@@ -4,35 +4,14 @@ use borrow.Author.Needs.{needs}
 use Rattle.admission.proofs.date_pattern_under.Statement.{statement}
 use Rattle.admission.proofs.date_pattern_under.Tie as tie
 
-date-of-requires : tie.Need-date-of-requires
-date-of-requires c κs = search needs
-
-enum-known-parts : tie.Need-enum-known-parts
-enum-known-parts c = search needs
-
-fits-date-requires : tie.Need-fits-date-requires
-fits-date-requires c κs = search needs
-
-tried-requires : tie.Need-tried-requires
-tried-requires c κs = search needs
-
-enum-told : tie.Need-enum-told
-enum-told c = search needs
-
-returns : tie.Need-returns
-returns c = search value-steps
-
-returns-2 : tie.Need-returns-2
-returns-2 c = search value-steps
-
 pub date-pattern-under-spec : {M : Type 1} → statement M
 date-pattern-under-spec =
     tie.close
     (tie.spec
-    date-of-requires
-    enum-known-parts
-    fits-date-requires
-    tried-requires
-    enum-told
-    returns
-    returns-2)
+    (λ c κs. search needs)
+    (λ c. search needs)
+    (λ c κs. search needs)
+    (λ c κs. search needs)
+    (λ c. search needs)
+    (λ c. search value-steps)
+    (λ c. search value-steps))

@@ -6,27 +6,6 @@ use Rattle.compile.proofs.TableSteps.{compile-done, compile-long, compi
 use Rattle.compile.proofs.compile.Statement.{statement}
 use Rattle.compile.proofs.compile.Tie as tie
 
-returns : tie.Need-returns
-returns c = search compile-long
-
-read-object-requires : tie.Need-read-object-requires
-read-object-requires c κs = search needs
-
-enum-known-fault : tie.Need-enum-known-fault
-enum-known-fault c = search needs
-
-returns-2 : tie.Need-returns-2
-returns-2 c = search compile-refused
-
-enum-known-q : tie.Need-enum-known-q
-enum-known-q c = search needs
-
-finish-requires : tie.Need-finish-requires
-finish-requires c κs = search (compile-inside, compile-room, needs)
-
-same-length : tie.Need-same-length
-same-length c = search needs
-
 returns-3 : tie.Need-returns-3
 returns-3 c =
     let short = c .before .before .before .before .before .before .before .before .before .before .before .before .before .if1 .left in
@@ -38,11 +17,11 @@ pub compile-spec : {M : Type 1} → statement M
 compile-spec =
     tie.close
     (tie.spec
-    returns
-    read-object-requires
-    enum-known-fault
-    returns-2
-    enum-known-q
-    finish-requires
-    same-length
+    (λ c. search compile-long)
+    (λ c κs. search needs)
+    (λ c. search needs)
+    (λ c. search compile-refused)
+    (λ c. search needs)
+    (λ c κs. search (compile-inside, compile-room, needs))
+    (λ c. search needs)
     returns-3)

@@ -11,41 +11,17 @@ Inv-loop s records₀ bytes₀ little p scratch count place end to₀ i₀ recor
 abbrev μ-loop : tie.MeasureT-loop
 μ-loop s records₀ bytes₀ little p scratch count place end to₀ i₀ records bytes to i = count - i
 
-add-end : tie.Need-add-end Inv-loop μ-loop
-add-end c = search needs
-
-loop-holds : tie.Need-loop-holds Inv-loop μ-loop
-loop-holds c = search texts-start
-
-add-put-string : tie.Need-add-put-string Inv-loop μ-loop
-add-put-string c = search needs
-
-put-string-requires : tie.Need-put-string-requires Inv-loop μ-loop
-put-string-requires c κs = search texts-fit
-
-add-i : tie.Need-add-i Inv-loop μ-loop
-add-i c = search needs
-
-loop-less : tie.Need-loop-less Inv-loop μ-loop
-loop-less c = search needs
-
-loop-again : tie.Need-loop-again Inv-loop μ-loop
-loop-again c = search texts-go-on
-
-returns : tie.Need-returns Inv-loop μ-loop
-returns c = search texts-end
-
 pub put-strings-spec : {M : Type 1} → statement M
 put-strings-spec =
     tie.close
     (tie.spec
     Inv-loop
     μ-loop
-    add-end
-    loop-holds
-    add-put-string
-    put-string-requires
-    add-i
-    loop-less
-    loop-again
-    returns)
+    (λ c. search needs)
+    (λ c. search texts-start)
+    (λ c. search needs)
+    (λ c κs. search texts-fit)
+    (λ c. search needs)
+    (λ c. search needs)
+    (λ c. search texts-go-on)
+    (λ c. search texts-end))

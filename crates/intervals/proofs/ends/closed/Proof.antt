@@ -7,14 +7,5 @@ use Rattle.intervals.proofs.ends.closed.Tie as tie
 cast-low : tie.Need-cast-low
 cast-low c = let h = closed-low _ _ _ 0 _ (c .pre) in omega arith
 
-before-requires : tie.Need-before-requires
-before-requires c κs = search closed-before
-
-returns : tie.Need-returns
-returns c = search closed-below
-
-returns-2 : tie.Need-returns-2
-returns-2 c = search closed-shut
-
 pub closed-spec : {M : Type 1} → statement M
-closed-spec = tie.close (tie.spec cast-low before-requires returns returns-2)
+closed-spec = tie.close (tie.spec cast-low (λ c κs. search closed-before) (λ c. search closed-below) (λ c. search closed-shut))

@@ -19,12 +19,6 @@ Inv-names s spans first end start stop n₀ again₀ n again = InNames s spans f
 abbrev μ-names : tie.MeasureT-names
 μ-names s spans first end start stop n₀ again₀ n again = n
 
-names-holds : tie.Need-names-holds Inv-loop μ-loop Inv-names μ-names
-names-holds c = search names-start
-
-sub-k : tie.Need-sub-k Inv-loop μ-loop Inv-names μ-names
-sub-k c = search needs
-
 mul-number : tie.Need-mul-number Inv-loop μ-loop Inv-names μ-names
 mul-number c = let h = names-room _ _ _ _ _ _ _ _ (c .before .names .inv) (c .names-test .taken) in omega arith
 
@@ -40,24 +34,6 @@ add-number c = let h = names-room _ _ _ _ _ _ _ _ (c .before .before .names .inv
 number-requires-2 : tie.Need-number-requires-2 Inv-loop μ-loop Inv-names μ-names
 number-requires-2 c κs = let h = names-room _ _ _ _ _ _ _ _ (c .before .before .names .inv) (c .before .names-test .taken) in omega arith
 
-loop-holds : tie.Need-loop-holds Inv-loop μ-loop Inv-names μ-names
-loop-holds c = search names-in
-
-add-letter : tie.Need-add-letter Inv-loop μ-loop Inv-names μ-names
-add-letter c = search needs
-
-letter-requires : tie.Need-letter-requires Inv-loop μ-loop Inv-names μ-names
-letter-requires c κs = search needs
-
-add-letter-2 : tie.Need-add-letter-2 Inv-loop μ-loop Inv-names μ-names
-add-letter-2 c = search needs
-
-letter-requires-2 : tie.Need-letter-requires-2 Inv-loop μ-loop Inv-names μ-names
-letter-requires-2 c κs = search needs
-
-add-i : tie.Need-add-i Inv-loop μ-loop Inv-names μ-names
-add-i c = search needs
-
 loop-less : tie.Need-loop-less Inv-loop μ-loop Inv-names μ-names
 loop-less c = letters-less _ _ _ _ _ _ _ _ _ _ _ (c .before .before .before .before .loop .inv) _ _ (c .before .before .before .letter .ensures) (c .before .before .letter2 .ensures) (c .before .if1 .left) (c .if2 .left)
 
@@ -70,9 +46,6 @@ names-less c = steps.names-less _ _ _ _ _ _ _ _ _ _ _ (c .before .before .before
 names-again : tie.Need-names-again Inv-loop μ-loop Inv-names μ-names
 names-again c = letters-differ _ _ _ _ _ _ _ _ _ _ _ (c .before .before .before .loop .inv) _ _ (c .before .before .letter .ensures) (c .before .letter2 .ensures) (c .if1 .taken)
 
-returns : tie.Need-returns Inv-loop μ-loop Inv-names μ-names
-returns c = search names-end
-
 returns-2 : tie.Need-returns-2 Inv-loop μ-loop Inv-names μ-names
 returns-2 c = letters-end _ _ _ _ _ _ _ _ _ _ _ (c .before .before .before .before .loop .inv) _ _ (c .before .before .before .letter .ensures) (c .before .before .letter2 .ensures) (c .before .if1 .left) (c .if2 .taken)
 
@@ -84,22 +57,22 @@ repeated-spec =
     μ-loop
     Inv-names
     μ-names
-    names-holds
-    sub-k
+    (λ c. search names-start)
+    (λ c. search needs)
     mul-number
     number-requires
     mul-number-2
     add-number
     number-requires-2
-    loop-holds
-    add-letter
-    letter-requires
-    add-letter-2
-    letter-requires-2
-    add-i
+    (λ c. search names-in)
+    (λ c. search needs)
+    (λ c κs. search needs)
+    (λ c. search needs)
+    (λ c κs. search needs)
+    (λ c. search needs)
     loop-less
     loop-again
     names-less
     names-again
-    returns
+    (λ c. search names-end)
     returns-2)

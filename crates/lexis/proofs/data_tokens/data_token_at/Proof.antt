@@ -4,11 +4,5 @@ use Rattle.lexis.proofs.DataTokenSteps.{data-told}
 use Rattle.lexis.proofs.data_tokens.data_token_at.Statement.{statement}
 use Rattle.lexis.proofs.data_tokens.data_token_at.Tie as tie
 
-token-from-requires : tie.Need-token-from-requires
-token-from-requires c κs = search needs
-
-returns : tie.Need-returns
-returns c = search data-told
-
 pub data-token-at-spec : {M : Type 1} → statement M
-data-token-at-spec = tie.close (tie.spec token-from-requires returns)
+data-token-at-spec = tie.close (tie.spec (λ c κs. search needs) (λ c. search data-told))

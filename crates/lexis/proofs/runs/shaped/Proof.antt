@@ -4,11 +4,5 @@ use Rattle.lexis.proofs.RunSteps.{shaped-begins}
 use Rattle.lexis.proofs.runs.shaped.Statement.{statement}
 use Rattle.lexis.proofs.runs.shaped.Tie as tie
 
-begins-requires : tie.Need-begins-requires
-begins-requires c κs = search needs
-
-returns : tie.Need-returns
-returns c = shaped-begins _ _ _ (c .begins .ensures)
-
 pub shaped-spec : {M : Type 1} → statement M
-shaped-spec = tie.close (tie.spec begins-requires returns)
+shaped-spec = tie.close (tie.spec (λ c κs. search needs) (λ c. shaped-begins _ _ _ (c .begins .ensures)))

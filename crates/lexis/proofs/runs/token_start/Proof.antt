@@ -13,32 +13,11 @@ Inv-loop s from at₀ inside₀ at inside = InBlanks s from (tokenStart s from) 
 abbrev μ-loop : tie.MeasureT-loop
 μ-loop s from at₀ inside₀ at inside = length s - at
 
-loop-holds : tie.Need-loop-holds Inv-loop μ-loop
-loop-holds c = search blanks-first
-
-token-here-requires : tie.Need-token-here-requires Inv-loop μ-loop
-token-here-requires c κs = search needs
-
-returns : tie.Need-returns Inv-loop μ-loop
-returns c = search blanks-out
-
-comment-open-requires : tie.Need-comment-open-requires Inv-loop μ-loop
-comment-open-requires c κs = search needs
-
-add-at : tie.Need-add-at Inv-loop μ-loop
-add-at c = search needs
-
-loop-less : tie.Need-loop-less Inv-loop μ-loop
-loop-less c = search needs
-
 loop-again : tie.Need-loop-again Inv-loop μ-loop
 loop-again c =
     let k = c .before .before in
     let l = k .before .before in
     blanks-on _ _ _ _ _ (l .loop .inv) _ (k .before .loop-test .taken) (k .token-here .ensures) _ (c .before .if1 .left) (c .comment-open .ensures)
-
-returns-2 : tie.Need-returns-2 Inv-loop μ-loop
-returns-2 c = search blanks-end
 
 pub token-start-spec : {M : Type 1} → statement M
 token-start-spec =
@@ -46,11 +25,11 @@ token-start-spec =
     (tie.spec
     Inv-loop
     μ-loop
-    loop-holds
-    token-here-requires
-    returns
-    comment-open-requires
-    add-at
-    loop-less
+    (λ c. search blanks-first)
+    (λ c κs. search needs)
+    (λ c. search blanks-out)
+    (λ c κs. search needs)
+    (λ c. search needs)
+    (λ c. search needs)
     loop-again
-    returns-2)
+    (λ c. search blanks-end))

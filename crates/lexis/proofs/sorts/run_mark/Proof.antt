@@ -16,8 +16,5 @@ returns-2 c = agree (λ b. true) runMark 45 1 refl (c .before .before .args .b) 
 returns-3 : tie.Need-returns-3
 returns-3 c = agree (λ b. true) runMark 46 1 refl (c .before .before .before .args .b) (omega arith) (omega arith)
 
-returns-4 : tie.Need-returns-4
-returns-4 c = search mark-last
-
 pub run-mark-spec : {M : Type 1} → statement M
-run-mark-spec = tie.close (tie.spec returns returns-2 returns-3 returns-4)
+run-mark-spec = tie.close (tie.spec returns returns-2 returns-3 (λ c. search mark-last))

@@ -19,8 +19,5 @@ returns-3 : tie.Need-returns-3
 unfolding stringByte
 returns-3 c = agree (λ b. false) stringByte 92 1 refl (c .before .before .before .args .b) (omega arith) (omega arith)
 
-returns-4 : tie.Need-returns-4
-returns-4 c = search string-last
-
 pub string-byte-spec : {M : Type 1} → statement M
-string-byte-spec = tie.close (tie.spec returns returns-2 returns-3 returns-4)
+string-byte-spec = tie.close (tie.spec returns returns-2 returns-3 (λ c. search string-last))

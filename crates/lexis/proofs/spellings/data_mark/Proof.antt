@@ -4,59 +4,20 @@ use borrow.Author.Needs.{needs}
 use Rattle.lexis.proofs.spellings.data_mark.Statement.{statement}
 use Rattle.lexis.proofs.spellings.data_mark.Tie as tie
 
-shared-slice-read-b : tie.Need-shared-slice-read-b
-shared-slice-read-b c = search needs
-
-add-t7 : tie.Need-add-t7
-add-t7 c = search needs
-
-add-t8 : tie.Need-add-t8
-add-t8 c = search needs
-
-add-t9 : tie.Need-add-t9
-add-t9 c = search needs
-
-add-t10 : tie.Need-add-t10
-add-t10 c = search needs
-
-add-t11 : tie.Need-add-t11
-add-t11 c = search needs
-
-no-token-requires : tie.Need-no-token-requires
-no-token-requires c κs = search needs
-
-returns : tie.Need-returns
-returns c = search data-less
-
-returns-2 : tie.Need-returns-2
-returns-2 c = search data-greater
-
-returns-3 : tie.Need-returns-3
-returns-3 c = search data-equals
-
-returns-4 : tie.Need-returns-4
-returns-4 c = search data-open
-
-returns-5 : tie.Need-returns-5
-returns-5 c = search data-close
-
-returns-6 : tie.Need-returns-6
-returns-6 c = search data-none
-
 pub data-mark-spec : {M : Type 1} → statement M
 data-mark-spec =
     tie.close
     (tie.spec
-    shared-slice-read-b
-    add-t7
-    add-t8
-    add-t9
-    add-t10
-    add-t11
-    no-token-requires
-    returns
-    returns-2
-    returns-3
-    returns-4
-    returns-5
-    returns-6)
+    (λ c. search needs)
+    (λ c. search needs)
+    (λ c. search needs)
+    (λ c. search needs)
+    (λ c. search needs)
+    (λ c. search needs)
+    (λ c κs. search needs)
+    (λ c. search data-less)
+    (λ c. search data-greater)
+    (λ c. search data-equals)
+    (λ c. search data-open)
+    (λ c. search data-close)
+    (λ c. search data-none))

@@ -4,74 +4,11 @@ use borrow.Author.Needs.{needs}
 use Rattle.lexis.proofs.spellings.date_pattern.Statement.{statement}
 use Rattle.lexis.proofs.spellings.date_pattern.Tie as tie
 
-shared-slice-read-if1 : tie.Need-shared-slice-read-if1
-shared-slice-read-if1 c = search needs
-
-no-token-requires : tie.Need-no-token-requires
-no-token-requires c κs = search needs
-
-returns : tie.Need-returns
-returns c = search date-other
-
-slice-aggregate-starts-with : tie.Need-slice-aggregate-starts-with
-slice-aggregate-starts-with c = search needs
-
-starts-with-requires : tie.Need-starts-with-requires
-starts-with-requires c κs = search needs
-
-add-t14 : tie.Need-add-t14
-add-t14 c = search needs
-
-add-t15 : tie.Need-add-t15
-add-t15 c = search needs
-
-returns-2 : tie.Need-returns-2
-returns-2 c = search date-1
-
-slice-aggregate-starts-with-2 : tie.Need-slice-aggregate-starts-with-2
-slice-aggregate-starts-with-2 c = search needs
-
-starts-with-requires-2 : tie.Need-starts-with-requires-2
-starts-with-requires-2 c κs = search needs
-
-add-t19 : tie.Need-add-t19
-add-t19 c = search needs
-
-add-t20 : tie.Need-add-t20
-add-t20 c = search needs
-
-returns-3 : tie.Need-returns-3
-returns-3 c = search date-2
-
-slice-aggregate-starts-with-3 : tie.Need-slice-aggregate-starts-with-3
-slice-aggregate-starts-with-3 c = search needs
-
-starts-with-requires-3 : tie.Need-starts-with-requires-3
-starts-with-requires-3 c κs = search needs
-
-add-t24 : tie.Need-add-t24
-add-t24 c = search needs
-
-add-t25 : tie.Need-add-t25
-add-t25 c = search needs
-
 returns-4 : tie.Need-returns-4
 returns-4 c =
     let f2 = c .before .before .before in
     let f1 = f2 .before .before .before in
     date-3 _ _ _ (f1 .before .starts-with .ensures) (f1 .if2 .left) _ (f2 .before .starts-with2 .ensures) (f2 .if3 .left) _ (c .before .starts-with3 .ensures) (c .if4 .taken)
-
-slice-aggregate-starts-with-4 : tie.Need-slice-aggregate-starts-with-4
-slice-aggregate-starts-with-4 c = search needs
-
-starts-with-requires-4 : tie.Need-starts-with-requires-4
-starts-with-requires-4 c κs = search needs
-
-add-t29 : tie.Need-add-t29
-add-t29 c = search needs
-
-add-t30 : tie.Need-add-t30
-add-t30 c = search needs
 
 returns-5 : tie.Need-returns-5
 returns-5 c =
@@ -80,18 +17,6 @@ returns-5 c =
     let f1 = f2 .before .before .before in
     date-4 _ _ _ (f1 .before .starts-with .ensures) (f1 .if2 .left) _ (f2 .before .starts-with2 .ensures) (f2 .if3 .left) _ (f3 .before .starts-with3 .ensures) (f3 .if4 .left) _ (c .before .starts-with4 .ensures) (c .if5 .taken)
 
-slice-aggregate-starts-with-5 : tie.Need-slice-aggregate-starts-with-5
-slice-aggregate-starts-with-5 c = search needs
-
-starts-with-requires-5 : tie.Need-starts-with-requires-5
-starts-with-requires-5 c κs = search needs
-
-add-t34 : tie.Need-add-t34
-add-t34 c = search needs
-
-add-t35 : tie.Need-add-t35
-add-t35 c = search needs
-
 returns-6 : tie.Need-returns-6
 returns-6 c =
     let f4 = c .before .before .before in
@@ -99,9 +24,6 @@ returns-6 c =
     let f2 = f3 .before .before .before in
     let f1 = f2 .before .before .before in
     date-5 _ _ _ (f1 .before .starts-with .ensures) (f1 .if2 .left) _ (f2 .before .starts-with2 .ensures) (f2 .if3 .left) _ (f3 .before .starts-with3 .ensures) (f3 .if4 .left) _ (f4 .before .starts-with4 .ensures) (f4 .if5 .left) _ (c .before .starts-with5 .ensures) (c .if6 .taken)
-
-no-token-requires-2 : tie.Need-no-token-requires-2
-no-token-requires-2 c κs = search needs
 
 returns-7 : tie.Need-returns-7
 returns-7 c =
@@ -116,33 +38,33 @@ pub date-pattern-spec : {M : Type 1} → statement M
 date-pattern-spec =
     tie.close
     (tie.spec
-    shared-slice-read-if1
-    no-token-requires
-    returns
-    slice-aggregate-starts-with
-    starts-with-requires
-    add-t14
-    add-t15
-    returns-2
-    slice-aggregate-starts-with-2
-    starts-with-requires-2
-    add-t19
-    add-t20
-    returns-3
-    slice-aggregate-starts-with-3
-    starts-with-requires-3
-    add-t24
-    add-t25
+    (λ c. search needs)
+    (λ c κs. search needs)
+    (λ c. search date-other)
+    (λ c. search needs)
+    (λ c κs. search needs)
+    (λ c. search needs)
+    (λ c. search needs)
+    (λ c. search date-1)
+    (λ c. search needs)
+    (λ c κs. search needs)
+    (λ c. search needs)
+    (λ c. search needs)
+    (λ c. search date-2)
+    (λ c. search needs)
+    (λ c κs. search needs)
+    (λ c. search needs)
+    (λ c. search needs)
     returns-4
-    slice-aggregate-starts-with-4
-    starts-with-requires-4
-    add-t29
-    add-t30
+    (λ c. search needs)
+    (λ c κs. search needs)
+    (λ c. search needs)
+    (λ c. search needs)
     returns-5
-    slice-aggregate-starts-with-5
-    starts-with-requires-5
-    add-t34
-    add-t35
+    (λ c. search needs)
+    (λ c κs. search needs)
+    (λ c. search needs)
+    (λ c. search needs)
     returns-6
-    no-token-requires-2
+    (λ c κs. search needs)
     returns-7)

@@ -4,23 +4,5 @@ use borrow.Author.Needs.{needs}
 use Rattle.lexis.proofs.spellings.less_mark.Statement.{statement}
 use Rattle.lexis.proofs.spellings.less_mark.Tie as tie
 
-add-byte-at : tie.Need-add-byte-at
-add-byte-at c = search needs
-
-byte-at-requires : tie.Need-byte-at-requires
-byte-at-requires c κs = search needs
-
-add-t6 : tie.Need-add-t6
-add-t6 c = search needs
-
-returns : tie.Need-returns
-returns c = search mark-at-most
-
-add-t4 : tie.Need-add-t4
-add-t4 c = search needs
-
-returns-2 : tie.Need-returns-2
-returns-2 c = search mark-less
-
 pub less-mark-spec : {M : Type 1} → statement M
-less-mark-spec = tie.close (tie.spec add-byte-at byte-at-requires add-t6 returns add-t4 returns-2)
+less-mark-spec = tie.close (tie.spec (λ c. search needs) (λ c κs. search needs) (λ c. search needs) (λ c. search mark-at-most) (λ c. search needs) (λ c. search mark-less))

@@ -4,17 +4,5 @@ use borrow.Author.Needs.{needs}
 use Rattle.lexis.proofs.tokens.small_token.Statement.{statement}
 use Rattle.lexis.proofs.tokens.small_token.Tie as tie
 
-date-pattern-requires : tie.Need-date-pattern-requires
-date-pattern-requires c κs = search needs
-
-returns : tie.Need-returns
-returns c = search date-is
-
-word-requires : tie.Need-word-requires
-word-requires c κs = search needs
-
-returns-2 : tie.Need-returns-2
-returns-2 c = search date-not
-
 pub small-token-spec : {M : Type 1} → statement M
-small-token-spec = tie.close (tie.spec date-pattern-requires returns word-requires returns-2)
+small-token-spec = tie.close (tie.spec (λ c κs. search needs) (λ c. search date-is) (λ c κs. search needs) (λ c. search date-not))

@@ -17,9 +17,6 @@ moved-link-requires-2 : tie.Need-moved-link-requires-2
 unfolding rowOf
 moved-link-requires-2 c κs = c .before .before .pre .fits 3
 
-returns : tie.Need-returns
-returns c = search (move-steps, needs)
-
 pub moved-attribute-spec : {M : Type 1} → statement M
 moved-attribute-spec =
-    tie.close (tie.spec moved-place-requires moved-link-requires moved-link-requires-2 returns)
+    tie.close (tie.spec moved-place-requires moved-link-requires moved-link-requires-2 (λ c. search (move-steps, needs)))

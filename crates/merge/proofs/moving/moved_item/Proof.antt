@@ -9,8 +9,5 @@ moved-link-requires : tie.Need-moved-link-requires
 unfolding rowOf
 moved-link-requires c κs = c .pre .fits 4
 
-returns : tie.Need-returns
-returns c = search (move-steps, needs)
-
 pub moved-item-spec : {M : Type 1} → statement M
-moved-item-spec = tie.close (tie.spec moved-link-requires returns)
+moved-item-spec = tie.close (tie.spec moved-link-requires (λ c. search (move-steps, needs)))

@@ -17,9 +17,6 @@ moved-link-requires : tie.Need-moved-link-requires
 unfolding rowOf
 moved-link-requires c κs = c .before .before .pre .fits 4
 
-returns : tie.Need-returns
-returns c = search (move-steps, needs)
-
 pub moved-object-spec : {M : Type 1} → statement M
 moved-object-spec =
-    tie.close (tie.spec moved-place-requires moved-place-requires-2 moved-link-requires returns)
+    tie.close (tie.spec moved-place-requires moved-place-requires-2 moved-link-requires (λ c. search (move-steps, needs)))

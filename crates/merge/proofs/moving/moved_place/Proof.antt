@@ -4,14 +4,5 @@ use Rattle.merge.proofs.MoveSteps.{choice-steps}
 use Rattle.merge.proofs.moving.moved_place.Statement.{statement}
 use Rattle.merge.proofs.moving.moved_place.Tie as tie
 
-returns : tie.Need-returns
-returns c = search (choice-steps, needs)
-
-moved-requires : tie.Need-moved-requires
-moved-requires c κs = search (choice-steps, needs)
-
-returns-2 : tie.Need-returns-2
-returns-2 c = search (choice-steps, needs)
-
 pub moved-place-spec : {M : Type 1} → statement M
-moved-place-spec = tie.close (tie.spec returns moved-requires returns-2)
+moved-place-spec = tie.close (tie.spec (λ c. search (choice-steps, needs)) (λ c κs. search (choice-steps, needs)) (λ c. search (choice-steps, needs)))

@@ -13,8 +13,5 @@ moved-link-requires : tie.Need-moved-link-requires
 unfolding rowOf
 moved-link-requires c κs = c .before .pre .fits 4
 
-returns : tie.Need-returns
-returns c = search (move-steps, needs)
-
 pub moved-string-spec : {M : Type 1} → statement M
-moved-string-spec = tie.close (tie.spec moved-place-requires moved-link-requires returns)
+moved-string-spec = tie.close (tie.spec moved-place-requires moved-link-requires (λ c. search (move-steps, needs)))

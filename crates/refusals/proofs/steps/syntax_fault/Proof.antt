@@ -4,11 +4,5 @@ use Rattle.refusals.proofs.StepLaws.{fault-is}
 use Rattle.refusals.proofs.steps.syntax_fault.Statement.{statement}
 use Rattle.refusals.proofs.steps.syntax_fault.Tie as tie
 
-syntax-cause-requires : tie.Need-syntax-cause-requires
-syntax-cause-requires c κs = search needs
-
-returns : tie.Need-returns
-returns c = search fault-is
-
 pub syntax-fault-spec : {M : Type 1} → statement M
-syntax-fault-spec = tie.close (tie.spec syntax-cause-requires returns)
+syntax-fault-spec = tie.close (tie.spec (λ c κs. search needs) (λ c. search fault-is))

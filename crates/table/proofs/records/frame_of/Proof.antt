@@ -4,11 +4,5 @@ use borrow.Author.Needs.{needs}
 use Rattle.table.proofs.records.frame_of.Statement.{statement}
 use Rattle.table.proofs.records.frame_of.Tie as tie
 
-read-requires : tie.Need-read-requires
-read-requires c κs = search needs
-
-returns : tie.Need-returns
-returns c = search (frame-steps, needs)
-
 pub frame-of-spec : {M : Type 1} → statement M
-frame-of-spec = tie.close (tie.spec read-requires returns)
+frame-of-spec = tie.close (tie.spec (λ c κs. search needs) (λ c. search (frame-steps, needs)))

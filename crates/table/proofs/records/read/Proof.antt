@@ -5,54 +5,6 @@ use borrow.Author.Needs.{needs}
 use Rattle.table.proofs.records.read.Statement.{statement}
 use Rattle.table.proofs.records.read.Tie as tie
 
-is-little-requires : tie.Need-is-little-requires
-is-little-requires c κs = search needs
-
-add-t5 : tie.Need-add-t5
-add-t5 c = search needs
-
-shared-slice-read-t7 : tie.Need-shared-slice-read-t7
-shared-slice-read-t7 c = search needs
-
-add-t8 : tie.Need-add-t8
-add-t8 c = search needs
-
-shared-slice-read-t10 : tie.Need-shared-slice-read-t10
-shared-slice-read-t10 c = search needs
-
-add-get32 : tie.Need-add-get32
-add-get32 c = search needs
-
-get32-requires : tie.Need-get32-requires
-get32-requires c κs = search needs
-
-add-get32-2 : tie.Need-add-get32-2
-add-get32-2 c = search needs
-
-get32-requires-2 : tie.Need-get32-requires-2
-get32-requires-2 c κs = search needs
-
-add-get32-3 : tie.Need-add-get32-3
-add-get32-3 c = search needs
-
-get32-requires-3 : tie.Need-get32-requires-3
-get32-requires-3 c κs = search needs
-
-add-get32-4 : tie.Need-add-get32-4
-add-get32-4 c = search needs
-
-get32-requires-4 : tie.Need-get32-requires-4
-get32-requires-4 c κs = search needs
-
-add-get32-5 : tie.Need-add-get32-5
-add-get32-5 c = search needs
-
-get32-requires-5 : tie.Need-get32-requires-5
-get32-requires-5 c κs = search needs
-
-ordered-requires : tie.Need-ordered-requires
-ordered-requires c κs = search needs
-
 returns : tie.Need-returns
 returns c =
     let c5 = c .before in
@@ -67,20 +19,20 @@ pub read-spec : {M : Type 1} → statement M
 read-spec =
     tie.close
     (tie.spec
-    is-little-requires
-    add-t5
-    shared-slice-read-t7
-    add-t8
-    shared-slice-read-t10
-    add-get32
-    get32-requires
-    add-get32-2
-    get32-requires-2
-    add-get32-3
-    get32-requires-3
-    add-get32-4
-    get32-requires-4
-    add-get32-5
-    get32-requires-5
-    ordered-requires
+    (λ c κs. search needs)
+    (λ c. search needs)
+    (λ c. search needs)
+    (λ c. search needs)
+    (λ c. search needs)
+    (λ c. search needs)
+    (λ c κs. search needs)
+    (λ c. search needs)
+    (λ c κs. search needs)
+    (λ c. search needs)
+    (λ c κs. search needs)
+    (λ c. search needs)
+    (λ c κs. search needs)
+    (λ c. search needs)
+    (λ c κs. search needs)
+    (λ c κs. search needs)
     returns)

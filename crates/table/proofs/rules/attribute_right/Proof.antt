@@ -5,35 +5,14 @@ use borrow.Author.Needs.{needs}
 use Rattle.table.proofs.rules.attribute_right.Statement.{statement}
 use Rattle.table.proofs.rules.attribute_right.Tie as tie
 
-place-right-requires : tie.Need-place-right-requires
-place-right-requires c κs = search needs
-
-value-link-right-requires : tie.Need-value-link-right-requires
-value-link-right-requires c κs = search needs
-
-link-right-requires : tie.Need-link-right-requires
-link-right-requires c κs = search needs
-
-returns : tie.Need-returns
-returns c = search (kind-steps, chain-steps, needs)
-
-returns-2 : tie.Need-returns-2
-returns-2 c = search (kind-steps, chain-steps, needs)
-
-returns-3 : tie.Need-returns-3
-returns-3 c = search (kind-steps, chain-steps, needs)
-
-returns-4 : tie.Need-returns-4
-returns-4 c = search (kind-steps, chain-steps, needs)
-
 pub attribute-right-spec : {M : Type 1} → statement M
 attribute-right-spec =
     tie.close
     (tie.spec
-    place-right-requires
-    value-link-right-requires
-    link-right-requires
-    returns
-    returns-2
-    returns-3
-    returns-4)
+    (λ c κs. search needs)
+    (λ c κs. search needs)
+    (λ c κs. search needs)
+    (λ c. search (kind-steps, chain-steps, needs))
+    (λ c. search (kind-steps, chain-steps, needs))
+    (λ c. search (kind-steps, chain-steps, needs))
+    (λ c. search (kind-steps, chain-steps, needs)))

@@ -5,18 +5,6 @@ use borrow.Author.Needs.{needs}
 use Rattle.table.proofs.rules.interval_right.Statement.{statement}
 use Rattle.table.proofs.rules.interval_right.Tie as tie
 
-dates-right-requires : tie.Need-dates-right-requires
-dates-right-requires c κs = search needs
-
-next-right-requires : tie.Need-next-right-requires
-next-right-requires c κs = search needs
-
-returns : tie.Need-returns
-returns c = search (kind-steps, chain-steps, needs)
-
-returns-2 : tie.Need-returns-2
-returns-2 c = search (kind-steps, chain-steps, needs)
-
 pub interval-right-spec : {M : Type 1} → statement M
 interval-right-spec =
-    tie.close (tie.spec dates-right-requires next-right-requires returns returns-2)
+    tie.close (tie.spec (λ c κs. search needs) (λ c κs. search needs) (λ c. search (kind-steps, chain-steps, needs)) (λ c. search (kind-steps, chain-steps, needs)))

@@ -4,14 +4,5 @@ use Rattle.values.proofs.CalendarSteps.{steps}
 use Rattle.values.proofs.calendar.february_days.Statement.{statement}
 use Rattle.values.proofs.calendar.february_days.Tie as tie
 
-leap-requires : tie.Need-leap-requires
-leap-requires c κs = search needs
-
-returns : tie.Need-returns
-returns c = search (steps, needs)
-
-returns-2 : tie.Need-returns-2
-returns-2 c = search (steps, needs)
-
 pub february-days-spec : {M : Type 1} → statement M
-february-days-spec = tie.close (tie.spec leap-requires returns returns-2)
+february-days-spec = tie.close (tie.spec (λ c κs. search needs) (λ c. search (steps, needs)) (λ c. search (steps, needs)))

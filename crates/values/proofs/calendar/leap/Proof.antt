@@ -4,14 +4,5 @@ use Rattle.values.proofs.CalendarSteps.{steps}
 use Rattle.values.proofs.calendar.leap.Statement.{statement}
 use Rattle.values.proofs.calendar.leap.Tie as tie
 
-returns : tie.Need-returns
-returns c = search (steps, needs)
-
-returns-2 : tie.Need-returns-2
-returns-2 c = search (steps, needs)
-
-returns-3 : tie.Need-returns-3
-returns-3 c = search (steps, needs)
-
 pub leap-spec : {M : Type 1} → statement M
-leap-spec = tie.close (tie.spec returns returns-2 returns-3)
+leap-spec = tie.close (tie.spec (λ c. search (steps, needs)) (λ c. search (steps, needs)) (λ c. search (steps, needs)))

@@ -4,39 +4,15 @@ use Rattle.values.proofs.PatternSteps.{steps}
 use Rattle.values.proofs.patterns.fits_time.Statement.{statement}
 use Rattle.values.proofs.patterns.fits_time.Tie as tie
 
-within-requires : tie.Need-within-requires
-within-requires c κs = search needs
-
-within-requires-2 : tie.Need-within-requires-2
-within-requires-2 c κs = search needs
-
-returns : tie.Need-returns
-returns c = search (steps, needs)
-
-returns-2 : tie.Need-returns-2
-returns-2 c = search (steps, needs)
-
-returns-3 : tie.Need-returns-3
-returns-3 c = search (steps, needs)
-
-returns-4 : tie.Need-returns-4
-returns-4 c = search (steps, needs)
-
-returns-5 : tie.Need-returns-5
-returns-5 c = search (steps, needs)
-
-returns-6 : tie.Need-returns-6
-returns-6 c = search (steps, needs)
-
 pub fits-time-spec : {M : Type 1} → statement M
 fits-time-spec =
     tie.close
     (tie.spec
-    within-requires
-    within-requires-2
-    returns
-    returns-2
-    returns-3
-    returns-4
-    returns-5
-    returns-6)
+    (λ c κs. search needs)
+    (λ c κs. search needs)
+    (λ c. search (steps, needs))
+    (λ c. search (steps, needs))
+    (λ c. search (steps, needs))
+    (λ c. search (steps, needs))
+    (λ c. search (steps, needs))
+    (λ c. search (steps, needs)))

@@ -4,11 +4,5 @@ use Rattle.values.proofs.PatternSteps.{steps}
 use Rattle.values.proofs.patterns.within.Statement.{statement}
 use Rattle.values.proofs.patterns.within.Tie as tie
 
-returns : tie.Need-returns
-returns c = search (steps, needs)
-
-returns-2 : tie.Need-returns-2
-returns-2 c = search (steps, needs)
-
 pub within-spec : {M : Type 1} → statement M
-within-spec = tie.close (tie.spec returns returns-2)
+within-spec = tie.close (tie.spec (λ c. search (steps, needs)) (λ c. search (steps, needs)))

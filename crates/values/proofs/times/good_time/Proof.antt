@@ -4,11 +4,5 @@ use Rattle.values.proofs.TimeSteps.{steps}
 use Rattle.values.proofs.times.good_time.Statement.{statement}
 use Rattle.values.proofs.times.good_time.Tie as tie
 
-returns : tie.Need-returns
-returns c = search (steps, needs)
-
-returns-2 : tie.Need-returns-2
-returns-2 c = search needs
-
 pub good-time-spec : {M : Type 1} → statement M
-good-time-spec = tie.close (tie.spec returns returns-2)
+good-time-spec = tie.close (tie.spec (λ c. search (steps, needs)) (λ c. search needs))

@@ -4,35 +4,14 @@ use Rattle.values.proofs.TimeSteps.{steps}
 use Rattle.values.proofs.times.hour_time.Statement.{statement}
 use Rattle.values.proofs.times.hour_time.Tie as tie
 
-up-to-requires : tie.Need-up-to-requires
-up-to-requires c κs = search needs
-
-returns : tie.Need-returns
-returns c = search (steps, needs)
-
-sub-zone : tie.Need-sub-zone
-sub-zone c = search needs
-
-part-zone-start : tie.Need-part-zone-start
-part-zone-start c = search needs
-
-part-zone-end : tie.Need-part-zone-end
-part-zone-end c = search needs
-
-zone-requires : tie.Need-zone-requires
-zone-requires c κs = search needs
-
-returns-2 : tie.Need-returns-2
-returns-2 c = search (steps, needs)
-
 pub hour-time-spec : {M : Type 1} → statement M
 hour-time-spec =
     tie.close
     (tie.spec
-    up-to-requires
-    returns
-    sub-zone
-    part-zone-start
-    part-zone-end
-    zone-requires
-    returns-2)
+    (λ c κs. search needs)
+    (λ c. search (steps, needs))
+    (λ c. search needs)
+    (λ c. search needs)
+    (λ c. search needs)
+    (λ c κs. search needs)
+    (λ c. search (steps, needs)))

@@ -4,11 +4,5 @@ use Rattle.vectors.proofs.Counting.{counts-below, counts-all, cut-below
 use Rattle.vectors.proofs.reading.within.Statement.{statement}
 use Rattle.vectors.proofs.reading.within.Tie as tie
 
-returns : tie.Need-returns
-returns c = (search counts-below, search cut-below)
-
-returns-2 : tie.Need-returns-2
-returns-2 c = (counts-all (c .before .args .buf .now) _ refl, search cut-all)
-
 pub within-spec : {M : Type 1} → statement M
-within-spec = tie.close (tie.spec returns returns-2)
+within-spec = tie.close (tie.spec (λ c. (search counts-below, search cut-below)) (λ c. (counts-all (c .before .args .buf .now) _ refl, search cut-all)))
