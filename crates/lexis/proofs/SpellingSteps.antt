@@ -11,7 +11,7 @@ use lib.Seq.{getD-drop}
 use borrow.Author.Tests.{ne-eqb}
 use Rattle.lexis.specs.Text.{bytes}
 use Rattle.lexis.specs.Runs.{byteAt, startsWith}
-use Rattle.lexis.specs.Spelling.{marks, elementSign, datePatterns, timePatterns}
+use Rattle.lexis.specs.Spelling.{Literal, literal, marks, datePatterns, timePatterns}
 use Rattle.lexis.specs.Tokens.{token, noToken, spelled}
 use Rattle.lexis.specs.DataTokens.{dataMarks}
 use Rattle.lexis.specs.declared.Token.{Token}
@@ -123,75 +123,27 @@ module _ (s : List ℕ) (at : ℕ) (h : at < length s) where
   mark-none t a b c d e f g i j p = rw (drop-in s at h, other 123 a, other 125 b, other 44 c, other 42 d, other 124 e, other 60 f, other 62 g, other 46 i, other 43 j) p
 
   -- no pattern begins with another byte
-  pub date-other : (t : Token) → (byteAt s at ≡ 121 → ⊥) → t ≡ noToken at → t ≡ spelled datePatterns at (drop at s) (noToken at)
+  pub date-other : (t : Token) → (byteAt s at ≡ 121 → ⊥) → t ≡ spelled datePatterns at (drop at s) t
   unfolding spelled startsWith
-  date-other t n p = rw (drop-in s at h, other 121 n) p
+  date-other t n = rw (drop-in s at h, other 121 n)
 
-  pub time-other : (t : Token) → (byteAt s at ≡ 84 → ⊥) → t ≡ noToken at → t ≡ spelled timePatterns at (drop at s) (noToken at)
+  pub time-other : (t : Token) → (byteAt s at ≡ 84 → ⊥) → t ≡ spelled timePatterns at (drop at s) t
   unfolding spelled startsWith
-  time-other t n p = rw (drop-in s at h, other 84 n) p
+  time-other t n = rw (drop-in s at h, other 84 n)
 
--- the sign ∈
-module _ (s : List ℕ) (at : ℕ) (a : Bool) (qa : a ≡ startsWith (bytes "â\u{88}\u{88}") (drop at s)) where
-  pub sign-is : a ≡ true → token 4 at (at + 3) ≡ spelled elementSign at (drop at s) (noToken at)
-  unfolding spelled
-  sign-is e = rw (← qa, e)
+-- a spelling before others, and before one token
+pub spelled-first : (l : Literal) (ls : List Literal) (at : ℕ) (bs : List ℕ) (a b t : Token) → a ≡ spelled (l ∷ []) at bs b → b ≡ spelled ls at bs t → a ≡ spelled (l ∷ ls) at bs t
+unfolding spelled
+spelled-first l ls at bs a b t p q = rw q at p
 
-  pub sign-none : (t : Token) → a ≡ false → t ≡ noToken at → t ≡ spelled elementSign at (drop at s) (noToken at)
-  unfolding spelled
-  sign-none t na p = rw (← qa, na) p
+pub spelled-else : (ls : List Literal) (at : ℕ) (bs : List ℕ) (a b t : Token) → b ≡ t → a ≡ spelled ls at bs b → a ≡ spelled ls at bs t
+spelled-else ls at bs a b t e p = rw e at p
 
--- the date patterns, one by one
-module _ (s : List ℕ) (at : ℕ) (a : Bool) (qa : a ≡ startsWith (bytes "yyyy-mm-dd") (drop at s)) where
-  pub date-1 : a ≡ true → token 31 at (at + 10) ≡ spelled datePatterns at (drop at s) (noToken at)
-  unfolding spelled
-  date-1 e = rw (← qa, e)
+-- whether a spelling stands at a place
+pub spelled-one : (s : List ℕ) (at : ℕ) (w : List ℕ) (sort : ℕ) (o : Token) (r : Bool) → r ≡ startsWith w (drop at s) → r ≡ true → token sort at (at + length w) ≡ spelled (literal sort w ∷ []) at (drop at s) o
+unfolding spelled
+spelled-one s at w sort o r q e = rw (← q, e)
 
-  module _ (na : a ≡ false) (b : Bool) (qb : b ≡ startsWith (bytes "yyyy-mm-??") (drop at s)) where
-    pub date-2 : b ≡ true → token 32 at (at + 10) ≡ spelled datePatterns at (drop at s) (noToken at)
-    unfolding spelled
-    date-2 e = rw (← qa, na, ← qb, e)
-
-    module _ (nb : b ≡ false) (c : Bool) (qc : c ≡ startsWith (bytes "yyyy-??-??") (drop at s)) where
-      pub date-3 : c ≡ true → token 33 at (at + 10) ≡ spelled datePatterns at (drop at s) (noToken at)
-      unfolding spelled
-      date-3 e = rw (← qa, na, ← qb, nb, ← qc, e)
-
-      module _ (nc : c ≡ false) (d : Bool) (qd : d ≡ startsWith (bytes "yyyy-mm-XX") (drop at s)) where
-        pub date-4 : d ≡ true → token 34 at (at + 10) ≡ spelled datePatterns at (drop at s) (noToken at)
-        unfolding spelled
-        date-4 e = rw (← qa, na, ← qb, nb, ← qc, nc, ← qd, e)
-
-        module _ (nd : d ≡ false) (e : Bool) (qe : e ≡ startsWith (bytes "yyyy-??-XX") (drop at s)) where
-          pub date-5 : e ≡ true → token 35 at (at + 10) ≡ spelled datePatterns at (drop at s) (noToken at)
-          unfolding spelled
-          date-5 e = rw (← qa, na, ← qb, nb, ← qc, nc, ← qd, nd, ← qe, e)
-
-          pub date-none : (t : Token) → e ≡ false → t ≡ noToken at → t ≡ spelled datePatterns at (drop at s) (noToken at)
-          unfolding spelled
-          date-none t ne p = rw (← qa, na, ← qb, nb, ← qc, nc, ← qd, nd, ← qe, ne) p
-
--- the time patterns, one by one
-module _ (s : List ℕ) (at : ℕ) (a : Bool) (qa : a ≡ startsWith (bytes "Thh:mm:ss") (drop at s)) where
-  pub time-1 : a ≡ true → token 41 at (at + 9) ≡ spelled timePatterns at (drop at s) (noToken at)
-  unfolding spelled
-  time-1 e = rw (← qa, e)
-
-  module _ (na : a ≡ false) (b : Bool) (qb : b ≡ startsWith (bytes "Thh:mm:XX") (drop at s)) where
-    pub time-2 : b ≡ true → token 42 at (at + 9) ≡ spelled timePatterns at (drop at s) (noToken at)
-    unfolding spelled
-    time-2 e = rw (← qa, na, ← qb, e)
-
-    module _ (nb : b ≡ false) (c : Bool) (qc : c ≡ startsWith (bytes "Thh:??:XX") (drop at s)) where
-      pub time-3 : c ≡ true → token 43 at (at + 9) ≡ spelled timePatterns at (drop at s) (noToken at)
-      unfolding spelled
-      time-3 e = rw (← qa, na, ← qb, nb, ← qc, e)
-
-      module _ (nc : c ≡ false) (d : Bool) (qd : d ≡ startsWith (bytes "Thh:??:??") (drop at s)) where
-        pub time-4 : d ≡ true → token 44 at (at + 9) ≡ spelled timePatterns at (drop at s) (noToken at)
-        unfolding spelled
-        time-4 e = rw (← qa, na, ← qb, nb, ← qc, nc, ← qd, e)
-
-        pub time-none : (t : Token) → d ≡ false → t ≡ noToken at → t ≡ spelled timePatterns at (drop at s) (noToken at)
-        unfolding spelled
-        time-none t nd p = rw (← qa, na, ← qb, nb, ← qc, nc, ← qd, nd) p
+pub spelled-other : (s : List ℕ) (at : ℕ) (w : List ℕ) (sort : ℕ) (o : Token) (r : Bool) → r ≡ startsWith w (drop at s) → r ≡ false → o ≡ spelled (literal sort w ∷ []) at (drop at s) o
+unfolding spelled
+spelled-other s at w sort o r q e = rw (← q, e)

@@ -26,9 +26,10 @@ use crate::runs::same_bytes;
 use crate::runs::starts_with;
 use crate::sorts::byte_at;
 ghost use mathlib.Core.Path.{_≡_};
+ghost use mathlib.Core.List.{[], _∷_};
 ghost use Prim.Native.Nat.{_<_};
 ghost use lib.ListN.{length, drop};
-ghost use Rattle.lexis.specs.Spelling.{marks, elementSign, datePatterns, timePatterns, keywords, booleans, wordSort};
+ghost use Rattle.lexis.specs.Spelling.{literal, marks, elementSign, datePatterns, timePatterns, keywords, booleans, wordSort};
 ghost use Rattle.lexis.specs.Tokens.{noToken, spelled};
 ghost use Rattle.lexis.specs.DataTokens.{dataMarks};
 ghost use Rattle.lexis.specs.Postconditions.{wordsOf, OpensMark, OpensPlain};
@@ -158,19 +159,27 @@ pub fn mark(s: &[u8], at: usize) -> Token
     }
 }
 
+// The spelling w at a place, as a token of a sort; where it does not stand there, the token given.
+fn spelling(s: &[u8], at: usize, w: &[u8], sort: u8, other: Token) -> Token
+    requires { ⌜ at < length (now s) ⌝ }
+    ensures { λ r. ⌜ r ≡ spelled (literal sort (now (w .entry)) ∷ []) at (drop at (now (s .entry))) other ⌝ }
+{
+    if starts_with(s, at, w) {
+        return Token {
+            sort,
+            start: at,
+            end: at + w.len(),
+        };
+    }
+    other
+}
+
 // The sign ∈ at a place, as a token.
 pub fn element_sign(s: &[u8], at: usize) -> Token
     requires { ⌜ at < length (now s) ⌝ }
     ensures { λ r. ⌜ r ≡ spelled elementSign at (drop at (now (s .entry))) (noToken at) ⌝ }
 {
-    if starts_with(s, at, b"\xe2\x88\x88") {
-        return Token {
-            sort: MATCHES,
-            start: at,
-            end: at + 3,
-        };
-    }
-    no_token(at)
+    spelling(s, at, b"\xe2\x88\x88", MATCHES, no_token(at))
 }
 
 // The mark of data text at a place, as a token.
@@ -209,115 +218,59 @@ pub fn data_mark(s: &[u8], at: usize) -> Token
     }
 }
 
-// The date pattern at a place that opens with `y`, as a token.
-pub fn date_pattern(s: &[u8], at: usize) -> Token
+// The date pattern at a place, as a token; where there is none, the token given.
+pub fn date_pattern(s: &[u8], at: usize, other: Token) -> Token
     requires { ⌜ at < length (now s) ⌝ }
-    ensures { λ r. ⌜ r ≡ spelled datePatterns at (drop at (now (s .entry))) (noToken at) ⌝ }
+    ensures { λ r. ⌜ r ≡ spelled datePatterns at (drop at (now (s .entry))) other ⌝ }
 {
     if s[at] != b'y' {
-        return no_token(at);
+        return other;
     }
-    if starts_with(s, at, b"yyyy-mm-dd") {
-        return Token {
-            sort: DATE_PATTERN + 1,
-            start: at,
-            end: at + 10,
-        };
-    }
-    if starts_with(s, at, b"yyyy-mm-??") {
-        return Token {
-            sort: DATE_PATTERN + 2,
-            start: at,
-            end: at + 10,
-        };
-    }
-    if starts_with(s, at, b"yyyy-??-??") {
-        return Token {
-            sort: DATE_PATTERN + 3,
-            start: at,
-            end: at + 10,
-        };
-    }
-    if starts_with(s, at, b"yyyy-mm-XX") {
-        return Token {
-            sort: DATE_PATTERN + 4,
-            start: at,
-            end: at + 10,
-        };
-    }
-    if starts_with(s, at, b"yyyy-??-XX") {
-        return Token {
-            sort: DATE_PATTERN + 5,
-            start: at,
-            end: at + 10,
-        };
-    }
-    no_token(at)
+    let fifth = spelling(s, at, b"yyyy-??-XX", DATE_PATTERN + 5, other);
+    let fourth = spelling(s, at, b"yyyy-mm-XX", DATE_PATTERN + 4, fifth);
+    let third = spelling(s, at, b"yyyy-??-??", DATE_PATTERN + 3, fourth);
+    let second = spelling(s, at, b"yyyy-mm-??", DATE_PATTERN + 2, third);
+    spelling(s, at, b"yyyy-mm-dd", DATE_PATTERN + 1, second)
 }
 
-// The time pattern at a place, as a token.
-pub fn time_pattern(s: &[u8], at: usize) -> Token
+// The time pattern at a place, as a token; where there is none, the token given.
+pub fn time_pattern(s: &[u8], at: usize, other: Token) -> Token
     requires { ⌜ at < length (now s) ⌝ }
-    ensures { λ r. ⌜ r ≡ spelled timePatterns at (drop at (now (s .entry))) (noToken at) ⌝ }
+    ensures { λ r. ⌜ r ≡ spelled timePatterns at (drop at (now (s .entry))) other ⌝ }
 {
     if s[at] != b'T' {
-        return no_token(at);
+        return other;
     }
-    if starts_with(s, at, b"Thh:mm:ss") {
-        return Token {
-            sort: TIME_PATTERN + 1,
-            start: at,
-            end: at + 9,
-        };
+    let fourth = spelling(s, at, b"Thh:??:??", TIME_PATTERN + 4, other);
+    let third = spelling(s, at, b"Thh:??:XX", TIME_PATTERN + 3, fourth);
+    let second = spelling(s, at, b"Thh:mm:XX", TIME_PATTERN + 2, third);
+    spelling(s, at, b"Thh:mm:ss", TIME_PATTERN + 1, second)
+}
+
+// The sort given where a word has that spelling, else the other one.
+fn sort_if(w: &[u8], spelling: &[u8], sort: u8, other: u8) -> u8
+    ensures { λ r. ⌜ r ≡ wordSort (literal sort (now (spelling .entry)) ∷ []) (now (w .entry)) other ⌝ }
+{
+    if same_bytes(spelling, w) {
+        return sort;
     }
-    if starts_with(s, at, b"Thh:mm:XX") {
-        return Token {
-            sort: TIME_PATTERN + 2,
-            start: at,
-            end: at + 9,
-        };
-    }
-    if starts_with(s, at, b"Thh:??:XX") {
-        return Token {
-            sort: TIME_PATTERN + 3,
-            start: at,
-            end: at + 9,
-        };
-    }
-    if starts_with(s, at, b"Thh:??:??") {
-        return Token {
-            sort: TIME_PATTERN + 4,
-            start: at,
-            end: at + 9,
-        };
-    }
-    no_token(at)
+    other
 }
 
 // The sort of a keyword, else the one given.
 fn keyword_sort(w: &[u8], sort: u8) -> u8
     ensures { λ r. ⌜ r ≡ wordSort keywords (now (w .entry)) sort ⌝ }
 {
-    if same_bytes(b"matches", w) {
-        return MATCHES;
-    }
-    if same_bytes(b"existence", w) {
-        return EXISTENCE;
-    }
-    sort
+    let second = sort_if(w, b"existence", EXISTENCE, sort);
+    sort_if(w, b"matches", MATCHES, second)
 }
 
 // The sort of a Boolean, else the one given.
 fn boolean_sort(w: &[u8], sort: u8) -> u8
     ensures { λ r. ⌜ r ≡ wordSort booleans (now (w .entry)) sort ⌝ }
 {
-    if same_bytes(b"True", w) {
-        return TRUE_WORD;
-    }
-    if same_bytes(b"False", w) {
-        return FALSE_WORD;
-    }
-    sort
+    let second = sort_if(w, b"False", FALSE_WORD, sort);
+    sort_if(w, b"True", TRUE_WORD, second)
 }
 
 // The sort of a whole word: the list's where the list spells it, else the one given.

@@ -59,11 +59,8 @@ fn capital_token(s: &[u8], at: usize) -> Token
     requires { ⌜ at < length (now s) ⌝ }
     ensures { λ r. ⌜ r ≡ spelled timePatterns at (drop at (now (s .entry))) (word (now (s .entry)) booleans typeName at) ⌝ }
 {
-    let t = time_pattern(s, at);
-    if t.sort != UNREADABLE {
-        return t;
-    }
-    word(s, at, Words::Booleans, TYPE_NAME)
+    let t = word(s, at, Words::Booleans, TYPE_NAME);
+    time_pattern(s, at, t)
 }
 
 // A date pattern, or else a word that opens with a small letter.
@@ -71,11 +68,8 @@ fn small_token(s: &[u8], at: usize) -> Token
     requires { ⌜ at < length (now s) ⌝ }
     ensures { λ r. ⌜ r ≡ spelled datePatterns at (drop at (now (s .entry))) (word (now (s .entry)) keywords name at) ⌝ }
 {
-    let t = date_pattern(s, at);
-    if t.sort != UNREADABLE {
-        return t;
-    }
-    word(s, at, Words::Keywords, NAME)
+    let t = word(s, at, Words::Keywords, NAME);
+    date_pattern(s, at, t)
 }
 
 // A date, or else an integer without a sign.

@@ -1,5 +1,5 @@
 -- `lexis::spellings::boolean_sort` meets its contract. Assumes nothing.
-use Rattle.lexis.proofs.WordSteps.{boolean-true, boolean-false, boolean-none}
+use Rattle.lexis.proofs.WordSteps.{sort-first}
 use borrow.Author.Needs.{needs}
 use Rattle.lexis.proofs.spellings.boolean_sort.Statement.{statement}
 use Rattle.lexis.proofs.spellings.boolean_sort.Tie as tie
@@ -10,8 +10,6 @@ boolean-sort-spec =
     (tie.spec
     (λ c. search needs)
     (λ c κs. search needs)
-    (λ c. search boolean-true)
     (λ c. search needs)
     (λ c κs. search needs)
-    (λ c. search boolean-false)
-    (λ c. search boolean-none))
+    (λ c. search sort-first))

@@ -1,5 +1,5 @@
 -- `lexis::spellings::keyword_sort` meets its contract. Assumes nothing.
-use Rattle.lexis.proofs.WordSteps.{keyword-matches, keyword-existence, keyword-none}
+use Rattle.lexis.proofs.WordSteps.{sort-first}
 use borrow.Author.Needs.{needs}
 use Rattle.lexis.proofs.spellings.keyword_sort.Statement.{statement}
 use Rattle.lexis.proofs.spellings.keyword_sort.Tie as tie
@@ -10,8 +10,6 @@ keyword-sort-spec =
     (tie.spec
     (λ c. search needs)
     (λ c κs. search needs)
-    (λ c. search keyword-matches)
     (λ c. search needs)
     (λ c κs. search needs)
-    (λ c. search keyword-existence)
-    (λ c. search keyword-none))
+    (λ c. search sort-first))
