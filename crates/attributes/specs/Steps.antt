@@ -2,17 +2,16 @@
 use mathlib.Core.Path.{_≡_}
 use mathlib.Core.Bool.{true}
 use mathlib.Core.List.{List, _∷_}
-use Prim.Native.Nat.{ℕ, _-_, _<_}
+use Prim.Native.Nat.{ℕ, _<_}
 use lib.ListN.{length}
 use Rattle.lexis.specs.Bytes.{among}
 use Rattle.meaning.specs.Constraints.{Attributes, attribute}
 use Rattle.meaning.specs.Constraints
-use Rattle.meaning.specs.Data.{Members, member}
+use Rattle.meaning.specs.Data.{Members}
 use Rattle.meaning.specs.Data
 use Rattle.meaning.specs.Verdicts.{valid}
 use Rattle.meaning.specs.Verdicts
 use Rattle.meaning.specs.Judging.{memberOf, judgeMember, judgeValue}
-use Rattle.data.specs.Tape.{number}
 use Rattle.table.specs.Records.{Image}
 use Rattle.table.specs.Check.{kindAt}
 use Rattle.table.specs.Rows.{items}

@@ -2,12 +2,10 @@
 use mathlib.Core.Path.{_≡_}
 use mathlib.Core.Option.{Option, none, some}
 use mathlib.Core.List.{List, [], _∷_, _++_}
-use Prim.Native.Nat.{ℕ, zero, suc, _+_, _≤_, _<_}
+use Prim.Native.Nat.{ℕ, suc, _+_, _≤_, _<_}
 use native.Mathlib.Omega.{arith}
 use native.Mathlib.Decide.{decLe}
-use lib.ListN.{length-append, getD}
-use Rattle.refusals.specs.Limits.{textLimit}
-use Rattle.meaning.specs.Proper.{Each}
+use lib.ListN.{length-append}
 use Rattle.data.specs.Placed.{Span, Block, block, Entries, noMore, entry, Content, string, word, inside}
 use Rattle.data.specs.Tape.{isString, isWord, blockRows, entryRows, contentRows, nextRow, typeStart, typeEnd, rowOf, blockTape, entriesTape, contentTape, membersAt}
 use Rattle.data.specs.Contracts.{rowAt, RowGood, TapeGood, walked}
@@ -130,51 +128,3 @@ tape-good size ms rest h =
       rows = λ k l. entries-good size (entryRows ms) tape ms 0 k h (at-start (entriesTape ms 0) rest) (omega arith) (omega arith) (omega arith);
       room = omega (arith, length-append (entriesTape ms 0) rest, entries-length ms 0);
     }
-
--- a number that fits where places of a text do
-abbrev pub Small : ℕ → Type 0
-Small x = x ≤ textLimit
-
--- small numbers and small numbers behind them are small
-each-append : (xs ys : List ℕ) → Each Small xs → Each Small ys → Each Small (xs ++ ys)
-each-append [] ys h k = k
-each-append (x ∷ xs) ys h k = (h .0, each-append xs ys (h .1) k)
-
--- one of small numbers, or 0 where there is none
-pub each-at : (xs : List ℕ) → Each Small xs → (i : ℕ) → getD xs i 0 ≤ textLimit
-each-at [] h i = omega arith
-each-at (x ∷ xs) h zero = h .0
-each-at (x ∷ xs) h (suc i) = each-at xs (h .1) i
-
--- the numbers of a row are small where the text's size and the rows are
-row-small : (size : ℕ) (w : Span) (c : Content) (next : ℕ) → size ≤ textLimit → Lies size w c → contentRows c ≤ textLimit → next ≤ textLimit → Each Small (rowOf w c next)
-unfolding contentRows blockRows
-row-small size w (string p x) next z h l k = omega arith
-row-small size w (word p x) next z h l k = omega arith
-row-small size w (inside (block p t ms)) next z h l k = let o = type-order size t (h .2 .1) in omega arith
-
--- the number of a next row is small where that row's is
-next-small : (more : Entries) (m : ℕ) → m ≤ textLimit → nextRow m more ≤ textLimit
-next-small noMore m h = omega arith
-next-small (entry w c more) m h = h
-
-module _ (size : ℕ) (z : size ≤ textLimit) where
-  mutual
-    unfolding EachBlock EachEntry EachContent blockRows entryRows contentRows blockTape entriesTape contentTape
-
-    -- the tape of a block whose members lie in the text has small numbers
-    block-small : (b : Block) (n : ℕ) → EachBlock b (Lies size) → n + blockRows b ≤ textLimit → Each Small (blockTape b n)
-    block-small (block p t ms) n h l = entries-small ms n h l
-
-    -- so has the tape of members whose first row has number n
-    pub entries-small : (ms : Entries) (n : ℕ) → EachEntry ms (Lies size) → n + entryRows ms ≤ textLimit → Each Small (entriesTape ms n)
-    entries-small noMore n h l = tt
-    entries-small (entry w c more) n h l =
-        let m = n + 1 + contentRows c in
-        each-append (rowOf w c (nextRow m more)) _ (row-small size w c (nextRow m more) z (h .0) (omega arith) (next-small more m (omega arith)))
-        (each-append (contentTape c (n + 1)) _ (content-small c (n + 1) (h .1) (omega arith)) (entries-small more m (h .2) (omega arith)))
-
-    content-small : (c : Content) (n : ℕ) → EachContent c (Lies size) → n + contentRows c ≤ textLimit → Each Small (contentTape c n)
-    content-small (string p x) n h l = tt
-    content-small (word p x) n h l = tt
-    content-small (inside b) n h l = block-small b n h l

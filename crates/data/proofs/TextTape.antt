@@ -1,21 +1,19 @@
 -- The tape of an accepted data text: a judge may walk it, its numbers are small, there are few, and the text's datum is read back from it. Assumes nothing.
 use mathlib.Core.Path.{_≡_, refl}
 use mathlib.Core.Option.{Option, Option·map}
-use mathlib.Core.List.{List, [], _++_, append-nil}
+use mathlib.Core.List.{List, _++_}
 use Prim.Native.Nat.{ℕ, _*_, _≤_}
 use native.Mathlib.Omega.{arith}
-use lib.ListN.{length, getD}
-use Rattle.refusals.specs.Limits.{textLimit}
+use lib.ListN.{length}
 use Rattle.refusals.specs.Reading.{Reading, refused, got, andThen}
 use Rattle.refusals.specs.declared.Refusal.{Refusal}
 use Rattle.meaning.specs.Data.{Datum, datum}
-use Rattle.meaning.specs.Proper.{Each}
 use Rattle.data.specs.Placed.{Span, Block, block, Entries, spelled, spelledBlock, spelledEntries}
 use Rattle.data.specs.Data.{blockOf, datumOf}
-use Rattle.data.specs.Tape.{rowSize, blockRows, entryRows, entriesTape, membersAt}
+use Rattle.data.specs.Tape.{blockRows, entryRows, entriesTape, membersAt}
 use Rattle.data.specs.Contracts.{TapeGood}
-use Rattle.data.proofs.TapeLaws.{EachBlock, EachEntry, entries-length, tape-back}
-use Rattle.data.proofs.GoodTapes.{Lies, Small, each-ended, tape-good, entries-small, each-at}
+use Rattle.data.proofs.TapeLaws.{EachBlock, EachEntry, tape-back}
+use Rattle.data.proofs.GoodTapes.{Lies, each-ended, tape-good}
 use Rattle.data.proofs.TreeReading.{accepted}
 
 module _ (s : List ℕ) where
@@ -58,31 +56,9 @@ module _ (s : List ℕ) (p : ℕ) (t : Option Span) (ms : Entries) (end : ℕ) (
   unfolding blockRows
   text-room = accepted s (block p t ms) end e .room
 
-  -- so the tape has at most 36,864 numbers
-  pub text-length : length (entriesTape ms 0) ≤ rowSize * 4_096
-  text-length =
-      let a = accepted s (block p t ms) end e in
-      let r = text-room in
-      rw entries-length (omega arith)
-
   -- a judge may walk the tape, whatever stands behind it
   pub text-good : (rest : List ℕ) → TapeGood (length s) (entryRows ms) (entriesTape ms 0 ++ rest)
   text-good rest = tape-good (length s) ms rest text-lies
-
-  -- a judge may walk the tape alone
-  pub text-good-alone : TapeGood (length s) (entryRows ms) (entriesTape ms 0)
-  text-good-alone = rw append-nil at (text-good [])
-
-  -- the numbers of the tape are at most 16,384
-  pub text-small : Each Small (entriesTape ms 0)
-  text-small =
-      let a = accepted s (block p t ms) end e in
-      let r = text-room in
-      entries-small (length s) (a .short) ms 0 text-lies (omega arith)
-
-  -- so is the number at any place of it, 0 behind its end
-  pub text-small-at : (i : ℕ) → getD (entriesTape ms 0) i 0 ≤ textLimit
-  text-small-at = each-at (entriesTape ms 0) text-small
 
   -- the members are read back from it
   pub text-back : (rest : List ℕ) → membersAt s (entryRows ms) (entriesTape ms 0 ++ rest) 0 ≡ spelledEntries ms s

@@ -5,10 +5,8 @@ use mathlib.Core.Option.{Option, none, some}
 use mathlib.Core.List.{List}
 use Prim.Native.Nat.{ℕ, _+_, _≤_}
 use lib.Dec.{ltb}
-use lib.ListN.{length, drop}
-use lib.Seq.{take-append-seam, drop-append-seam}
+use lib.ListN.{length}
 use native.Mathlib.Omega.{arith}
-use borrow.Author.Tests.{lt-ltb, le-ltb}
 use Rattle.refusals.specs.Reading
 use Rattle.refusals.specs.Reading.{Reading, got}
 use Rattle.refusals.specs.Limits.{recordLimit, poolLimit}
@@ -25,7 +23,6 @@ use Rattle.merge.specs.Answer.{MergeAnswer, Merging, mergeAnswer, orFault}
 use Rattle.merge.specs.Answer
 use Rattle.compile.specs.Answer.{compileAnswer, tableOf, write}
 use Rattle.compile.specs.Answer as Compile
-use Rattle.judge.specs.Answer.{judgeAnswer}
 use Rattle.demands.specs.Demands.{Demand1}
 
 compile-kept : (text : List ℕ) (little : Bool) (out : List ℕ) (r : Refusal) → compileAnswer text little out .answer ≡ Compile.refused r → compileAnswer text little out .out ≡ out

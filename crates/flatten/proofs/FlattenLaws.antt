@@ -1,6 +1,5 @@
 -- The table of a tree says that tree, from its root on. Assumes nothing.
 use mathlib.Core.Path.{_≡_, refl, sym, ap, ap₂, _∙_}
-use mathlib.Core.Option.{some}
 use mathlib.Core.List.{List, [], _∷_, _++_, append-nil}
 use Prim.Native.Nat.{ℕ, zero, suc, _+_, _-_, _≤_, _<_}
 use native.Mathlib.Omega.{arith}
@@ -17,7 +16,7 @@ use Rattle.meaning.specs.Proper.{ProperIntegers, ProperDates, Each, ProperLeaf,
 use Rattle.meaning.proofs.NumberedLaws.{NumberedRanges, NumberedTexts, NumberedLeaf, NumberedObject, NumberedAttributes, NumberedValue}
 use Rattle.table.specs.Records.{Record, Image, headerOf}
 use Rattle.table.specs.Rows.{rowOf}
-use Rattle.table.specs.Trees.{cell, cells, cellsOf, Tree, nothing, ofObject, ofLeaf, attributesIn, valueIn, integersOf, datesOf, stringsOf, itemsIn, reach, treeOf, trees, treesOf, treeAt, objectAt}
+use Rattle.table.specs.Trees.{cell, cells, cellsOf, Tree, nothing, ofObject, ofLeaf, attributesIn, valueIn, integersOf, datesOf, stringsOf, itemsIn, reach, treeOf, trees, treesOf, treeAt}
 use Rattle.flatten.specs.Flatten.{placeFor, make, attributesLink, valueLink, integerRecords, dateRecords, stringRecords, leafRecords, objectTable, attributesTable, valueTable, imageOfTree}
 use Rattle.flatten.proofs.Placed.{At, at-left, at-take, Placed, past-record, past-name, placed-left, placed-right}
 
@@ -200,6 +199,3 @@ unfolding treeAt NumberedObject
 tree-compiled (object a t c xs) i g =
     let o = object a t c xs in
     ap (linked (imageOfTree o) 0) (sym (i .0)) ∙ object-read (imageOfTree o) o 1 0 0 (omega arith) i g (placed-tree o)
-
-pub object-compiled : (o : Object) → NumberedObject o 1 → ProperObject o → objectAt (imageOfTree o) 1 ≡ some o
-object-compiled o i g = rw (tree-compiled o i g)

@@ -1,5 +1,5 @@
 -- What each way out of the C interface's functions shows. Assumes nothing.
-use mathlib.Core.Path.{_≡_, sym, ap, _∙_}
+use mathlib.Core.Path.{_≡_, ap, _∙_}
 use mathlib.Core.Option.{Option}
 use mathlib.Core.List.{List}
 use Prim.Native.Nat.{ℕ}
@@ -27,7 +27,7 @@ use Rattle.judge.specs.Answer.{JudgeAnswer}
 use Rattle.judge.specs.Answers as judges
 use Rattle.judge.specs.declared.JudgeResult.{JudgeResult}
 use Rattle.judge.specs.declared.JudgeResult.the-variants as judgeResult
-use Rattle.gateway.specs.Interface.{Placed, placed, refusalTold, compileTold, CompileIs, checkTold, mergeSaid, mergeTold, MergeIs, judgeSaid, judgeTold, nameSaid, nameTold}
+use Rattle.gateway.specs.Interface.{placed, refusalTold, compileTold, CompileIs, checkTold, mergeSaid, mergeTold, MergeIs, judgeSaid, judgeTold, nameSaid, nameTold}
 
 pub told-is : (x : Refusal) (n : ℕ) → n ≡ numberOf (x .cause) → placed n (x .place) ≡ refusalTold x
 told-is x n e = ap (λ k. placed k (x .place)) e

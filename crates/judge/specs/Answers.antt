@@ -1,6 +1,5 @@
 -- What the answers of the functions stand for. Assumes nothing.
 use Rattle.meaning.specs.Verdicts.{valid, fails}
-use Rattle.data.specs.Tape.{number}
 use Rattle.judge.specs.Answer.{JudgeAnswer, refused, judged}
 use Rattle.judge.specs.declared.JudgeResult.{JudgeResult}
 use Rattle.judge.specs.declared.JudgeResult.the-variants.{Valid, Refused, Failed}

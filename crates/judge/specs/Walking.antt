@@ -1,9 +1,8 @@
 -- Walking a tape by a table: what judging a block relies on. Assumes nothing.
 use mathlib.Core.Path.{_≡_}
 use mathlib.Core.List.{List}
-use Prim.Native.Nat.{ℕ, _-_}
+use Prim.Native.Nat.{ℕ}
 use lib.ListN.{length}
-use Rattle.data.specs.Tape.{number}
 use Rattle.table.specs.Check.{kindAt}
 use Rattle.admission.specs.Items.{tableOf}
 use Rattle.tape.specs.declared.members.Block.{Block}

@@ -7,7 +7,7 @@ use Prim.Native.Nat.{ℕ, _+_, _≤_, _<_}
 use native.Mathlib.Omega.{arith}
 use lib.Dec.{eqb}
 use lib.ListN.{length, drop}
-use borrow.Author.Tests.{eqb-true, eqb-false, eq-eqb, ne-eqb, not-true, lt-leb}
+use borrow.Author.Tests.{eqb-true, eqb-false, ne-eqb, not-true, lt-leb}
 use Rattle.lexis.specs.Text.{byte}
 use Rattle.lexis.specs.Bytes.{sortOf, is, blank, digit, wordByte, runByte}
 use Rattle.lexis.specs.Runs.{past, byteAt, startsWith}

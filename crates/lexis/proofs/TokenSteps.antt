@@ -15,17 +15,11 @@ use Rattle.lexis.specs.Tokens.{token, noToken, spelled, word, number, si
 use Rattle.lexis.specs.Postconditions.{PlaceIs, TokenIs}
 use Rattle.lexis.specs.declared.Token.{Token}
 use Rattle.lexis.proofs.Cases.{and-left}
-use Rattle.lexis.proofs.Places.{Found, drop-in, starts-long, shaped-long, token-found}
+use Rattle.lexis.proofs.Places.{Found, drop-in, starts-long, token-found}
 use Rattle.lexis.proofs.ReadBack.{on-sort, starting}
 
 -- a number
 module _ (s : List ℕ) (at : ℕ) (r : Bool) (q : r ≡ shaped dateShape (drop at s)) where
-  pub date-room : at ≤ length s → r ≡ true → at + 10 ≤ length s
-  date-room h e =
-      let n = shaped-long dateShape (drop at s) (sym q ∙ e) in
-      let m = length-drop at s in
-      omega arith
-
   pub number-date : r ≡ true → token date at (at + 10) ≡ number s at
   number-date e = rw (← q, e)
 

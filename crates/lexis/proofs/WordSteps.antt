@@ -1,21 +1,16 @@
 -- The steps of telling words and patterns by what a family spells. Assumes nothing.
-use mathlib.Core.Path.{_≡_, refl, _∙_}
-use mathlib.Core.Bool.{Bool, true, false, cond, not, _&&_}
+use mathlib.Core.Path.{_≡_}
+use mathlib.Core.Bool.{Bool, true, false}
 use mathlib.Core.List.{List, [], _∷_}
 use Prim.Native.Nat.{ℕ}
-use lib.Dec.{eqb}
 use lib.ListN.{drop}
-use borrow.Author.Tests.{eq-eqb, ne-eqb, not-true}
-use Rattle.lexis.specs.Text.{bytes}
 use Rattle.lexis.specs.Bytes.{wordByte}
-use Rattle.lexis.specs.Runs.{past, part, same, startsWith}
+use Rattle.lexis.specs.Runs.{past, part, same}
 use Rattle.lexis.specs.Spelling.{Literal, literal, wordSort, keywords, booleans}
-use Rattle.lexis.specs.Tokens.{token, noToken, spelled, word, unreadable}
+use Rattle.lexis.specs.Tokens.{token, word}
 use Rattle.lexis.specs.Postconditions.{PlaceIs, wordsOf}
-use Rattle.lexis.specs.declared.Token.{Token}
 use Rattle.lexis.specs.declared.spellings.Words.{Words}
 use Rattle.lexis.specs.declared.spellings.Words.the-variants.{Keywords, Booleans}
-use Rattle.lexis.proofs.Cases.{and-left, and-right}
 
 -- a spelling before others
 pub sort-first : (l : Literal) (ls : List Literal) (w : List ℕ) (a b k : ℕ) → a ≡ wordSort (l ∷ []) w b → b ≡ wordSort ls w k → a ≡ wordSort (l ∷ ls) w k

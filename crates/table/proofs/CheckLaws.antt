@@ -31,17 +31,6 @@ module _ {m : Image} {n : ℕ} {r : Record} (g : RecordGood m n r) where
       let w = rowOf (r .kind) in
       each-passed (leb 1 (r .kind)) (leb (r .kind) 8 ∷ within (w .least) (w .most) (r .flag) ∷ fieldsRight m n (w .uses) (r .fields) ∷ []) (g .obeyed)
 
-  -- its kind is one of eight
-  pub good-kind : (1 ≤ r .kind) × (r .kind ≤ 8)
-  good-kind = (leb-true 1 (r .kind) (good-tests .0), leb-true (r .kind) 8 (good-tests .1 .0))
-
-  -- its flag is one of its kind's
-  pub good-flag : (rowOf (r .kind) .least ≤ r .flag) × (r .flag ≤ rowOf (r .kind) .most)
-  good-flag =
-      let w = rowOf (r .kind) in
-      let p = each-passed (leb (w .least) (r .flag)) (leb (r .flag) (w .most) ∷ []) (good-tests .1 .1 .0) in
-      (leb-true (w .least) (r .flag) (p .0), leb-true (r .flag) (w .most) (p .1 .0))
-
   -- its fields keep their rules
   pub good-fields : fieldsRight m n (rowOf (r .kind) .uses) (r .fields) ≡ true
   good-fields = good-tests .1 .1 .1 .0
