@@ -6,14 +6,14 @@ use Prim.Native.Nat.{ℕ, zero, suc, _+_, _*_, _-_, _/_, _%_, _^_, _≤_, _<_}
 use native.Mathlib.Omega.{arith}
 use lib.Dec.{eqb, ltb}
 use lib.ListN.{length, getD, set, List·getD-eq-default}
-use lib.Seq.{getD-set-same, getD-set-other}
+use lib.Seq.{set-out, getD-set-same, getD-set-other}
 use borrow.Author.Tests.{eqb-true, eqb-false, ne-eqb, ltb-true, not-true}
 use Rattle.lexis.proofs.Cases.{and-left, and-right}
 use Rattle.values.proofs.Common.{allBelow, below, by-order}
 use Rattle.table.specs.Answers.{recordOf}
 use Rattle.table.specs.declared.records.Entry.{Entry}
 use Rattle.admission.specs.Items.{recordIn, Lies}
-use Rattle.tape.specs.Memo.{bitOf, withBit, marked, Marks, recordCount, baseOf, VisitOf, seenBefore, admittedIn, OnChain, here, later, ChainGood, Marking, before, new, ChainMarked}
+use Rattle.tape.specs.Memo.{bitOf, withBit, marked, markBit, Marks, recordCount, baseOf, VisitOf, seenBefore, admittedIn, OnChain, here, later, ChainGood, Marking, before, new, ChainMarked}
 use Rattle.tape.specs.declared.members.Block.{Block}
 use Rattle.tape.specs.declared.memo.Visit.{Visit}
 use Rattle.admission.proofs.ItemSteps.{left}
@@ -96,6 +96,14 @@ mark-inside memo i b r eb lb li er = record {
 pub mark-outside : (memo : List ℕ) (i : ℕ) → length memo ≤ i / 8 → Marks memo i memo
 mark-outside memo i h = record { set = λ k. absurd (omega arith); other = λ j n. refl }
 
+pub bit-inside : (memo : List ℕ) (i b r : ℕ) → b ≡ getD memo (i / 8) 0 → r ≡ withBit b (i % 8) → set memo (i / 8) r ≡ markBit memo i
+unfolding markBit
+bit-inside memo i b r eb er = rw (er, eb)
+
+pub bit-outside : (memo : List ℕ) (i : ℕ) → length memo ≤ i / 8 → memo ≡ markBit memo i
+unfolding markBit
+bit-outside memo i h = sym (set-out memo (i / 8) _ h)
+
 -- a visit
 pub base-fits : (records : List ℕ) (b : Block) (count : ℕ) → count ≡ recordCount records → baseOf records b ≤ 8_388_608 → b .first * count < 2 ^ 64
 base-fits records b count e h = rw e (omega arith)
@@ -120,6 +128,9 @@ module _ (records : List ℕ) (b : Block) (count base : ℕ) (ec : count ≡ rec
   pub seen-row : (memo : List ℕ) (p : ℕ) → p ≡ base + 0 → (seen : Bool) → seen ≡ marked memo p → (b .first ≡ 0 → ⊥) → seen ≡ seenBefore records memo b
   unfolding seenBefore
   seen-row memo p e seen h z = let q = base-is in let f : p ≡ baseOf records b = omega arith in rw (ne-eqb (b .first) 0 z, ← f) h
+
+  pub visit-bit : (p : ℕ) → p ≡ base + 0 → (memo after : List ℕ) → after ≡ markBit memo p → after ≡ markBit memo (baseOf records b)
+  visit-bit p e memo after m = let q = base-is in let f : p ≡ baseOf records b = omega arith in rw f at m
 
   pub visit-marks : (p : ℕ) → p ≡ base + 0 → (memo after : List ℕ) → Marks memo p after → Marks memo (baseOf records b) after
   visit-marks p e memo after m = let q = base-is in let f : p ≡ baseOf records b = omega arith in rw f at m

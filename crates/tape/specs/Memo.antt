@@ -5,7 +5,7 @@ use mathlib.Core.Bool.{Bool, true, false, not, cond, _&&_, _||_}
 use mathlib.Core.List.{List}
 use Prim.Native.Nat.{ℕ, _+_, _*_, _/_, _%_, _^_, _≤_, _<_}
 use lib.Dec.{eqb}
-use lib.ListN.{length, getD}
+use lib.ListN.{length, getD, set}
 use Rattle.lexis.specs.Runs.{part}
 use Rattle.meaning.specs.Verdicts.{valid}
 use Rattle.meaning.specs.Admission.{admitted}
@@ -30,6 +30,10 @@ withBit b k = cond (bitOf b k) b (b + 2 ^ k)
 -- the bit with a number is set; none is behind the memo's end
 unfoldable pub marked : List ℕ → ℕ → Bool
 marked memo i = bitOf (getD memo (i / 8) 0) (i % 8)
+
+-- the memo with the bit with a number set, if it is not behind the end
+unfoldable pub markBit : List ℕ → ℕ → List ℕ
+markBit memo i = set memo (i / 8) (withBit (getD memo (i / 8) 0) (i % 8))
 
 -- no bit is set
 pub record Blank (memo : List ℕ) : Type 0 where

@@ -13,7 +13,7 @@ ghost use Rattle.lexis.specs.Bytes.{among};
 ghost use Rattle.table.specs.Answers.{recordOf};
 ghost use Rattle.admission.specs.Items.{Lies, Named};
 ghost use Rattle.tape.specs.Walking.{LeafRow, Walk};
-ghost use Rattle.tape.specs.Memo.{bitOf, withBit, marked, Marks, recordCount, baseOf, VisitOf, seenBefore, admittedIn, ChainGood, ChainMarked, mayVisit, leadsIn, Listing, ItemsMarked, MemoGood, KnownIs};
+ghost use Rattle.tape.specs.Memo.{bitOf, withBit, marked, markBit, Marks, recordCount, baseOf, VisitOf, seenBefore, admittedIn, ChainGood, ChainMarked, mayVisit, leadsIn, Listing, ItemsMarked, MemoGood, KnownIs};
 
 // The bytes of a record.
 const RECORD_SIZE: usize = 24;
@@ -60,6 +60,7 @@ fn is_marked(memo: &[u8], i: usize) -> bool
 
 // Sets the bit with a number, if it is not behind the memo's end.
 fn mark(memo: &mut [u8], i: usize)
+    ensures { λ _. ⌜ now (memo .exit) ≡ markBit (now (memo .entry)) i ⌝ }
     ensures { λ _. ⌜ Marks (now (memo .entry)) i (now (memo .exit)) ⌝ }
 {
     let at = i / 8;
@@ -89,6 +90,7 @@ pub fn enter(records: &[u8], memo: &mut [u8], block: Block) -> Visit
     requires { ⌜ baseOf (now records) block ≤ 8388608 ⌝ }
     ensures { λ r. ⌜ VisitOf (now (records .entry)) block r ⌝ }
     ensures { λ r. ⌜ r .again ≡ seenBefore (now (records .entry)) (now (memo .entry)) block ⌝ }
+    ensures { λ _. ⌜ now (memo .exit) ≡ markBit (now (memo .entry)) (baseOf (now (records .entry)) block) ⌝ }
     ensures { λ _. ⌜ Marks (now (memo .entry)) (baseOf (now (records .entry)) block) (now (memo .exit)) ⌝ }
 {
     let base = block.first * record_count(records);
