@@ -3,7 +3,7 @@
 use mathlib.Core.Path.{_≡_}
 use mathlib.Core.Bool.{Bool, true, false, not, cond, _&&_, _||_}
 use mathlib.Core.List.{List}
-use Prim.Native.Nat.{ℕ, _+_, _*_, _/_, _%_, _^_, _≤_, _<_}
+use Prim.Native.Nat.{ℕ, zero, suc, _+_, _*_, _/_, _%_, _^_, _≤_, _<_}
 use lib.Dec.{eqb}
 use lib.ListN.{length, getD, set}
 use Rattle.lexis.specs.Runs.{part}
@@ -68,6 +68,15 @@ pub record VisitOf (records : List ℕ) (b : Block) (v : Visit) : Type 0 where
 -- no attribute is left, or those from n on are known to admit the block
 abbrev pub admittedIn : List ℕ → Visit → ℕ → Bool
 admittedIn memo v n = eqb n 0 || (v .again && marked memo (v .base + n))
+
+-- the memo with the attributes from n on marked, up to the first that is admitted; `fuel` bounds how many
+unfoldable pub markAlong : List ℕ → Visit → ℕ → ℕ → List ℕ → List ℕ
+markAlong records v zero n memo = memo
+markAlong records v (suc fuel) n memo = cond (admittedIn memo v n) memo (markAlong records v fuel (field (recordIn records n) 3) (markBit memo (v .base + n)))
+
+-- the same on a later visit of the block; on its first, the memo as before
+abbrev pub markChain : List ℕ → Visit → ℕ → List ℕ → List ℕ
+markChain records v n memo = cond (v .again) (markAlong records v (recordCount records) n memo) memo
 
 -- attribute k is on the chain from attribute n on
 pub data OnChain (records : List ℕ) (k : ℕ) : ℕ → Type 0 where

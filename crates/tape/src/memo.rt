@@ -13,7 +13,7 @@ ghost use Rattle.lexis.specs.Bytes.{among};
 ghost use Rattle.table.specs.Answers.{recordOf};
 ghost use Rattle.admission.specs.Items.{Lies, Named};
 ghost use Rattle.tape.specs.Walking.{LeafRow, Walk};
-ghost use Rattle.tape.specs.Memo.{bitOf, withBit, marked, markBit, Marks, recordCount, baseOf, VisitOf, seenBefore, admittedIn, ChainGood, ChainMarked, mayVisit, leadsIn, Listing, ItemsMarked, MemoGood, KnownIs};
+ghost use Rattle.tape.specs.Memo.{bitOf, withBit, marked, markBit, Marks, recordCount, baseOf, VisitOf, seenBefore, admittedIn, markChain, ChainGood, ChainMarked, mayVisit, leadsIn, Listing, ItemsMarked, MemoGood, KnownIs};
 
 // The bytes of a record.
 const RECORD_SIZE: usize = 24;
@@ -123,6 +123,7 @@ pub fn is_admitted(memo: &[u8], visit: Visit, n: u32) -> bool
 pub fn mark_chain(records: &[u8], memo: &mut [u8], visit: Visit, first: u32)
     requires { ⌜ ChainGood (now records) first ⌝ }
     requires { ⌜ visit .base ≤ 8388608 ⌝ }
+    ensures { λ _. ⌜ now (memo .exit) ≡ markChain (now (records .entry)) visit first (now (memo .entry)) ⌝ }
     ensures { λ _. ⌜ ChainMarked (now (records .entry)) (now (memo .entry)) (visit .base) first (now (memo .exit)) ⌝ }
 {
     if !visit.again {
