@@ -1,6 +1,6 @@
 -- Steps of marking the items of a row: an item that admits a value, or leads to one that does, begins a list that admits it. Assumes nothing.
 use mathlib.Core.Path.{_≡_, refl, sym, ap, _∙_, subst}
-use mathlib.Core.Bool.{Bool, true, false, not, _&&_, _||_, or-true, false≢true}
+use mathlib.Core.Bool.{Bool, true, false, not, cond, _&&_, _||_, or-true, false≢true}
 use mathlib.Core.Option.{Option, none, some}
 use mathlib.Core.List.{List, [], _∷_}
 use Prim.Native.Nat.{ℕ, zero, suc, _+_, _*_, _-_, _^_, _≤_, _<_}
@@ -27,8 +27,9 @@ use Rattle.table.proofs.UseLaws.{by-or}
 use Rattle.admission.specs.Items.{recordIn, rangeIn, textIn, itemOf, Lies, Named, tableOf, TableGood}
 use Rattle.admission.specs.Answers.{under, isAdmitted, itemAdmits}
 use Rattle.tape.specs.Walking.{LeafRow, Walk}
-use Rattle.tape.specs.Memo.{marked, Marks, recordCount, mayVisit, LeafAdmits, leadsIn, Listing, OfItems, old, item, ItemsMarked, MemoGood, KnownIs}
+use Rattle.tape.specs.Memo.{marked, markBit, Marks, recordCount, mayVisit, LeafAdmits, leadsIn, markItem, markItems, enterLeaf, knownIn, Listing, OfItems, old, item, ItemsMarked, MemoGood, KnownIs}
 use Rattle.admission.proofs.TableLaws.{by-kind, records-long, kind-back, name-there, list-link-below, integers-leaf, integers-rest, strings-leaf, strings-rest, dates-leaf, dates-rest}
+use Rattle.tape.proofs.MemoSteps.{marked-outside}
 use Rattle.tape.proofs.MemoLaws.{records-few, memo-entered, memo-listed}
 
 -- the kinds of items of lists
@@ -212,23 +213,50 @@ module _ (records pool memo : List ℕ) (base : ℕ) (s : Bool) (w : List ℕ) (
         each j t true y = item n below (eqb-true j (base + n) y)
         each j t false y = old (sym (m .other j (eqb-false j (base + n) y)) ∙ t)
 
+-- what marking an item makes of the memo
+module _ (records pool memo : List ℕ) (base : ℕ) (s : Bool) (w : List ℕ) (n : ℕ) (e : Entry) (q : recordOf e ≡ recordIn records n) (a : Bool) (ea : a ≡ among (e .kind) (4 ∷ 5 ∷ 7 ∷ [])) where
+  item-is : cond (a && leadsIn pool memo base (recordOf e) s w) (markBit memo (base + n)) memo ≡ markItem records pool base s w n memo
+  unfolding markItem
+  item-is = rw (ea, ← q)
+
+  pub item-unlisted : a ≡ false → memo ≡ markItem records pool base s w n memo
+  item-unlisted h = rw h at item-is
+
+  module _ (h : a ≡ true) (r : Bool) (er : r ≡ leadsIn pool memo base (recordOf e) s w) where
+    pub item-kept : r ≡ false → memo ≡ markItem records pool base s w n memo
+    item-kept k = rw (h, ← er, k) at item-is
+
+    pub item-set : r ≡ true → (after : List ℕ) → after ≡ markBit memo (base + n) → after ≡ markItem records pool base s w n memo
+    item-set k after m = m ∙ (rw (h, ← er, k) at item-is)
+
 -- marking all items, from the last record on down
+items-next : (records pool : List ℕ) (base : ℕ) (s : Bool) (w memo : List ℕ) (n : ℕ) → 0 < n → markItems records pool base s w (n - 1) (markItem records pool base s w n memo) ≡ markItems records pool base s w n memo
+unfolding markItems
+items-next records pool base s w memo zero h = absurd (omega arith)
+items-next records pool base s w memo (suc n) h = let e : suc n - 1 ≡ n = omega arith in rw e
+
 pub record InListing (records pool start : List ℕ) (base : ℕ) (s : Bool) (w memo : List ℕ) (n : ℕ) : Type 0 where
   pub marked : ItemsMarked records pool start base s w memo
   pub most : n ≤ recordCount records
   pub same : length memo ≡ length start
+  pub is : markItems records pool base s w (n - 1) memo ≡ markItems records pool base s w (recordCount records - 1) start
 
 pub listing-start : (records pool memo : List ℕ) (base : ℕ) (s : Bool) (w : List ℕ) → Listing records pool memo base s w → (n : ℕ) → n ≡ recordCount records → InListing records pool memo base s w memo n
-listing-start records pool memo base s w g n e = record { marked = items-same records pool memo base s w g; most = omega arith; same = refl }
+listing-start records pool memo base s w g n e = record { marked = items-same records pool memo base s w g; most = omega arith; same = refl; is = rw e }
 
 pub listing-few : (records pool start : List ℕ) (base : ℕ) (s : Bool) (w memo : List ℕ) (n : ℕ) → InListing records pool start base s w memo n → n - 1 < 2 ^ 32
 listing-few records pool start base s w memo n i = let l = records-few records pool (i .marked .listing .checked) in let m = i .most in omega arith
 
-pub listing-next : (records pool start : List ℕ) (base : ℕ) (s : Bool) (w memo : List ℕ) (n : ℕ) → InListing records pool start base s w memo n → 1 < n → (after : List ℕ) → ItemsMarked records pool memo base s w after → length after ≡ length memo → InListing records pool start base s w after (n - 1)
-listing-next records pool start base s w memo n i h after m l = record {
+pub listing-end : (records pool start : List ℕ) (base : ℕ) (s : Bool) (w memo : List ℕ) (n : ℕ) → InListing records pool start base s w memo n → n ≤ 1 → memo ≡ markItems records pool base s w (recordCount records - 1) start
+unfolding markItems
+listing-end records pool start base s w memo n i h = let e : n - 1 ≡ 0 = omega arith in rw e at (i .is)
+
+pub listing-next : (records pool start : List ℕ) (base : ℕ) (s : Bool) (w memo : List ℕ) (n : ℕ) → InListing records pool start base s w memo n → 1 < n → (after : List ℕ) → after ≡ markItem records pool base s w (n - 1) memo → ItemsMarked records pool memo base s w after → length after ≡ length memo → InListing records pool start base s w after (n - 1)
+listing-next records pool start base s w memo n i h after ea m l = record {
   marked = record { listing = m .listing; each = λ j t. by j (m .each j t) };
   most = let k = i .most in omega arith;
   same = l ∙ i .same;
+  is = rw ea (items-next records pool base s w memo (n - 1) (omega arith) ∙ i .is);
 }
   where
     by : (j : ℕ) → OfItems (recordCount records) memo base j → OfItems (recordCount records) start base j
@@ -274,6 +302,40 @@ module _ (records pool s tape memo : List ℕ) (rows row base : ℕ) (k : Walk r
       → (last : List ℕ) → ItemsMarked records pool after base (eqb holds 1) (take (end - start) (drop start s)) last → MemoGood records pool s tape rows last
   row-marked after m start end holds es ee eh last i =
       memo-listed records pool s tape rows after last (memo-entered records pool s tape rows memo after g row base eb m) row base eb (l .leaf) (take (end - start) (drop start s)) (eqb holds 1) (rw (es, ee)) (rw eh) i
+
+  -- what a visit makes of the memo
+  pub leaf-again : (r : Bool) → r ≡ marked memo base → r ≡ true → memo ≡ enterLeaf records pool s tape row memo
+  unfolding enterLeaf
+  leaf-again r e h = rw (← eb, ← e, h)
+
+  pub leaf-first : (r : Bool) → r ≡ marked memo base → r ≡ false → (after : List ℕ) → after ≡ markBit memo base → (start end holds : ℕ) → start ≡ number (rowAt tape row) 6 → end ≡ number (rowAt tape row) 7 → holds ≡ number (rowAt tape row) 0
+      → (last : List ℕ) → last ≡ markItems records pool base (eqb holds 1) (take (end - start) (drop start s)) (recordCount records - 1) after → last ≡ enterLeaf records pool s tape row memo
+  unfolding enterLeaf
+  leaf-first r e h after ea start end holds es ee eh last el = rw (← eb, ← e, h, ← ea, ← es, ← ee, ← eh) el
+
+-- no memo remains none
+cond-same : {A : Type 0} (b : Bool) (x : A) → cond b x x ≡ x
+cond-same true x = refl
+cond-same false x = refl
+
+items-none : (records pool : List ℕ) (base : ℕ) (s : Bool) (w : List ℕ) (n : ℕ) → markItems records pool base s w n [] ≡ []
+unfolding markItems markItem markBit
+items-none records pool base s w zero = refl
+items-none records pool base s w (suc n) = rw cond-same (items-none records pool base s w n)
+
+leaf-none : (records pool s tape : List ℕ) (row : ℕ) → enterLeaf records pool s tape row [] ≡ []
+unfolding enterLeaf markBit
+leaf-none records pool s tape row = rw (items-none, cond-same)
+
+pub memo-none : (records pool s tape : List ℕ) (row : ℕ) (memo : List ℕ) → length memo ≡ 0 → memo ≡ enterLeaf records pool s tape row memo
+memo-none records pool s tape row [] h = sym (leaf-none records pool s tape row)
+memo-none records pool s tape row (x ∷ memo) h = absurd (omega arith)
+
+pub memo-unknown : (records pool s tape : List ℕ) (row n : ℕ) (memo : List ℕ) → length memo ≡ 0 → false ≡ knownIn records pool s tape row n memo
+memo-unknown records pool s tape row n memo h = rw (← (memo-none records pool s tape row memo h)) (marked-outside memo _ (omega arith))
+
+pub memo-told : (records pool s tape memo after : List ℕ) (row first n base : ℕ) → n ≡ recordCount records → base ≡ (row + 1) * n → after ≡ enterLeaf records pool s tape row memo → (r : Bool) → r ≡ marked after (base + first) → r ≡ knownIn records pool s tape row first memo
+memo-told records pool s tape memo after row first n base en eb ea r e = rw (← ea, ← en, ← eb) e
 
 -- what the memo tells of a row
 pub row-known : (records pool s tape memo : List ℕ) (rows row first n base : ℕ) → LeafRow rows tape row → MemoGood records pool s tape rows memo → (1 ≤ first) × Lies records first → n ≡ recordCount records → base ≡ (row + 1) * n → (r : Bool) → r ≡ marked memo (base + first) → KnownIs records pool s tape row first r

@@ -6,14 +6,15 @@ use Prim.Native.Nat.{ℕ, zero, suc, _+_, _*_, _-_, _/_, _%_, _^_, _≤_, _<_}
 use native.Mathlib.Omega.{arith}
 use lib.Dec.{eqb, ltb}
 use lib.ListN.{length, getD, set, List·getD-eq-default}
-use lib.Seq.{getD-set-same, getD-set-other}
-use borrow.Author.Tests.{eqb-true, eqb-false, ne-eqb, ltb-true, not-true}
+use lib.Seq.{set-out, getD-set-same, getD-set-other}
+use borrow.Author.Tests.{eqb-true, eqb-false, ne-eqb, ltb-true, not-true, not-false}
 use Rattle.lexis.proofs.Cases.{and-left, and-right}
 use Rattle.values.proofs.Common.{allBelow, below, by-order}
+use Rattle.table.specs.Records.{field}
 use Rattle.table.specs.Answers.{recordOf}
 use Rattle.table.specs.declared.records.Entry.{Entry}
 use Rattle.admission.specs.Items.{recordIn, Lies}
-use Rattle.tape.specs.Memo.{bitOf, withBit, marked, Marks, recordCount, baseOf, VisitOf, seenBefore, admittedIn, OnChain, here, later, ChainGood, Marking, before, new, ChainMarked}
+use Rattle.tape.specs.Memo.{bitOf, withBit, marked, markBit, Marks, recordCount, baseOf, VisitOf, seenBefore, admittedIn, markAlong, markChain, OnChain, here, later, ChainGood, Marking, before, new, ChainMarked}
 use Rattle.tape.specs.declared.members.Block.{Block}
 use Rattle.tape.specs.declared.memo.Visit.{Visit}
 use Rattle.admission.proofs.ItemSteps.{left}
@@ -96,6 +97,14 @@ mark-inside memo i b r eb lb li er = record {
 pub mark-outside : (memo : List ℕ) (i : ℕ) → length memo ≤ i / 8 → Marks memo i memo
 mark-outside memo i h = record { set = λ k. absurd (omega arith); other = λ j n. refl }
 
+pub bit-inside : (memo : List ℕ) (i b r : ℕ) → b ≡ getD memo (i / 8) 0 → r ≡ withBit b (i % 8) → set memo (i / 8) r ≡ markBit memo i
+unfolding markBit
+bit-inside memo i b r eb er = rw (er, eb)
+
+pub bit-outside : (memo : List ℕ) (i : ℕ) → length memo ≤ i / 8 → memo ≡ markBit memo i
+unfolding markBit
+bit-outside memo i h = sym (set-out memo (i / 8) _ h)
+
 -- a visit
 pub base-fits : (records : List ℕ) (b : Block) (count : ℕ) → count ≡ recordCount records → baseOf records b ≤ 8_388_608 → b .first * count < 2 ^ 64
 base-fits records b count e h = rw e (omega arith)
@@ -121,6 +130,9 @@ module _ (records : List ℕ) (b : Block) (count base : ℕ) (ec : count ≡ rec
   unfolding seenBefore
   seen-row memo p e seen h z = let q = base-is in let f : p ≡ baseOf records b = omega arith in rw (ne-eqb (b .first) 0 z, ← f) h
 
+  pub visit-bit : (p : ℕ) → p ≡ base + 0 → (memo after : List ℕ) → after ≡ markBit memo p → after ≡ markBit memo (baseOf records b)
+  visit-bit p e memo after m = let q = base-is in let f : p ≡ baseOf records b = omega arith in rw f at m
+
   pub visit-marks : (p : ℕ) → p ≡ base + 0 → (memo after : List ℕ) → Marks memo p after → Marks memo (baseOf records b) after
   visit-marks p e memo after m = let q = base-is in let f : p ≡ baseOf records b = omega arith in rw f at m
 
@@ -136,52 +148,90 @@ module _ (memo : List ℕ) (v : Visit) (n : ℕ) where
     pub visit-first : v .again ≡ false → false ≡ admittedIn memo v n
     visit-first a = rw (ne-eqb n 0 z, a)
 
--- marking a chain: at attribute n of those from `first` on
-pub record InChain (records start : List ℕ) (base first : ℕ) (memo : List ℕ) (n : ℕ) : Type 0 where
+-- marking a chain: at attribute n of those from `first` on, with fuel for those that are left
+pub record InChain (records start : List ℕ) (v : Visit) (first : ℕ) (memo : List ℕ) (n : ℕ) : Type 0 where
   pub good : ChainGood records first
-  pub small : base ≤ 8_388_608
+  pub small : v .base ≤ 8_388_608
   pub same : length memo ≡ length start
   pub inside : (k : ℕ) → OnChain records k n → OnChain records k first
-  pub marked : ChainMarked records start base first memo
+  pub marked : ChainMarked records start (v .base) first memo
+  pub fuel : ℕ
+  pub enough : 0 < n → recordCount records ≤ n + fuel
+  pub is : markAlong records v fuel n memo ≡ markChain records v first start
 
 pub chain-none : (records memo : List ℕ) (base first : ℕ) → ChainMarked records memo base first memo
 chain-none records memo base first = record { each = λ j h. before h }
 
-pub chain-start : (records memo : List ℕ) (base first : ℕ) → ChainGood records first → base ≤ 8_388_608 → InChain records memo base first memo first
-chain-start records memo base first g s = record { good = g; small = s; same = refl; inside = λ k h. h; marked = chain-none records memo base first }
+pub chain-first : (records memo : List ℕ) (v : Visit) (first : ℕ) → not (v .again) ≡ true → memo ≡ markChain records v first memo
+chain-first records memo v first h = rw (not-true (v .again) h)
+
+pub chain-start : (records memo : List ℕ) (v : Visit) (first : ℕ) → ChainGood records first → v .base ≤ 8_388_608 → not (v .again) ≡ false → InChain records memo v first memo first
+chain-start records memo v first g s h = record {
+  good = g;
+  small = s;
+  same = refl;
+  inside = λ k h. h;
+  marked = chain-none records memo (v .base) first;
+  fuel = recordCount records;
+  enough = λ z. omega arith;
+  is = rw (not-false (v .again) h);
+}
 
 -- an attribute that is not marked is no 0
 pub left-some : (memo : List ℕ) (v : Visit) (n : ℕ) (r : Bool) → r ≡ admittedIn memo v n → not r ≡ true → 0 < n
 left-some memo v zero r e h = absurd (false≢true (sym (not-true r h) ∙ e))
 left-some memo v (suc n) r e h = omega arith
 
-module _ (records start : List ℕ) (v : Visit) (first : ℕ) (memo : List ℕ) (n : ℕ) (i : InChain records start (v .base) first memo n) (r : Bool) (e : r ≡ admittedIn memo v n) (h : not r ≡ true) where
-  at-chain : OnChain records n first
-  at-chain = i .inside n (here (left-some memo v n r e h))
+-- where one is admitted, the chain is marked
+along-end : (records memo : List ℕ) (v : Visit) (fuel n : ℕ) → admittedIn memo v n ≡ true → markAlong records v fuel n memo ≡ memo
+unfolding markAlong
+along-end records memo v zero n h = refl
+along-end records memo v (suc fuel) n h = rw h
 
-  pub chain-lies : Lies records n
-  chain-lies = i .good .lies n at-chain
+along-next : (records memo : List ℕ) (v : Visit) (fuel n : ℕ) → 0 < fuel → admittedIn memo v n ≡ false → markAlong records v (fuel - 1) (field (recordIn records n) 3) (markBit memo (v .base + n)) ≡ markAlong records v fuel n memo
+unfolding markAlong
+along-next records memo v zero n p h = absurd (omega arith)
+along-next records memo v (suc fuel) n p h = let s : suc fuel - 1 ≡ fuel = omega arith in rw (h, s)
 
-  module _ (x : Entry) (q : recordOf x ≡ recordIn records n) where
-    pub chain-less : left records (x .d) < left records n
-    chain-less =
-        let l = chain-lies in
-        let z = left-some memo v n r e h in
-        let up : 0 < x .d → n < x .d = rw (← q) at (i .good .up n at-chain) in
-        rw (ne-eqb n 0 (λ y. omega arith))
-        (by-order (x .d) 0
-        (λ k. let y : x .d ≡ 0 = omega arith in rw y (omega arith))
-        (λ k. let u = up k in rw (ne-eqb (x .d) 0 (λ y. omega arith)) (omega arith)))
+module _ (records start : List ℕ) (v : Visit) (first : ℕ) (memo : List ℕ) (n : ℕ) (i : InChain records start v first memo n) (r : Bool) (e : r ≡ admittedIn memo v n) where
+  pub chain-end : not r ≡ false → memo ≡ markChain records v first start
+  chain-end h = sym (along-end records memo v (i .fuel) n (sym e ∙ not-false r h)) ∙ i .is
 
-    pub chain-next : (p : ℕ) → p ≡ v .base + n → (after : List ℕ) → length after ≡ length memo → Marks memo p after → InChain records start (v .base) first after (x .d)
-    chain-next p ep after el m = record {
-      good = i .good;
-      small = i .small;
-      same = el ∙ i .same;
-      inside = λ k o. i .inside k (later n (left-some memo v n r e h) (rw (← q) o));
-      marked = record { each = λ j t. by j t (eqb j p) refl };
-    }
-      where
-        by : (j : ℕ) → marked after j ≡ true → (b : Bool) → eqb j p ≡ b → Marking records start (v .base) first j
-        by j t true y = new n at-chain (eqb-true j p y ∙ ep)
-        by j t false y = i .marked .each j (sym (m .other j (eqb-false j p y)) ∙ t)
+  module _ (h : not r ≡ true) where
+    at-chain : OnChain records n first
+    at-chain = i .inside n (here (left-some memo v n r e h))
+
+    pub chain-lies : Lies records n
+    chain-lies = i .good .lies n at-chain
+
+    module _ (x : Entry) (q : recordOf x ≡ recordIn records n) where
+      chain-up : 0 < x .d → n < x .d
+      chain-up = rw (← q) at (i .good .up n at-chain)
+
+      pub chain-less : left records (x .d) < left records n
+      chain-less =
+          let l = chain-lies in
+          let z = left-some memo v n r e h in
+          rw (ne-eqb n 0 (λ y. omega arith))
+          (by-order (x .d) 0
+          (λ k. let y : x .d ≡ 0 = omega arith in rw y (omega arith))
+          (λ k. let u = chain-up k in rw (ne-eqb (x .d) 0 (λ y. omega arith)) (omega arith)))
+
+      pub chain-next : (p : ℕ) → p ≡ v .base + n → (after : List ℕ) → length after ≡ length memo → after ≡ markBit memo p → Marks memo p after → InChain records start v first after (x .d)
+      chain-next p ep after el ea m = record {
+        good = i .good;
+        small = i .small;
+        same = el ∙ i .same;
+        inside = λ k o. i .inside k (later n (left-some memo v n r e h) (rw (← q) o));
+        marked = record { each = λ j t. by j t (eqb j p) refl };
+        fuel = i .fuel - 1;
+        enough = λ z. let u = chain-up z in let w = i .enough (left-some memo v n r e h) in omega arith;
+        is = rw (ea, ep, ap (λ y. field y 3) q) (along-next records memo v (i .fuel) n some (sym e ∙ not-true r h) ∙ i .is);
+      }
+        where
+          some : 0 < i .fuel
+          some = let l = chain-lies in let w = i .enough (left-some memo v n r e h) in omega arith
+
+          by : (j : ℕ) → marked after j ≡ true → (b : Bool) → eqb j p ≡ b → Marking records start (v .base) first j
+          by j t true y = new n at-chain (eqb-true j p y ∙ ep)
+          by j t false y = i .marked .each j (sym (m .other j (eqb-false j p y)) ∙ t)

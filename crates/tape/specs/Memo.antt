@@ -2,10 +2,11 @@
 -- string or word and an item where the items from that one on are known to admit it. Assumes nothing.
 use mathlib.Core.Path.{_≡_}
 use mathlib.Core.Bool.{Bool, true, false, not, cond, _&&_, _||_}
-use mathlib.Core.List.{List}
-use Prim.Native.Nat.{ℕ, _+_, _*_, _/_, _%_, _^_, _≤_, _<_}
+use mathlib.Core.List.{List, [], _∷_}
+use Prim.Native.Nat.{ℕ, zero, suc, _+_, _*_, _-_, _/_, _%_, _^_, _≤_, _<_}
 use lib.Dec.{eqb}
-use lib.ListN.{length, getD}
+use lib.ListN.{length, getD, set}
+use Rattle.lexis.specs.Bytes.{among}
 use Rattle.lexis.specs.Runs.{part}
 use Rattle.meaning.specs.Verdicts.{valid}
 use Rattle.meaning.specs.Admission.{admitted}
@@ -30,6 +31,10 @@ withBit b k = cond (bitOf b k) b (b + 2 ^ k)
 -- the bit with a number is set; none is behind the memo's end
 unfoldable pub marked : List ℕ → ℕ → Bool
 marked memo i = bitOf (getD memo (i / 8) 0) (i % 8)
+
+-- the memo with the bit with a number set, if it is not behind the end
+unfoldable pub markBit : List ℕ → ℕ → List ℕ
+markBit memo i = set memo (i / 8) (withBit (getD memo (i / 8) 0) (i % 8))
 
 -- no bit is set
 pub record Blank (memo : List ℕ) : Type 0 where
@@ -64,6 +69,15 @@ pub record VisitOf (records : List ℕ) (b : Block) (v : Visit) : Type 0 where
 -- no attribute is left, or those from n on are known to admit the block
 abbrev pub admittedIn : List ℕ → Visit → ℕ → Bool
 admittedIn memo v n = eqb n 0 || (v .again && marked memo (v .base + n))
+
+-- the memo with the attributes from n on marked, up to the first that is admitted; `fuel` bounds how many
+unfoldable pub markAlong : List ℕ → Visit → ℕ → ℕ → List ℕ → List ℕ
+markAlong records v zero n memo = memo
+markAlong records v (suc fuel) n memo = cond (admittedIn memo v n) memo (markAlong records v fuel (field (recordIn records n) 3) (markBit memo (v .base + n)))
+
+-- the same on a later visit of the block; on its first, the memo as before
+abbrev pub markChain : List ℕ → Visit → ℕ → List ℕ → List ℕ
+markChain records v n memo = cond (v .again) (markAlong records v (recordCount records) n memo) memo
 
 -- attribute k is on the chain from attribute n on
 pub data OnChain (records : List ℕ) (k : ℕ) : ℕ → Type 0 where
@@ -100,6 +114,29 @@ RowAdmits records pool s tape row n =
 -- an item admits a value by itself, or the item next to it is marked
 abbrev pub leadsIn : List ℕ → List ℕ → ℕ → Record → Bool → List ℕ → Bool
 leadsIn pool memo base r isString w = itemAdmits pool r isString w || (not (eqb (field r 4) 0) && marked memo (base + field r 4))
+
+-- the memo with item n marked, where it is an item of a list and those from it on are known to admit a value
+unfoldable pub markItem : List ℕ → List ℕ → ℕ → Bool → List ℕ → ℕ → List ℕ → List ℕ
+markItem records pool base isString w n memo =
+    let r = recordIn records n in
+    cond (among (r .kind) (4 ∷ 5 ∷ 7 ∷ []) && leadsIn pool memo base r isString w) (markBit memo (base + n)) memo
+
+-- the memo with items n to 1 marked so, the last first
+unfoldable pub markItems : List ℕ → List ℕ → ℕ → Bool → List ℕ → ℕ → List ℕ → List ℕ
+markItems records pool base isString w zero memo = memo
+markItems records pool base isString w (suc n) memo = markItems records pool base isString w n (markItem records pool base isString w (suc n) memo)
+
+-- the memo with the items of the string or word of a row marked, and the row's own bit, where it was not set before
+unfoldable pub enterLeaf : List ℕ → List ℕ → List ℕ → List ℕ → ℕ → List ℕ → List ℕ
+enterLeaf records pool s tape row memo =
+    let base = (row + 1) * recordCount records in
+    let r = rowAt tape row in
+    let all = markItems records pool base (eqb (number r 0) isString) (part s (number r 6) (number r 7)) (recordCount records - 1) (markBit memo base) in
+    cond (marked memo base) memo all
+
+-- whether the memo then knows that the items from n on admit it
+abbrev pub knownIn : List ℕ → List ℕ → List ℕ → List ℕ → ℕ → ℕ → List ℕ → Bool
+knownIn records pool s tape row n memo = marked (enterLeaf records pool s tape row memo) ((row + 1) * recordCount records + n)
 
 -- what marking the items of a row asks: the bits from `base` on tell the truth of its value
 pub record Listing (records pool memo : List ℕ) (base : ℕ) (isString : Bool) (w : List ℕ) : Type 0 where

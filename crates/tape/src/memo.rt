@@ -13,7 +13,7 @@ ghost use Rattle.lexis.specs.Bytes.{among};
 ghost use Rattle.table.specs.Answers.{recordOf};
 ghost use Rattle.admission.specs.Items.{Lies, Named};
 ghost use Rattle.tape.specs.Walking.{LeafRow, Walk};
-ghost use Rattle.tape.specs.Memo.{bitOf, withBit, marked, Marks, recordCount, baseOf, VisitOf, seenBefore, admittedIn, ChainGood, ChainMarked, mayVisit, leadsIn, Listing, ItemsMarked, MemoGood, KnownIs};
+ghost use Rattle.tape.specs.Memo.{bitOf, withBit, marked, markBit, Marks, recordCount, baseOf, VisitOf, seenBefore, admittedIn, markChain, ChainGood, ChainMarked, mayVisit, leadsIn, markItem, markItems, enterLeaf, knownIn, Listing, ItemsMarked, MemoGood, KnownIs};
 
 // The bytes of a record.
 const RECORD_SIZE: usize = 24;
@@ -60,6 +60,7 @@ fn is_marked(memo: &[u8], i: usize) -> bool
 
 // Sets the bit with a number, if it is not behind the memo's end.
 fn mark(memo: &mut [u8], i: usize)
+    ensures { λ _. ⌜ now (memo .exit) ≡ markBit (now (memo .entry)) i ⌝ }
     ensures { λ _. ⌜ Marks (now (memo .entry)) i (now (memo .exit)) ⌝ }
 {
     let at = i / 8;
@@ -89,6 +90,7 @@ pub fn enter(records: &[u8], memo: &mut [u8], block: Block) -> Visit
     requires { ⌜ baseOf (now records) block ≤ 8388608 ⌝ }
     ensures { λ r. ⌜ VisitOf (now (records .entry)) block r ⌝ }
     ensures { λ r. ⌜ r .again ≡ seenBefore (now (records .entry)) (now (memo .entry)) block ⌝ }
+    ensures { λ _. ⌜ now (memo .exit) ≡ markBit (now (memo .entry)) (baseOf (now (records .entry)) block) ⌝ }
     ensures { λ _. ⌜ Marks (now (memo .entry)) (baseOf (now (records .entry)) block) (now (memo .exit)) ⌝ }
 {
     let base = block.first * record_count(records);
@@ -121,6 +123,7 @@ pub fn is_admitted(memo: &[u8], visit: Visit, n: u32) -> bool
 pub fn mark_chain(records: &[u8], memo: &mut [u8], visit: Visit, first: u32)
     requires { ⌜ ChainGood (now records) first ⌝ }
     requires { ⌜ visit .base ≤ 8388608 ⌝ }
+    ensures { λ _. ⌜ now (memo .exit) ≡ markChain (now (records .entry)) visit first (now (memo .entry)) ⌝ }
     ensures { λ _. ⌜ ChainMarked (now (records .entry)) (now (memo .entry)) (visit .base) first (now (memo .exit)) ⌝ }
 {
     if !visit.again {
@@ -187,6 +190,7 @@ fn mark_item(
 )
     requires { ⌜ Listing (now records) (now pool) (now memo) base «is_string» (now value) ⌝ }
     requires { ⌜ (1 ≤ n .0) × (n .0 < recordCount (now records)) ⌝ }
+    ensures { λ _. ⌜ now (memo .exit) ≡ markItem (now (records .entry)) (now (pool .entry)) base «is_string» (now (value .entry)) (n .0) (now (memo .entry)) ⌝ }
     ensures { λ _. ⌜ ItemsMarked (now (records .entry)) (now (pool .entry)) (now (memo .entry)) base «is_string» (now (value .entry)) (now (memo .exit)) ⌝ }
 {
     let e = entry_at(records, n);
@@ -207,6 +211,7 @@ fn mark_items(
     is_string: bool,
 )
     requires { ⌜ Listing (now records) (now pool) (now memo) base «is_string» (now value) ⌝ }
+    ensures { λ _. ⌜ now (memo .exit) ≡ markItems (now (records .entry)) (now (pool .entry)) base «is_string» (now (value .entry)) (recordCount (now (records .entry)) - 1) (now (memo .entry)) ⌝ }
     ensures { λ _. ⌜ ItemsMarked (now (records .entry)) (now (pool .entry)) (now (memo .entry)) base «is_string» (now (value .entry)) (now (memo .exit)) ⌝ }
 {
     let mut n = record_count(records);
@@ -239,6 +244,7 @@ fn enter_leaf(
     requires { ⌜ LeafRow rows (now tape) row ⌝ }
     requires { ⌜ MemoGood (now records) (now pool) (now s) (now tape) rows (now memo) ⌝ }
     requires { ⌜ base ≡ (row + 1) * recordCount (now records) ⌝ }
+    ensures { λ _. ⌜ now (memo .exit) ≡ enterLeaf (now (records .entry)) (now (pool .entry)) (now (s .entry)) (now (tape .entry)) row (now (memo .entry)) ⌝ }
     ensures { λ _. ⌜ MemoGood (now (records .entry)) (now (pool .entry)) (now (s .entry)) (now (tape .entry)) rows (now (memo .exit)) ⌝ }
 {
     if is_marked(memo, base) {
@@ -266,6 +272,8 @@ pub fn is_known(
     requires { ⌜ LeafRow rows (now tape) row ⌝ }
     requires { ⌜ (1 ≤ first .0) × Lies (now records) (first .0) ⌝ }
     requires { ⌜ MemoGood (now records) (now pool) (now s) (now tape) rows (now memo) ⌝ }
+    ensures { λ r. ⌜ r ≡ knownIn (now (records .entry)) (now (pool .entry)) (now (s .entry)) (now (tape .entry)) row (first .0) (now (memo .entry)) ⌝ }
+    ensures { λ _. ⌜ now (memo .exit) ≡ enterLeaf (now (records .entry)) (now (pool .entry)) (now (s .entry)) (now (tape .entry)) row (now (memo .entry)) ⌝ }
     ensures { λ r. ⌜ KnownIs (now (records .entry)) (now (pool .entry)) (now (s .entry)) (now (tape .entry)) row (first .0) r ⌝ }
     ensures { λ _. ⌜ MemoGood (now (records .entry)) (now (pool .entry)) (now (s .entry)) (now (tape .entry)) rows (now (memo .exit)) ⌝ }
 {

@@ -212,7 +212,7 @@ judge-block-same-length-4 t c = search needs
 judge-block-returns-5 : (t : ℕ) → judge-block-lts.Need-returns-5 (judge-block-calls t) (judge-block-at t) judge-block.Post judge-block-Inv-loop judge-block-μ-loop
 judge-block-returns-5 t c =
     let l = c .before .before .before .before .before .before .before in
-    (attributes-end _ _ _ _ _ _ _ _ _ _ _ _ _ (l .loop .inv) _ (c .before .before .before .before .before .is-admitted .ensures) (c .before .before .before .before .if2 .left), attributes-known _ _ _ _ _ _ _ _ _ _ _ _ _ (l .loop .inv) _ (c .before .before .before .before .before .is-admitted .ensures) (c .before .before .before .before .if2 .left) _ (c .before .before .mark-chain .ensures))
+    (attributes-end _ _ _ _ _ _ _ _ _ _ _ _ _ (l .loop .inv) _ (c .before .before .before .before .before .is-admitted .ensures) (c .before .before .before .before .if2 .left), attributes-known _ _ _ _ _ _ _ _ _ _ _ _ _ (l .loop .inv) _ (c .before .before .before .before .before .is-admitted .ensures) (c .before .before .before .before .if2 .left) _ (c .before .before .mark-chain .ensures .1))
 
 judge-with-memo-slice-aggregate-judge-block :
     (t : ℕ) → judge-with-memo-lts.Need-slice-aggregate-judge-block (judge-block-below t, judge-block.Post) (judge-with-memo-at t) judge-with-memo.Post

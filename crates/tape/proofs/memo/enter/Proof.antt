@@ -1,6 +1,6 @@
 -- `tape::memo::enter` meets its contract. Assumes nothing.
 use borrow.Author.Needs.{needs}
-use Rattle.tape.proofs.MemoSteps.{base-fits, base-near, visit-outermost, visit-row, visit-marks, seen-outermost, seen-row}
+use Rattle.tape.proofs.MemoSteps.{base-fits, base-near, visit-outermost, visit-row, visit-bit, visit-marks, seen-outermost, seen-row}
 use Rattle.tape.proofs.memo.enter.Statement.{statement}
 use Rattle.tape.proofs.memo.enter.Tie as tie
 
@@ -14,6 +14,6 @@ enter-spec =
     (λ c κs. search needs)
     (λ c κs. search needs)
     (λ c. search needs)
-    (λ c. (search visit-outermost, (search seen-outermost, search visit-marks)))
+    (λ c. (search visit-outermost, (search seen-outermost, (search visit-bit, search visit-marks))))
     (λ c. search needs)
-    (λ c. (search visit-row, (search seen-row, search visit-marks))))
+    (λ c. (search visit-row, (search seen-row, (search visit-bit, search visit-marks)))))

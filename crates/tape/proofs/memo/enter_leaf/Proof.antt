@@ -1,7 +1,7 @@
 -- `tape::memo::enter_leaf` meets its contract. Assumes nothing.
 use borrow.Author.Needs.{needs}
 use Rattle.tape.proofs.MemberSteps.{value-order, value-ends}
-use Rattle.tape.proofs.ListSteps.{row-listing, row-marked}
+use Rattle.tape.proofs.ListSteps.{row-listing, row-marked, leaf-again, leaf-first}
 use Rattle.tape.proofs.memo.enter_leaf.Statement.{statement}
 use Rattle.tape.proofs.memo.enter_leaf.Tie as tie
 
@@ -11,7 +11,7 @@ enter-leaf-spec =
     (tie.spec
     (λ c κs. search needs)
     (λ c. search needs)
-    (λ c. search needs)
+    (λ c. (search leaf-again, search needs))
     (λ c κs. search needs)
     (λ c κs. search needs)
     (λ c κs. search needs)
@@ -21,4 +21,4 @@ enter-leaf-spec =
     (λ c. search value-ends)
     (λ c κs. search row-listing)
     (λ c. search needs)
-    (λ c. search row-marked))
+    (λ c. (search leaf-first, search row-marked)))

@@ -1,6 +1,6 @@
 -- `tape::memo::is_known` meets its contract. Assumes nothing.
 use borrow.Author.Needs.{needs}
-use Rattle.tape.proofs.ListSteps.{none-known, row-fits, row-base, row-sum, row-known}
+use Rattle.tape.proofs.ListSteps.{memo-none, memo-unknown, memo-told, none-known, row-fits, row-base, row-sum, row-known}
 use Rattle.tape.proofs.memo.is_known.Statement.{statement}
 use Rattle.tape.proofs.memo.is_known.Tie as tie
 
@@ -8,7 +8,7 @@ pub is-known-spec : {M : Type 1} → statement M
 is-known-spec =
     tie.close
     (tie.spec
-    (λ c. (search none-known, search needs))
+    (λ c. (search memo-unknown, (search memo-none, (search none-known, search needs))))
     (λ c. search needs)
     (λ c κs. search needs)
     (λ c. record { fits = search row-fits })
@@ -17,4 +17,4 @@ is-known-spec =
     (λ c. record { fits = search row-sum })
     (λ c κs. search needs)
     (λ c. search needs)
-    (λ c. (search row-known, search needs)))
+    (λ c. (search memo-told, (search needs, (search row-known, search needs)))))

@@ -1,12 +1,12 @@
 -- `tape::memo::mark_chain` meets its contract. Assumes nothing.
 use borrow.Author.Needs.{needs}
 use Rattle.admission.proofs.ItemSteps.{left}
-use Rattle.tape.proofs.MemoSteps.{InChain, chain-none, chain-start, chain-lies, chain-less, chain-next}
+use Rattle.tape.proofs.MemoSteps.{InChain, chain-none, chain-first, chain-start, chain-lies, chain-less, chain-next, chain-end}
 use Rattle.tape.proofs.memo.mark_chain.Statement.{statement}
 use Rattle.tape.proofs.memo.mark_chain.Tie as tie
 
 abbrev Inv-loop : tie.InvT-loop
-Inv-loop records memo₀ visit first n₀ memo n = InChain records memo₀ (visit .base) first memo n
+Inv-loop records memo₀ visit first n₀ memo n = InChain records memo₀ visit first memo n
 
 abbrev μ-loop : tie.MeasureT-loop
 μ-loop records memo₀ visit first n₀ memo n = left records n
@@ -17,7 +17,7 @@ mark-chain-spec =
     (tie.spec
     Inv-loop
     μ-loop
-    (λ c. search chain-none)
+    (λ c. (search chain-first, search chain-none))
     (λ c. search chain-start)
     (λ c κs. search needs)
     (λ c κs. search chain-lies)
@@ -26,4 +26,4 @@ mark-chain-spec =
     (λ c. search chain-less)
     (λ c. search chain-next)
     (λ c. search needs)
-    (λ c. search needs))
+    (λ c. (search chain-end, search needs)))

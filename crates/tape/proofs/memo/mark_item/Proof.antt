@@ -1,6 +1,6 @@
 -- `tape::memo::mark_item` meets its contract. Assumes nothing.
 use borrow.Author.Needs.{needs}
-use Rattle.tape.proofs.ListSteps.{item-named, item-marked, items-same}
+use Rattle.tape.proofs.ListSteps.{item-named, item-marked, items-same, item-unlisted, item-kept, item-set}
 use Rattle.tape.proofs.memo.mark_item.Statement.{statement}
 use Rattle.tape.proofs.memo.mark_item.Tie as tie
 
@@ -15,7 +15,7 @@ mark-item-spec =
     (λ c. search needs)
     (λ c κs. search needs)
     (λ c. search needs)
-    (λ c. search (item-marked, items-same))
+    (λ c. (search item-set, search item-marked))
     (λ c. search needs)
-    (λ c. search (item-marked, items-same))
-    (λ c. search (item-marked, items-same)))
+    (λ c. (search item-kept, search items-same))
+    (λ c. (search item-unlisted, search items-same)))

@@ -1,6 +1,6 @@
 -- `tape::memo::mark_items` meets its contract. Assumes nothing.
 use borrow.Author.Needs.{needs}
-use Rattle.tape.proofs.ListSteps.{InListing, listing-start, listing-few, listing-next}
+use Rattle.tape.proofs.ListSteps.{InListing, listing-start, listing-few, listing-next, listing-end}
 use Rattle.tape.proofs.memo.mark_items.Statement.{statement}
 use Rattle.tape.proofs.memo.mark_items.Tie as tie
 
@@ -24,4 +24,4 @@ mark-items-spec =
     (λ c. search needs)
     (λ c. search listing-next)
     (λ c. search needs)
-    (λ c. search needs))
+    (λ c. (search listing-end, search needs)))
