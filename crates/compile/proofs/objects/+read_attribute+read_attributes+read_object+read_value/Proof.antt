@@ -1,5 +1,5 @@
 -- `compile::objects::read_object`, `read_attributes`, `read_attribute` and `read_value`, which call each other, meet their contracts: the levels left fall. Assumes nothing.
-use Prim.Native.Nat.{ℕ, _+_, _*_, _-_}
+use Prim.Native.Nat.{ℕ, _+_, _*_, _-_, _<_}
 use native.Mathlib.Omega.{arith}
 use lib.ListN.{length}
 use borrow.Author.Needs.{needs}

@@ -1,5 +1,5 @@
 -- `data::blocks::read_block`, `read_members` and `read_member`, which call each other, meet their contracts: the levels left fall. Assumes nothing.
-use Prim.Native.Nat.{ℕ, _+_, _*_, _-_}
+use Prim.Native.Nat.{ℕ, _+_, _*_, _-_, _<_}
 use lib.ListN.{length}
 use borrow.Author.Needs.{needs}
 use Rattle.refusals.specs.Limits.{levelLimit}

@@ -7,7 +7,7 @@ use borrow.Author.Needs.{needs}
 use Rattle.judge.proofs.WalkSteps.{InAttributes, effort, effortOfMemo, memo-effort, object-lies, object-name, visit-small, type-differs, attributes-start, visit-near, attributes-end, attributes-chain, attributes-known, attribute-lies, attribute-at, attribute-less, told-valid, told-fails, levels-some, levels-fall, memo-fall, nested-under, nested-valid, nested-fails}
 use Rattle.tape.proofs.MemoLaws.{memo-zeros}
 use Rattle.admission.proofs.ItemSteps.{left}
-use Prim.Native.Nat.{ℕ}
+use Prim.Native.Nat.{ℕ, _<_}
 use borrow.Fn.Kinds.{In}
 use borrow.Fn.PlainCycle.{Measures, is, falls, and}
 use Rattle.judge.proofs.walk.judge_block.Reads as judge-block
