@@ -145,9 +145,6 @@ module _ (records pool : List ℕ) (t : TableGood records pool) (n : ℕ) (here 
   item-kind : (k : ℕ) → recordIn records n .kind ≡ k → kindAt (tableOf records pool) n ≡ k
   item-kind k q = kind-back records pool t n k here (record { lies = omega arith; is = q })
 
-  pub item-lies : Lies records n
-  item-lies = omega arith
-
   pub item-named : (e : Entry) → recordOf e ≡ recordIn records n → Named pool (recordOf e)
   item-named e q = record { inside = λ k. rw (← q) at (name-there records pool t n 5 (item-kind 5 (ap (λ r. r .kind) (sym q) ∙ k)) (omega arith) refl) }
 
