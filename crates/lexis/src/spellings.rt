@@ -1,4 +1,4 @@
-// The tokens that are spelled in one way: marks, the sign ∈, patterns, and words that are no names. Each function that takes the text is called in one place, so
+// The tokens that are spelled in one way: marks, the sign ∈, patterns, and words that are no names. But for `spelling`, each function that takes the text is called in one place, so
 // that the compiler makes one function of all of them.
 use crate::AT_LEAST;
 use crate::AT_MOST;
