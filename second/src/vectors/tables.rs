@@ -97,6 +97,8 @@ fn worked_checks(stream: &mut Stream) {
     for (title, each) in record_cases() {
         add_check(stream, &format!("check, {title}"), &each.bytes());
     }
+    // a title that fills the program's buffer for titles
+    add_check(stream, &format!("{:.<256}", "check, smallest, with a title of 256 bytes"), &whole);
 }
 
 /// An object, an attribute and the records behind it.
