@@ -7,7 +7,6 @@ use crate::STRING;
 use crate::TEXT_END;
 use crate::TYPE_NAME;
 use crate::Token;
-use crate::UNREADABLE;
 use crate::no_token;
 use crate::reader::Tokens;
 use crate::reader::token_from;
