@@ -12,7 +12,7 @@ pub struct Date {
 
 /// "leap years by 4, not 100, yet 400"
 pub fn is_leap(year: u32) -> bool {
-    (year % 4 == 0 && year % 100 != 0) || year % 400 == 0
+    (year.is_multiple_of(4) && !year.is_multiple_of(100)) || year.is_multiple_of(400)
 }
 
 /// Days of a month, 0 for a month that doesn't exist.

@@ -100,7 +100,8 @@ pub fn faults(text: &[u8]) -> Vec<Fault> {
 }
 
 fn read_all(text: &[u8]) -> Reader<'_> {
-    let mut reader = Reader { text, token: token_at(text, 0), faults: Faults::default(), records: 0, objects: Vec::new() };
+    let mut reader =
+        Reader { text, token: token_at(text, 0), faults: Faults::default(), records: 0, objects: Vec::new() };
     // A syntax fault has been collected with the others; there is nothing more to do for it.
     let _ = reader.text();
     reader

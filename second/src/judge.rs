@@ -25,11 +25,9 @@ pub fn judge(table: &[u8], root: u32, data: &[u8]) -> JudgeAnswer {
     let mut judge = Judge { seen: Seen::new(table.records.len(), data.data), table: &table, data: &data };
     match judge.block(root, &data.blocks[0]) {
         Ok(()) => JudgeAnswer::Valid,
-        Err(failure) => JudgeAnswer::Verdict {
-            reason: failure.reason,
-            record: failure.record.0,
-            place: failure.place as u64,
-        },
+        Err(failure) => {
+            JudgeAnswer::Verdict { reason: failure.reason, record: failure.record.0, place: failure.place as u64 }
+        }
     }
 }
 

@@ -70,18 +70,16 @@ impl Shifts {
             Record::Object { type_name, code, first } => {
                 Record::Object { type_name: self.part(type_name), code: self.part(code), first: self.link(first) }
             }
-            Record::Attribute { existence, name, value, next } => Record::Attribute {
-                existence,
-                name: self.part(name),
-                value: self.link(value),
-                next: self.link(next),
-            },
+            Record::Attribute { existence, name, value, next } => {
+                Record::Attribute { existence, name: self.part(name), value: self.link(value), next: self.link(next) }
+            }
             Record::Integer { low, high, next } => Record::Integer { low, high, next: self.link(next) },
             Record::Text { part, next } => Record::Text { part: self.part(part), next: self.link(next) },
             Record::DateInterval { low, high, next } => Record::DateInterval { low, high, next: self.link(next) },
-            Record::Header { .. } | Record::Boolean { .. } | Record::DatePattern { .. } | Record::TimePattern { .. } => {
-                record
-            }
+            Record::Header { .. }
+            | Record::Boolean { .. }
+            | Record::DatePattern { .. }
+            | Record::TimePattern { .. } => record,
         }
     }
 }

@@ -29,9 +29,7 @@ const TEXTS: [&str; 4] = [
 ];
 
 const DATA: [&str; 4] = [
-    "(A)<a = <8> b = <True>>",
-    "<a = (B)<c = <\"x\"> d = <>> f = <08:30Z>>",
-    "<a = <103> b = <2004-05> c = <-4>>",
+    "(A)<a = <8> b = <True>>", "<a = (B)<c = <\"x\"> d = <>> f = <08:30Z>>", "<a = <103> b = <2004-05> c = <-4>>",
     "<a = <a = (A)<z = <5>> b = <False>>>",
 ];
 
@@ -155,8 +153,12 @@ fn broken_tables() {
 /// The answer with its record moved.
 fn shifted(answer: JudgeAnswer, shift: u32) -> JudgeAnswer {
     match answer {
-        JudgeAnswer::Verdict { reason, record, place } => JudgeAnswer::Verdict { reason, record: record + shift, place },
-        JudgeAnswer::Refused { number: 14, place } => JudgeAnswer::Refused { number: 14, place: place + u64::from(shift) },
+        JudgeAnswer::Verdict { reason, record, place } => {
+            JudgeAnswer::Verdict { reason, record: record + shift, place }
+        }
+        JudgeAnswer::Refused { number: 14, place } => {
+            JudgeAnswer::Refused { number: 14, place: place + u64::from(shift) }
+        }
         other => other,
     }
 }

@@ -31,11 +31,7 @@ fn compiles_to(text: &str, lines: &[Line], pool: &str) {
 #[test]
 fn matches_sign_is_the_keyword() {
     compiles_to("A∈{*}", &[(1, 0, [0, 1, 0, 0, 0])], "A");
-    compiles_to(
-        "A ∈ {a existence ∈ {0} ∈ {*}}",
-        &[(1, 0, [0, 1, 0, 0, 2]), (2, 0, [1, 1, 0, 0, 0])],
-        "Aa",
-    );
+    compiles_to("A ∈ {a existence ∈ {0} ∈ {*}}", &[(1, 0, [0, 1, 0, 0, 2]), (2, 0, [1, 1, 0, 0, 0])], "Aa");
 }
 
 #[test]

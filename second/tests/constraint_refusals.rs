@@ -86,7 +86,8 @@ fn string_lengths() {
 
 #[test]
 fn integers_impossible() {
-    for literal in ["007", "00", "-0", "-00", "-01", "2147483648", "-2147483649", "99999999999999999999", "4294967296"] {
+    for literal in ["007", "00", "-0", "-00", "-01", "2147483648", "-2147483649", "99999999999999999999", "4294967296"]
+    {
         leaf_refused(5, &format!("^{literal}"));
         leaf_refused(5, &format!("|^{literal}|"));
         leaf_refused(5, &format!("|>^{literal}|"));
@@ -221,11 +222,7 @@ fn an_item_with_a_fault_of_its_own_overlaps_nothing() {
     // Nor does a later item overlap a faulty one; the earlier fault is the answer.
     assert_eq!(
         text_faults(b"A matches {a matches {|9..5|, 7, 07, 7}}"),
-        vec![
-            Fault { number: 6, place: 27 },
-            Fault { number: 5, place: 33 },
-            Fault { number: 9, place: 37 }
-        ]
+        vec![Fault { number: 6, place: 27 }, Fault { number: 5, place: 33 }, Fault { number: 9, place: 37 }]
     );
 }
 

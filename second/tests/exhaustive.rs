@@ -125,7 +125,15 @@ fn two_digit_fields() {
 #[test]
 fn every_day_of_some_years() {
     let plain = [31, 28, 31, 30, 31, 30, 31, 31, 30, 31, 30, 31];
-    for (year, leap) in [("0000", true), ("1900", false), ("2000", true), ("2003", false), ("2004", true), ("2100", false), ("9999", false)] {
+    for (year, leap) in [
+        ("0000", true),
+        ("1900", false),
+        ("2000", true),
+        ("2003", false),
+        ("2004", true),
+        ("2100", false),
+        ("9999", false),
+    ] {
         for month in 0..100usize {
             for day in 0..100 {
                 let last = match month {

@@ -304,10 +304,7 @@ fn order_of_refusals() {
     assert_eq!(judge(&good, 1, b"(B)<a = <6>> x"), JudgeAnswer::Refused { number: 2, place: 13 });
     assert_eq!(judge(&good, 1, b"(B)<a = <6>>"), JudgeAnswer::Verdict { reason: 21, record: 1, place: 3 });
     assert_eq!(meaning(b"A matches {", b"?"), MeaningAnswer::ConstraintRefused { number: 2, place: 11 });
-    assert_eq!(
-        meaning(b"A matches {*}", b"?"),
-        MeaningAnswer::Answer(JudgeAnswer::Refused { number: 2, place: 0 })
-    );
+    assert_eq!(meaning(b"A matches {*}", b"?"), MeaningAnswer::Answer(JudgeAnswer::Refused { number: 2, place: 0 }));
 }
 
 #[test]

@@ -99,7 +99,9 @@ fn every_kind_moves() {
     ];
     for little in [false, true] {
         let expected = made(little, 1, &moved, "aTTAat1axy");
-        for first_table in [made(false, 1, &first, "aTT"), made(true, 1, &first, "aTT"), made_mixed(true, 1, &first, "aTT")] {
+        for first_table in
+            [made(false, 1, &first, "aTT"), made(true, 1, &first, "aTT"), made_mixed(true, 1, &first, "aTT")]
+        {
             for second_table in [
                 made(false, 1, &second, "Aat1axy"),
                 made(true, 1, &second, "Aat1axy"),

@@ -113,12 +113,8 @@ fn hundred_megabytes_are_answered_at_once() {
     folder.run("judge a.table large.dadl").answers(1, &over("large.dadl"));
     let none = "large.table: refused 12: not a table: over 65,536 bytes\n";
     for command in [
-        "check large.table",
-        "show large.table",
-        "name large.table 1",
-        "judge large.table a.dadl",
-        "merge large.table a.table -o x",
-        "merge a.table large.table -o x",
+        "check large.table", "show large.table", "name large.table 1", "judge large.table a.dadl",
+        "merge large.table a.table -o x", "merge a.table large.table -o x",
     ] {
         folder.run(command).answers(1, none);
     }

@@ -66,14 +66,8 @@ fn files_that_cannot_be_read() {
     let folder = folder("unreadable");
     fs::create_dir(folder.path("folder")).unwrap();
     let commands = [
-        "compile FILE -o x",
-        "check FILE",
-        "merge FILE a.table -o x",
-        "merge a.table FILE -o x",
-        "judge FILE a.dadl",
-        "judge a.table FILE",
-        "name FILE 1",
-        "show FILE",
+        "compile FILE -o x", "check FILE", "merge FILE a.table -o x", "merge a.table FILE -o x", "judge FILE a.dadl",
+        "judge a.table FILE", "name FILE 1", "show FILE",
     ];
     for command in commands {
         let run = |file: &str| folder.run(&command.replace("FILE", file));

@@ -62,26 +62,13 @@ fn main() -> ExitCode {
 fn options(mut words: impl Iterator<Item = String>) -> Result<Options, String> {
     let job = words.next().unwrap_or_default();
     if !["law", "jobs", "shapes", "leaves", "make"].contains(&job.as_str()) {
-        return Err(String::from(
-            "say `law`, `jobs`, `shapes`, `leaves` or `make` first",
-        ));
+        return Err(String::from("say `law`, `jobs`, `shapes`, `leaves` or `make` first"));
     }
-    let mut options = Options {
-        job,
-        seed: 1,
-        cases: 1_000,
-        from: 0,
-        threads: 2,
-        least: 0,
-        kind: String::from("compile"),
-    };
+    let mut options =
+        Options { job, seed: 1, cases: 1_000, from: 0, threads: 2, least: 0, kind: String::from("compile") };
     while let Some(word) = words.next() {
         let value = words.next().ok_or(format!("{word} lacks its value"))?;
-        let number = || {
-            value
-                .parse::<u64>()
-                .map_err(|_| format!("{word} {value}: not a number"))
-        };
+        let number = || value.parse::<u64>().map_err(|_| format!("{word} {value}: not a number"));
         match word.as_str() {
             "--seed" => options.seed = number()?,
             "--cases" => options.cases = number()?,
@@ -120,10 +107,7 @@ fn run(options: &Options, run_one: RunOne, report: Report) -> ExitCode {
     let begun = Instant::now();
     // A panic in a job is reported as a failing case; its own message would only be in the way.
     std::panic::set_hook(Box::new(|_| {}));
-    let source = Source {
-        seed: options.seed,
-        maker: Maker::new(options.seed),
-    };
+    let source = Source { seed: options.seed, maker: Maker::new(options.seed) };
     let shared = Shared {
         next: AtomicU64::new(options.from),
         end: options.from.saturating_add(options.cases),
@@ -141,17 +125,9 @@ fn run(options: &Options, run_one: RunOne, report: Report) -> ExitCode {
         report(&source, &mut Bench::new(Jobs::library()), failed);
         return ExitCode::FAILURE;
     }
-    let counts = shared
-        .counts
-        .into_inner()
-        .unwrap_or_else(|poisoned| poisoned.into_inner());
+    let counts = shared.counts.into_inner().unwrap_or_else(|poisoned| poisoned.into_inner());
     print!("{counts}");
-    println!(
-        "{} cases of seed {} in {:.1} s",
-        options.cases,
-        options.seed,
-        begun.elapsed().as_secs_f64()
-    );
+    println!("{} cases of seed {} in {:.1} s", options.cases, options.seed, begun.elapsed().as_secs_f64());
     enough(&counts, options.least)
 }
 
@@ -221,9 +197,7 @@ fn run_single(source: &Source, bench: &mut Bench, number: u64) -> Outcome {
 fn report_single(source: &Source, bench: &mut Bench, number: u64) {
     let maker = &source.maker;
     let jobs = Jobs::library();
-    small_single(bench, &maker.compile(number), |case| {
-        lines::compile_line(case, &jobs)
-    });
+    small_single(bench, &maker.compile(number), |case| lines::compile_line(case, &jobs));
     small_single(bench, &maker.check(number), |case| lines::check_line(case, &jobs));
     small_single(bench, &maker.merge(number), |case| lines::merge_line(case, &jobs));
     small_single(bench, &maker.judge(number), |case| lines::judge_line(case, &jobs));
@@ -251,11 +225,7 @@ fn report_shape(source: &Source, bench: &mut Bench, number: u64) {
     let small: ShapeCase = shrink(&case, TRIALS, |candidate| candidate.guarded(bench).is_err());
     let (text, little, data) = small.parts();
     println!("made small: {}", what(small.guarded(bench)));
-    println!(
-        "text {}\nlittle {little}\ndata {}",
-        show::quoted(&text),
-        show::quoted(&data)
-    );
+    println!("text {}\nlittle {little}\ndata {}", show::quoted(&text), show::quoted(&data));
 }
 
 fn run_leaf(source: &Source, bench: &mut Bench, number: u64) -> Outcome {

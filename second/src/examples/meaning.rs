@@ -19,7 +19,8 @@ const TEXTS: [&[u8]; 6] = [
 
 /// Texts whose first attribute has each existence.
 const FLAGGED: [&[u8]; 3] = [
-    b"A matches {a existence matches {0} matches {*}}", b"A matches {a existence matches {0..1} matches {*}}",
+    b"A matches {a existence matches {0} matches {*}}",
+    b"A matches {a existence matches {0..1} matches {*}}",
     b"A matches {a matches {*}}",
 ];
 

@@ -36,11 +36,7 @@ fn other_length(random: &mut Random, mut bytes: Vec<u8>) -> Vec<u8> {
 fn random_bytes(random: &mut Random, mut bytes: Vec<u8>) -> Vec<u8> {
     for _ in 0..=random.below(3) {
         let at = random.below(bytes.len());
-        bytes[at] = if random.coin() {
-            random.byte()
-        } else {
-            bytes[at] ^ (1 << random.below(8))
-        };
+        bytes[at] = if random.coin() { random.byte() } else { bytes[at] ^ (1 << random.below(8)) };
     }
     bytes
 }
@@ -64,13 +60,8 @@ fn over_limit(random: &mut Random, mut table: Table) -> Vec<u8> {
 fn break_header(random: &mut Random, table: &mut Table) {
     let count = table.records.len() as u32;
     let pool = table.pool.len() as u32;
-    let not_object = (1..table.records.len())
-        .find(|&n| table.records[n].kind != 1)
-        .unwrap_or(0) as u32;
-    let object = (1..table.records.len())
-        .rev()
-        .find(|&n| table.records[n].kind == 1)
-        .unwrap_or(0) as u32;
+    let not_object = (1..table.records.len()).find(|&n| table.records[n].kind != 1).unwrap_or(0) as u32;
+    let object = (1..table.records.len()).rev().find(|&n| table.records[n].kind == 1).unwrap_or(0) as u32;
     let header = &mut table.records[0];
     match random.below(11) {
         0 => break_mark(random, header),

@@ -60,11 +60,7 @@ pub fn packed(day: i64) -> u32 {
 
 /// The day number of a table's number, when it is a real date.
 pub fn unpacked(number: u32) -> Option<i64> {
-    let (year, month, day) = (
-        i64::from(number / 10_000),
-        i64::from(number / 100 % 100),
-        i64::from(number % 100),
-    );
+    let (year, month, day) = (i64::from(number / 10_000), i64::from(number / 100 % 100), i64::from(number % 100));
     let real = year <= 9999 && (1..=12).contains(&month) && day >= 1 && day <= month_days(year, month);
     real.then(|| day_of(year, month, day))
 }

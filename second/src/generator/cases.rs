@@ -114,9 +114,7 @@ pub struct MadeText {
 
 /// What an output buffer holds before a job: byte `i` is (fill + 151 × i) mod 256.
 pub fn filling(fill: u8, room: usize) -> Vec<u8> {
-    (0..room)
-        .map(|i| fill.wrapping_add((i as u8).wrapping_mul(151)))
-        .collect()
+    (0..room).map(|i| fill.wrapping_add((i as u8).wrapping_mul(151))).collect()
 }
 
 /// Makes cases of a seed. Case `number` depends on the seed, the kind and the number alone.
@@ -137,9 +135,7 @@ const LARGE: u64 = 8;
 
 impl Maker {
     pub fn new(seed: u64) -> Maker {
-        let large = (0..24)
-            .map(|number| large_table(&mut Random::new(seed, LARGE, number)).bytes())
-            .collect();
+        let large = (0..24).map(|number| large_table(&mut Random::new(seed, LARGE, number)).bytes()).collect();
         Maker { seed, large }
     }
 
@@ -151,54 +147,29 @@ impl Maker {
     pub fn compile(&self, number: u64) -> CompileCase {
         let random = &mut Random::new(self.seed, COMPILE, number);
         let made = made_text(random);
-        let needed = if made.clean {
-            table_length(&made.shape)
-        } else {
-            LONGEST_TABLE
-        };
+        let needed = if made.clean { table_length(&made.shape) } else { LONGEST_TABLE };
         let room = if made.clean { any_room(random) } else { Room::Exact };
-        CompileCase {
-            text: made.text,
-            little: random.coin(),
-            room: room.bytes(needed),
-            fill: random.byte(),
-        }
+        CompileCase { text: made.text, little: random.coin(), room: room.bytes(needed), fill: random.byte() }
     }
 
     pub fn check(&self, number: u64) -> CheckCase {
         let random = &mut Random::new(self.seed, CHECK, number);
         let made = made_text(random);
-        CheckCase {
-            table: self.any_table(random, &made.shape),
-        }
+        CheckCase { table: self.any_table(random, &made.shape) }
     }
 
     pub fn merge(&self, number: u64) -> MergeCase {
         let random = &mut Random::new(self.seed, MERGE, number);
         let shape = clean_shape(random);
         let mut first = self.any_table(random, &shape);
-        let mut second = if random.one_in(12) {
-            first.clone()
-        } else {
-            self.any_table(random, &shape)
-        };
+        let mut second = if random.one_in(12) { first.clone() } else { self.any_table(random, &shape) };
         if random.coin() {
             std::mem::swap(&mut first, &mut second);
         }
         let fair = first.len() >= RECORD && second.len() >= RECORD;
-        let needed = if fair {
-            merged_length(&first, &second)
-        } else {
-            first.len() + second.len()
-        };
+        let needed = if fair { merged_length(&first, &second) } else { first.len() + second.len() };
         let room = any_room(random).bytes(needed.min(2 * LONGEST_TABLE));
-        MergeCase {
-            first,
-            second,
-            little: random.coin(),
-            room,
-            fill: random.byte(),
-        }
+        MergeCase { first, second, little: random.coin(), room, fill: random.byte() }
     }
 
     pub fn judge(&self, number: u64) -> JudgeCase {
@@ -209,20 +180,14 @@ impl Maker {
         let shape = clean_shape(random);
         let bytes = self.any_table(random, &shape);
         let table = Table::read(&bytes);
-        let objects: Vec<usize> = (0..table.records.len())
-            .filter(|&n| table.records[n].kind == 1)
-            .collect();
+        let objects: Vec<usize> = (0..table.records.len()).filter(|&n| table.records[n].kind == 1).collect();
         let root = if objects.is_empty() || random.one_in(8) {
             any_number(random, table.records.len())
         } else {
             random.one_of(&objects) as u32
         };
         let data = data_text(random, &shape_of(&table, root as usize));
-        JudgeCase {
-            table: bytes,
-            root,
-            data,
-        }
+        JudgeCase { table: bytes, root, data }
     }
 
     pub fn name(&self, number: u64) -> NameCase {
@@ -230,11 +195,7 @@ impl Maker {
         let shape = clean_shape(random);
         let table = self.any_table(random, &shape);
         let count = Table::read(&table).records.len();
-        let record = if random.percent(70) {
-            random.below(count.max(1)) as u32
-        } else {
-            any_number(random, count)
-        };
+        let record = if random.percent(70) { random.below(count.max(1)) as u32 } else { any_number(random, count) };
         NameCase { table, record }
     }
 
@@ -263,18 +224,8 @@ impl Maker {
             25 if index == 0 => Other::Bytes(fitting_table(random, shape)),
             _ => Other::Bytes(self.any_table(random, shape)),
         };
-        let room = if random.percent(70) {
-            Room::Exact
-        } else {
-            any_room(random)
-        };
-        Step {
-            other,
-            carried_first: random.coin(),
-            little: random.coin(),
-            room,
-            fill: random.byte(),
-        }
+        let room = if random.percent(70) { Room::Exact } else { any_room(random) };
+        Step { other, carried_first: random.coin(), little: random.coin(), room, fill: random.byte() }
     }
 
     /// Any bytes for a table: compiled, hand-made, large, in mixed order, broken, or no table at all.
@@ -388,35 +339,17 @@ fn made_text(random: &mut Random) -> MadeText {
 
 fn clean_text(random: &mut Random) -> MadeText {
     let shape = clean_shape(random);
-    let tokens = spell(
-        random,
-        &shape,
-        Spelling {
-            faults: 0,
-            plain: false,
-        },
-    );
+    let tokens = spell(random, &shape, Spelling { faults: 0, plain: false });
     let style = any_style(random);
     let text = tokens.text(random, style, false);
-    MadeText {
-        text,
-        shape,
-        clean: true,
-    }
+    MadeText { text, shape, clean: true }
 }
 
 /// A text of about as many records as a table holds.
 fn wide_text(random: &mut Random) -> MadeText {
     let records = MOST_RECORDS - 2 + random.below(4);
     let shape = wide_object(random, records);
-    let tokens = spell(
-        random,
-        &shape,
-        Spelling {
-            faults: 0,
-            plain: true,
-        },
-    );
+    let tokens = spell(random, &shape, Spelling { faults: 0, plain: true });
     let text = tokens.text(random, Style::Tight, false);
     let clean = records_of(&shape) < MOST_RECORDS;
     MadeText { text, shape, clean }
@@ -429,11 +362,7 @@ fn faulty_text(random: &mut Random) -> MadeText {
     let tokens = spell(random, &shape, Spelling { faults, plain: false });
     let style = any_style(random);
     let text = tokens.text(random, style, false);
-    MadeText {
-        text,
-        shape,
-        clean: false,
-    }
+    MadeText { text, shape, clean: false }
 }
 
 /// A text with one list of items that overlap or have faults of their own.
@@ -446,47 +375,24 @@ fn crowded_text(random: &mut Random) -> MadeText {
     }
     let style = any_style(random);
     let text = tokens.text(random, style, false);
-    MadeText {
-        text,
-        shape,
-        clean: false,
-    }
+    MadeText { text, shape, clean: false }
 }
 
 /// A text with one or two tokens moved, lost, doubled or put in.
 fn edited_text(random: &mut Random) -> MadeText {
-    let mut plan = if random.coin() {
-        Plan::clean(random)
-    } else {
-        Plan::faulty(random)
-    };
+    let mut plan = if random.coin() { Plan::clean(random) } else { Plan::faulty(random) };
     let shape = object(random, &mut plan, 1);
-    let mut tokens = spell(
-        random,
-        &shape,
-        Spelling {
-            faults: 0,
-            plain: false,
-        },
-    );
+    let mut tokens = spell(random, &shape, Spelling { faults: 0, plain: false });
     for _ in 0..=random.below(2) {
         tokens.edit(random, &TEXT_STRANGERS);
     }
     let style = any_style(random);
     let text = tokens.text(random, style, false);
-    MadeText {
-        text,
-        shape,
-        clean: false,
-    }
+    MadeText { text, shape, clean: false }
 }
 
 fn damaged_text(random: &mut Random) -> MadeText {
-    let mut made = if random.coin() {
-        clean_text(random)
-    } else {
-        faulty_text(random)
-    };
+    let mut made = if random.coin() { clean_text(random) } else { faulty_text(random) };
     match random.below(8) {
         0..=3 => edit_bytes(random, &mut made.text),
         4 | 5 => cut(random, &mut made.text),
@@ -502,12 +408,7 @@ fn damaged_text(random: &mut Random) -> MadeText {
 
 /// A data text that fits a constraint.
 pub fn clean_data(random: &mut Random, shape: &Object) -> Vec<u8> {
-    let mut plan = DataPlan {
-        wrong: 0,
-        left: 0,
-        faults: 0,
-        deep: 0,
-    };
+    let mut plan = DataPlan { wrong: 0, left: 0, faults: 0, deep: 0 };
     let tokens = data(random, shape, &mut plan);
     let style = any_style(random);
     tokens.text(random, style, true)
@@ -543,10 +444,6 @@ fn judge_shape(random: &mut Random) -> JudgeCase {
     let table = compiled_table(random, &shape);
     let data = data_text(random, &shape);
     let count = records_of(&shape) + 1;
-    let root = if random.one_in(12) {
-        any_number(random, count)
-    } else {
-        1
-    };
+    let root = if random.one_in(12) { any_number(random, count) } else { 1 };
     JudgeCase { table, root, data }
 }

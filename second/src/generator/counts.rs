@@ -23,9 +23,7 @@ const JOBS: [(&str, &[usize]); 6] = [
     ("meaning", &[1, 2, 3, 4, 5, 6, 7, 8, 9, 20, 21, 22, 23, 24]),
 ];
 
-const NUMBERS: [usize; 20] = [
-    0, 1, 2, 3, 4, 5, 6, 7, 8, 9, 10, 11, 12, 13, 14, 20, 21, 22, 23, 24,
-];
+const NUMBERS: [usize; 20] = [0, 1, 2, 3, 4, 5, 6, 7, 8, 9, 10, 11, 12, 13, 14, 20, 21, 22, 23, 24];
 
 /// Counts by job and number; number 0 stands for an answer without refusal or reason.
 #[derive(Clone, Debug, Default)]
@@ -78,11 +76,7 @@ impl fmt::Display for Counts {
             write!(out, "{job:>12}")?;
         }
         for number in NUMBERS {
-            let label = if number == 0 {
-                String::from("none")
-            } else {
-                number.to_string()
-            };
+            let label = if number == 0 { String::from("none") } else { number.to_string() };
             write!(out, "\n{label:>8}")?;
             for (row, (_, numbers)) in self.met.iter().zip(JOBS) {
                 if row[number] == 0 && number != 0 && !numbers.contains(&number) {

@@ -11,11 +11,7 @@ pub const LONGEST_TEXT: usize = 16_384;
 /// One to three bytes changed, put in or taken out.
 pub fn edit_bytes(random: &mut Random, text: &mut Vec<u8>) {
     for _ in 0..=random.below(3) {
-        let byte = if random.one_in(4) {
-            random.byte()
-        } else {
-            random.one_of(TELLING)
-        };
+        let byte = if random.one_in(4) { random.byte() } else { random.one_of(TELLING) };
         let at = random.below(text.len() + 1);
         match random.below(4) {
             0 => text.insert(at, byte),
@@ -47,15 +43,7 @@ pub fn splice(random: &mut Random, text: &mut Vec<u8>, other: &[u8]) {
 pub fn any_bytes(random: &mut Random, most: usize) -> Vec<u8> {
     let telling = random.coin();
     let length = random.below(most + 1);
-    (0..length)
-        .map(|_| {
-            if telling {
-                random.one_of(TELLING)
-            } else {
-                random.byte()
-            }
-        })
-        .collect()
+    (0..length).map(|_| if telling { random.one_of(TELLING) } else { random.byte() }).collect()
 }
 
 /// Lengthens a text with blanks or a comment to just at or just above the longest length.

@@ -7,141 +7,26 @@ use super::tokens::Tokens;
 
 /// Tokens that may turn up at any place when a data text is damaged.
 pub const STRANGERS: [&[u8]; 40] = [
-    b"<",
-    b">",
-    b"=",
-    b"(",
-    b")",
-    b"<>",
-    b"(A)",
-    b"a",
-    b"A",
-    b"\"a\"",
-    b"\"\"",
-    b"True",
-    b"5",
-    b"-5",
-    b"2004",
-    b"08:30",
-    b"a-b",
-    b"a.b",
-    b"matches",
-    b"existence",
-    b"\"",
-    b"\"\\\"",
-    b"--x\n",
-    b"--",
-    b"{",
-    b"|",
-    b",",
-    b"*",
-    b"+5",
-    b".",
-    b"_",
-    b"\x80",
-    b"\x00",
-    b"/",
-    b"5--3",
-    b"T08:30",
-    b"[at1]",
-    b"(True)",
-    b"(a)",
-    b"\"\t\"",
+    b"<", b">", b"=", b"(", b")", b"<>", b"(A)", b"a", b"A", b"\"a\"", b"\"\"", b"True", b"5", b"-5", b"2004",
+    b"08:30", b"a-b", b"a.b", b"matches", b"existence", b"\"", b"\"\\\"", b"--x\n", b"--", b"{", b"|", b",", b"*",
+    b"+5", b".", b"_", b"\x80", b"\x00", b"/", b"5--3", b"T08:30", b"[at1]", b"(True)", b"(a)", b"\"\t\"",
 ];
 
 /// Words of every form, good ones first.
 const GOOD_WORDS: [&[u8]; 44] = [
-    b"True",
-    b"False",
-    b"0",
-    b"-1",
-    b"2147483647",
-    b"-2147483648",
-    b"2004",
-    b"0000",
-    b"9999",
-    b"2004-05",
-    b"2004-02-29",
-    b"2000-02-29",
-    b"0000-01-01",
-    b"9999-12-31",
-    b"00",
-    b"08",
-    b"23",
-    b"24",
-    b"23:59",
-    b"23:59:59",
-    b"00:00:00Z",
-    b"08Z",
-    b"08+01",
-    b"08-01",
-    b"08:30+13:59",
-    b"08:30-12:59",
-    b"08:30:15-00:30",
-    b"08+00",
-    b"08+00:00",
-    b"08-05",
-    b"08:30+13",
-    b"08:30-12",
-    b"08:30:15+00:30",
-    b"1",
-    b"10",
-    b"-10",
-    b"2004-12-31",
-    b"1900-02-28",
-    b"08:30:15Z",
-    b"0000-12",
-    b"2004-01",
-    b"20",
-    b"19",
-    b"12:00:00+05:30",
+    b"True", b"False", b"0", b"-1", b"2147483647", b"-2147483648", b"2004", b"0000", b"9999", b"2004-05",
+    b"2004-02-29", b"2000-02-29", b"0000-01-01", b"9999-12-31", b"00", b"08", b"23", b"24", b"23:59", b"23:59:59",
+    b"00:00:00Z", b"08Z", b"08+01", b"08-01", b"08:30+13:59", b"08:30-12:59", b"08:30:15-00:30", b"08+00", b"08+00:00",
+    b"08-05", b"08:30+13", b"08:30-12", b"08:30:15+00:30", b"1", b"10", b"-10", b"2004-12-31", b"1900-02-28",
+    b"08:30:15Z", b"0000-12", b"2004-01", b"20", b"19", b"12:00:00+05:30",
 ];
 
 const BAD_WORDS: [&[u8]; 44] = [
-    b"24:00:00",
-    b"24:00",
-    b"08:60",
-    b"08:30:60",
-    b"08:30:15:00",
-    b"8:30",
-    b"08:3",
-    b"08:30:",
-    b"08:30+14",
-    b"08:30+14:00",
-    b"08:30-13",
-    b"08:30-00",
-    b"08-00:00",
-    b"08:30-00:00",
-    b"08:30z",
-    b"08:30+1",
-    b"08:30+01:60",
-    b"08:30+0130",
-    b"2004-13",
-    b"2004-00",
-    b"2004-02-30",
-    b"1900-02-29",
-    b"2004-5",
-    b"20040506",
-    b"2004-05-",
-    b"99999999999",
-    b"2147483648",
-    b"-2147483649",
-    b"-0",
-    b"00012",
-    b"-01",
-    b"+5",
-    b"TRUE",
-    b"Tru",
-    b"Truee",
-    b"T08:30",
-    b".",
-    b":",
-    b"1.5",
-    b"1_000",
-    b"_",
-    b"5--3",
-    b"-",
-    b"08:30+01:00Z",
+    b"24:00:00", b"24:00", b"08:60", b"08:30:60", b"08:30:15:00", b"8:30", b"08:3", b"08:30:", b"08:30+14",
+    b"08:30+14:00", b"08:30-13", b"08:30-00", b"08-00:00", b"08:30-00:00", b"08:30z", b"08:30+1", b"08:30+01:60",
+    b"08:30+0130", b"2004-13", b"2004-00", b"2004-02-30", b"1900-02-29", b"2004-5", b"20040506", b"2004-05-",
+    b"99999999999", b"2147483648", b"-2147483649", b"-0", b"00012", b"-01", b"+5", b"TRUE", b"Tru", b"Truee",
+    b"T08:30", b".", b":", b"1.5", b"1_000", b"_", b"5--3", b"-", b"08:30+01:00Z",
 ];
 
 const STRINGS: [&[u8]; 8] = [b"", b"a", b"ab", b"A", b" ", b"--", b"<>", b"b"];
@@ -168,17 +53,8 @@ impl DataPlan {
             5 | 6 => (100, 4, 0),
             _ => (60, 2, 60),
         };
-        let deep = if random.one_in(40) {
-            15 + random.below(4)
-        } else {
-            0
-        };
-        DataPlan {
-            wrong,
-            left,
-            faults,
-            deep,
-        }
+        let deep = if random.one_in(40) { 15 + random.below(4) } else { 0 };
+        DataPlan { wrong, left, faults, deep }
     }
 
     fn wrong(&mut self, random: &mut Random) -> bool {
@@ -248,17 +124,7 @@ fn write_type(random: &mut Random, plan: &DataPlan, name: &[u8], out: &mut Token
     out.push(b"(");
     if plan.fault(random) {
         let long = vec![b'T'; 63 + random.below(3)];
-        let others = [
-            &long[..],
-            b"True",
-            b"False",
-            b"a",
-            b"A-b",
-            b"A.b",
-            b"5",
-            b"",
-            b"\"A\"",
-        ];
+        let others = [&long[..], b"True", b"False", b"a", b"A-b", b"A.b", b"5", b"", b"\"A\""];
         out.push(random.one_of(&others));
     } else {
         out.push(name);
@@ -354,11 +220,7 @@ fn any_leaf(random: &mut Random, plan: &DataPlan, out: &mut Tokens) {
 
 fn word_leaf(random: &mut Random, plan: &DataPlan, word: &[u8], out: &mut Tokens) {
     out.push(b"<");
-    out.push(if plan.fault(random) {
-        random.one_of(&BAD_WORDS)
-    } else {
-        word
-    });
+    out.push(if plan.fault(random) { random.one_of(&BAD_WORDS) } else { word });
     out.push(b">");
 }
 
@@ -493,8 +355,6 @@ fn time_word(random: &mut Random, parts: usize) -> String {
     let minute = random.one_of(&[0, 30, 59]);
     let second = random.one_of(&[0, 15, 59]);
     let full = format!("{hour:02}:{minute:02}:{second:02}");
-    let zones = [
-        "", "", "Z", "+01", "-01", "+13:59", "-12:59", "+00", "+00:00", "-00:30", "+05:30", "-12", "+13",
-    ];
+    let zones = ["", "", "Z", "+01", "-01", "+13:59", "-12:59", "+00", "+00:00", "-00:30", "+05:30", "-12", "+13"];
     format!("{}{}", &full[..[2, 5, 8][parts - 1]], random.pick(&zones))
 }

@@ -15,19 +15,11 @@ pub fn table(random: &mut Random, count: usize, pool: usize) -> Table {
     let mut records = vec![Record::new(0, 0, [0; 5]); count];
     for number in (1..count).rev() {
         let last_chance = number == 1 && made[1].is_empty();
-        let kind = if last_chance {
-            1
-        } else {
-            random.one_of(&[1, 1, 1, 2, 2, 2, 2, 2, 3, 4, 4, 5, 5, 6, 7, 7, 8])
-        };
+        let kind = if last_chance { 1 } else { random.one_of(&[1, 1, 1, 2, 2, 2, 2, 2, 3, 4, 4, 5, 5, 6, 7, 7, 8]) };
         records[number] = record(random, kind, &pool, &made);
         made[usize::from(kind)].push(number as u32);
     }
-    let root = if random.one_in(4) {
-        random.one_of(&made[1])
-    } else {
-        made[1][made[1].len() - 1]
-    };
+    let root = if random.one_in(4) { random.one_of(&made[1]) } else { made[1][made[1].len() - 1] };
     let mut table = Table { records, pool };
     table.set_header(root);
     let order = any_order(random);
@@ -45,20 +37,8 @@ pub fn small_table(random: &mut Random) -> Table {
 
 /// A sound table close to one of the limits.
 pub fn large_table(random: &mut Random) -> Table {
-    let counts = [
-        MOST_RECORDS,
-        MOST_RECORDS - 1,
-        MOST_RECORDS - 4,
-        MOST_RECORDS / 2 + 1,
-        MOST_RECORDS / 2,
-    ];
-    let pools = [
-        MOST_POOL,
-        MOST_POOL - 1,
-        MOST_POOL - 6,
-        MOST_POOL / 2 + 1,
-        MOST_POOL / 2,
-    ];
+    let counts = [MOST_RECORDS, MOST_RECORDS - 1, MOST_RECORDS - 4, MOST_RECORDS / 2 + 1, MOST_RECORDS / 2];
+    let pools = [MOST_POOL, MOST_POOL - 1, MOST_POOL - 6, MOST_POOL / 2 + 1, MOST_POOL / 2];
     let count = random.one_of(&counts);
     let pool = random.one_of(&pools);
     match random.below(5) {
@@ -77,15 +57,7 @@ pub fn large_table(random: &mut Random) -> Table {
 /// Letters in most cases, so that data can name them; any bytes at times.
 fn pool_bytes(random: &mut Random, length: usize) -> Vec<u8> {
     let any = random.one_in(10);
-    (0..length)
-        .map(|_| {
-            if any {
-                random.byte()
-            } else {
-                random.one_of(b"aabcABC1_")
-            }
-        })
-        .collect()
+    (0..length).map(|_| if any { random.byte() } else { random.one_of(b"aabcABC1_") }).collect()
 }
 
 fn record(random: &mut Random, kind: u8, pool: &[u8], made: &Made) -> Record {
@@ -93,11 +65,7 @@ fn record(random: &mut Random, kind: u8, pool: &[u8], made: &Made) -> Record {
     match kind {
         1 => {
             let (a, b) = pair(random, pool, 1, 63, u8::is_ascii_uppercase);
-            let (c, d) = if random.coin() {
-                (0, 0)
-            } else {
-                pair(random, pool, 0, 31, |_| true)
-            };
+            let (c, d) = if random.coin() { (0, 0) } else { pair(random, pool, 0, 31, |_| true) };
             Record::new(1, 0, [a, b, c, d, link(random, &made[2])])
         }
         2 => {
@@ -105,11 +73,7 @@ fn record(random: &mut Random, kind: u8, pool: &[u8], made: &Made) -> Record {
             let kinds = [1, 1, 1, 3, 4, 5, 6, 7, 8];
             let below = random.one_of(&kinds);
             let below = link(random, &made[below]);
-            Record::new(
-                2,
-                random.one_of(&[0, 1, 1, 2, 2]),
-                [a, b, below, link(random, same), 0],
-            )
+            Record::new(2, random.one_of(&[0, 1, 1, 2, 2]), [a, b, below, link(random, same), 0])
         }
         3 => Record::new(3, 1 + random.below(3) as u8, [0; 5]),
         4 => {
@@ -163,11 +127,7 @@ fn pair(random: &mut Random, pool: &[u8], least: usize, most: usize, begins: fn(
 
 fn numbers(random: &mut Random) -> (u32, u32) {
     let lows = [i32::MIN, -1, 0, 1, 5, i32::MAX];
-    let low = if random.coin() {
-        random.one_of(&lows)
-    } else {
-        random.bits() as i32
-    };
+    let low = if random.coin() { random.one_of(&lows) } else { random.bits() as i32 };
     let high = low.saturating_add(random.one_of(&[0, 0, 1, 9, i32::MAX]));
     (low as u32, high as u32)
 }

@@ -51,20 +51,14 @@ pub type Outcome = Result<(), String>;
 impl Bench {
     pub fn new(jobs: Jobs) -> Bench {
         let before = super::cases::filling(0, MOST_ROOM + 256);
-        Bench {
-            jobs,
-            counts: Counts::default(),
-            before,
-            out: Vec::new(),
-        }
+        Bench { jobs, counts: Counts::default(), before, out: Vec::new() }
     }
 
     /// Fills the output buffer as the case says, `room` bytes long.
     fn fill(&mut self, fill: u8, room: usize) {
         let start = start_of(fill);
         self.out.clear();
-        self.out
-            .extend_from_slice(&self.before[start..start + room.min(MOST_ROOM)]);
+        self.out.extend_from_slice(&self.before[start..start + room.min(MOST_ROOM)]);
     }
 
     /// Whether the output buffer still holds from `from` on what it held before.
@@ -75,8 +69,7 @@ impl Bench {
 
     /// Runs a case; a panic is a failure too.
     pub fn run(&mut self, case: &ListCase) -> Outcome {
-        catch_unwind(AssertUnwindSafe(|| run(case, self)))
-            .unwrap_or_else(|_| Err(String::from("a job panicked")))
+        catch_unwind(AssertUnwindSafe(|| run(case, self))).unwrap_or_else(|_| Err(String::from("a job panicked")))
     }
 }
 
@@ -110,8 +103,7 @@ fn run(case: &ListCase, bench: &mut Bench) -> Outcome {
     };
     let mut sum = 0;
     for (index, step) in case.steps.iter().enumerate() {
-        merge_step(case, step, bench, &mut carried, &mut sum)
-            .map_err(|what| format!("step {}: {what}", index + 1))?;
+        merge_step(case, step, bench, &mut carried, &mut sum).map_err(|what| format!("step {}: {what}", index + 1))?;
     }
     judged(case, bench, &carried, sum)?;
     named(bench, &carried)?;
@@ -131,9 +123,7 @@ fn compiled(case: &ListCase, bench: &mut Bench) -> Result<Option<Vec<u8>>, Strin
         CompileAnswer::Done { length } => {
             bench.counts.add(Job::Compile, 0);
             let length = length as usize;
-            ensure(bench.kept(case.fill, length), || {
-                format!("compile: {length} bytes done, bytes past them changed")
-            })?;
+            ensure(bench.kept(case.fill, length), || format!("compile: {length} bytes done, bytes past them changed"))?;
             let table = bench.out[..length].to_vec();
             sound_start(case, bench, &table)?;
             other_room(case, bench, &table)?;
@@ -144,9 +134,7 @@ fn compiled(case: &ListCase, bench: &mut Bench) -> Result<Option<Vec<u8>>, Strin
 
 /// A refused text: nothing written, no 10 or 11, the place in the text, and the meaning refuses it alike.
 fn refused_text(case: &ListCase, bench: &mut Bench, number: u32, place: u64) -> Outcome {
-    ensure(bench.kept(case.fill, 0), || {
-        format!("compile refused with {number} and changed the output")
-    })?;
+    ensure(bench.kept(case.fill, 0), || format!("compile refused with {number} and changed the output"))?;
     let length = case.text.len() as u64;
     let sensible = match number {
         1 => length > 16_384 && place == 16_384,
@@ -156,16 +144,13 @@ fn refused_text(case: &ListCase, bench: &mut Bench, number: u32, place: u64) -> 
     ensure(sensible, || format!("compile refused with {number} at {place}"))?;
     bench.fill(case.fill, 0);
     let empty = (bench.jobs.compile)(&case.text, case.little, &mut bench.out);
-    ensure(empty == CompileAnswer::Refused { number, place }, || {
-        format!("compile without room: {empty:?}")
-    })?;
+    ensure(empty == CompileAnswer::Refused { number, place }, || format!("compile without room: {empty:?}"))?;
     for data in case.data.iter().take(1) {
         let answer = (bench.jobs.meaning)(&case.text, data);
         count_meaning(bench, answer);
-        ensure(
-            answer == MeaningAnswer::ConstraintRefused { number, place },
-            || format!("compile refused with {number} at {place}, the meaning says {answer:?}"),
-        )?;
+        ensure(answer == MeaningAnswer::ConstraintRefused { number, place }, || {
+            format!("compile refused with {number} at {place}, the meaning says {answer:?}")
+        })?;
     }
     Ok(())
 }
@@ -174,9 +159,7 @@ fn refused_text(case: &ListCase, bench: &mut Bench, number: u32, place: u64) -> 
 fn sound_start(case: &ListCase, bench: &mut Bench, table: &[u8]) -> Outcome {
     checked(bench, table, CheckAnswer::Passed)?;
     let mut parts = Table::read(table);
-    ensure(parts.records[0].numbers[2] == 1, || {
-        String::from("compile: the root is not 1")
-    })?;
+    ensure(parts.records[0].numbers[2] == 1, || String::from("compile: the root is not 1"))?;
     ensure(parts.records.iter().all(|r| r.is_little() == case.little), || {
         String::from("compile: a record in the other byte order")
     })?;
@@ -185,14 +168,9 @@ fn sound_start(case: &ListCase, bench: &mut Bench, table: &[u8]) -> Outcome {
     }
     bench.fill(case.fill, table.len());
     let answer = (bench.jobs.compile)(&case.text, !case.little, &mut bench.out);
-    ensure(
-        answer
-            == CompileAnswer::Done {
-                length: table.len() as u64,
-            }
-            && bench.out == parts.bytes(),
-        || format!("compile in the other order: {answer:?}, not the same content"),
-    )
+    ensure(answer == CompileAnswer::Done { length: table.len() as u64 } && bench.out == parts.bytes(), || {
+        format!("compile in the other order: {answer:?}, not the same content")
+    })
 }
 
 /// Compiles once more with the room that the case asks for.
@@ -202,58 +180,30 @@ fn other_room(case: &ListCase, bench: &mut Bench, table: &[u8]) -> Outcome {
     let answer = (bench.jobs.compile)(&case.text, case.little, &mut bench.out);
     if room < table.len() {
         bench.counts.add(Job::Compile, 11);
-        let expected = CompileAnswer::Refused {
-            number: 11,
-            place: case.text.len() as u64,
-        };
-        ensure(answer == expected, || {
-            format!("compile with room {room}: {answer:?}")
-        })?;
-        return ensure(bench.kept(case.fill, 0), || {
-            String::from("compile refused with 11 and changed the output")
-        });
+        let expected = CompileAnswer::Refused { number: 11, place: case.text.len() as u64 };
+        ensure(answer == expected, || format!("compile with room {room}: {answer:?}"))?;
+        return ensure(bench.kept(case.fill, 0), || String::from("compile refused with 11 and changed the output"));
     }
     bench.counts.add(Job::Compile, 0);
-    ensure(
-        answer
-            == CompileAnswer::Done {
-                length: table.len() as u64,
-            },
-        || format!("compile with room {room}: {answer:?}"),
-    )?;
-    ensure(
-        bench.out[..table.len()] == *table && bench.kept(case.fill, table.len()),
-        || format!("compile with room {room}: other bytes written"),
-    )
+    ensure(answer == CompileAnswer::Done { length: table.len() as u64 }, || {
+        format!("compile with room {room}: {answer:?}")
+    })?;
+    ensure(bench.out[..table.len()] == *table && bench.kept(case.fill, table.len()), || {
+        format!("compile with room {room}: other bytes written")
+    })
 }
 
 /// Checking answers what the rules say.
 pub(super) fn checked(bench: &mut Bench, table: &[u8], expected: CheckAnswer) -> Outcome {
     let answer = (bench.jobs.check)(table);
-    bench.counts.add(
-        Job::Check,
-        if let CheckAnswer::Refused { number, .. } = answer {
-            number
-        } else {
-            0
-        },
-    );
+    bench.counts.add(Job::Check, if let CheckAnswer::Refused { number, .. } = answer { number } else { 0 });
     ensure(answer == expected && rules::check(table) == expected, || {
-        format!(
-            "check: {answer:?}, the rules say {:?}, expected {expected:?}",
-            rules::check(table)
-        )
+        format!("check: {answer:?}, the rules say {:?}, expected {expected:?}", rules::check(table))
     })
 }
 
 /// One merge of the list: refused exactly when the rules say so, else byte for byte what they say.
-fn merge_step(
-    case: &ListCase,
-    step: &Step,
-    bench: &mut Bench,
-    carried: &mut Vec<u8>,
-    sum: &mut u32,
-) -> Outcome {
+fn merge_step(case: &ListCase, step: &Step, bench: &mut Bench, carried: &mut Vec<u8>, sum: &mut u32) -> Outcome {
     let own = carried.clone();
     let other: &[u8] = match &step.other {
         Other::Bytes(bytes) => bytes,
@@ -269,11 +219,7 @@ fn merge_step(
         std::mem::swap(&mut first, &mut second);
     }
     let fair = verdict == CheckAnswer::Passed;
-    let needed = if fair {
-        rules::merged_length(first.0, second.0)
-    } else {
-        first.0.len() + second.0.len()
-    };
+    let needed = if fair { rules::merged_length(first.0, second.0) } else { first.0.len() + second.0.len() };
     let room = step.room.bytes(needed);
     let Some((written, shift)) = merged_rightly(bench, first, second, step.little, room, step.fill)? else {
         return Ok(());
@@ -300,34 +246,16 @@ pub(super) fn merged_rightly(
     let expected = rules::merge(first, second, room);
     bench.fill(fill, room);
     let answer = (bench.jobs.merge)(first.0, second.0, little, &mut bench.out);
-    bench.counts.add(
-        Job::Merge,
-        if let MergeAnswer::Refused { number, .. } = answer {
-            number
-        } else {
-            0
-        },
-    );
-    ensure(answer == expected, || {
-        format!("merge: {answer:?}, the rules say {expected:?}")
-    })?;
-    let MergeAnswer::Done {
-        length, record_shift, ..
-    } = answer
-    else {
-        ensure(bench.kept(fill, 0), || {
-            format!("merge: {answer:?} and the output changed")
-        })?;
+    bench.counts.add(Job::Merge, if let MergeAnswer::Refused { number, .. } = answer { number } else { 0 });
+    ensure(answer == expected, || format!("merge: {answer:?}, the rules say {expected:?}"))?;
+    let MergeAnswer::Done { length, record_shift, .. } = answer else {
+        ensure(bench.kept(fill, 0), || format!("merge: {answer:?} and the output changed"))?;
         return Ok(None);
     };
     let length = length as usize;
     let wanted = rules::merged(first.0, second.0, little);
-    ensure(bench.out[..length] == wanted[..], || {
-        String::from("merge: other bytes written than the rules say")
-    })?;
-    ensure(bench.kept(fill, length), || {
-        String::from("merge: bytes past the table's end changed")
-    })?;
+    ensure(bench.out[..length] == wanted[..], || String::from("merge: other bytes written than the rules say"))?;
+    ensure(bench.kept(fill, length), || String::from("merge: bytes past the table's end changed"))?;
     Ok(Some((wanted, record_shift)))
 }
 
@@ -340,34 +268,19 @@ fn judged(case: &ListCase, bench: &mut Bench, carried: &[u8], sum: u32) -> Outco
             return Err(format!("the text compiled, yet the meaning says {meaning:?}"));
         };
         let expected = match meant {
-            JudgeAnswer::Verdict {
-                reason,
-                record,
-                place,
-            } => JudgeAnswer::Verdict {
-                reason,
-                record: record + sum,
-                place,
-            },
+            JudgeAnswer::Verdict { reason, record, place } => {
+                JudgeAnswer::Verdict { reason, record: record + sum, place }
+            }
             other => other,
         };
         let answer = (bench.jobs.judge)(carried, 1 + sum, data);
         count_judge(bench, answer);
-        ensure(answer == expected, || {
-            format!(
-                "data {index}: judge at {}: {answer:?}, meant {expected:?}",
-                1 + sum
-            )
-        })?;
-        ensure(rules::can_be_meant(carried, data, answer), || {
-            format!("data {index}: {answer:?} cannot be meant")
-        })?;
+        ensure(answer == expected, || format!("data {index}: judge at {}: {answer:?}, meant {expected:?}", 1 + sum))?;
+        ensure(rules::can_be_meant(carried, data, answer), || format!("data {index}: {answer:?} cannot be meant"))?;
         if index == 0 {
             let other = mixed(&mut Random::new(sum.into(), 0, case.fill.into()), carried);
             let again = (bench.jobs.judge)(&other, 1 + sum, data);
-            ensure(again == answer, || {
-                format!("data {index}: in mixed order {again:?}, before {answer:?}")
-            })?;
+            ensure(again == answer, || format!("data {index}: in mixed order {again:?}, before {answer:?}"))?;
         }
     }
     Ok(())
@@ -384,18 +297,9 @@ fn named(bench: &mut Bench, table: &[u8]) -> Outcome {
 
 pub(super) fn name_asked(bench: &mut Bench, table: &[u8], verdict: CheckAnswer, number: u32) -> Outcome {
     let answer = (bench.jobs.name)(table, number);
-    bench.counts.add(
-        Job::Name,
-        if let NameAnswer::Refused { number, .. } = answer {
-            number
-        } else {
-            0
-        },
-    );
+    bench.counts.add(Job::Name, if let NameAnswer::Refused { number, .. } = answer { number } else { 0 });
     let expected = rules::name(table, verdict, number);
-    ensure(answer == expected, || {
-        format!("name of {number}: {answer:?}, the rules say {expected:?}")
-    })
+    ensure(answer == expected, || format!("name of {number}: {answer:?}, the rules say {expected:?}"))
 }
 
 /// Roots and records asked for by the case, of a table whose check answers `verdict`.
@@ -407,9 +311,7 @@ fn asked(case: &ListCase, bench: &mut Bench, table: &[u8], verdict: CheckAnswer)
         count_judge(bench, answer);
         match rules::judge_before_data(table, verdict, number) {
             Some(expected) => {
-                ensure(answer == expected, || {
-                    format!("judge at {number}: {answer:?}, the rules say {expected:?}")
-                })?;
+                ensure(answer == expected, || format!("judge at {number}: {answer:?}, the rules say {expected:?}"))?;
             }
             None => {
                 ensure(rules::can_be_meant(table, data, answer), || {
@@ -417,14 +319,8 @@ fn asked(case: &ListCase, bench: &mut Bench, table: &[u8], verdict: CheckAnswer)
                 })?;
                 let meaning = (bench.jobs.meaning)(b"A matches {*}", data);
                 let bad = matches!(meaning, MeaningAnswer::Answer(JudgeAnswer::Refused { .. }));
-                let same = if bad {
-                    meaning == MeaningAnswer::Answer(answer)
-                } else {
-                    !is_refusal(answer)
-                };
-                ensure(same, || {
-                    format!("judge at {number}: {answer:?}, the data text alone: {meaning:?}")
-                })?;
+                let same = if bad { meaning == MeaningAnswer::Answer(answer) } else { !is_refusal(answer) };
+                ensure(same, || format!("judge at {number}: {answer:?}, the data text alone: {meaning:?}"))?;
             }
         }
     }

@@ -32,25 +32,14 @@ pub fn leaf_case(seed: u64, number: u64) -> LeafCase {
     let random = &mut Random::new(seed, LEAF, number);
     let value = clean_leaf(random);
     let is_string = random.one_in(if matches!(value, Value::Strings(_)) { 2 } else { 12 });
-    let leaf = if is_string {
-        any_string(random, &value)
-    } else {
-        word(random, &value)
-    };
-    LeafCase {
-        value,
-        leaf,
-        is_string,
-        spelling: random.bits(),
-    }
+    let leaf = if is_string { any_string(random, &value) } else { word(random, &value) };
+    LeafCase { value, leaf, is_string, spelling: random.bits() }
 }
 
 fn any_string(random: &mut Random, value: &Value) -> Vec<u8> {
     match value {
         Value::Strings(list) if random.coin() => random.pick(list).clone(),
-        _ => random
-            .one_of(&[&b"a"[..], b"", b"ab", b"True", b"5", b"2000-01-01"])
-            .to_vec(),
+        _ => random.one_of(&[&b"a"[..], b"", b"ab", b"True", b"5", b"2000-01-01"]).to_vec(),
     }
 }
 
@@ -78,39 +67,17 @@ fn word(random: &mut Random, value: &Value) -> Vec<u8> {
 impl LeafCase {
     /// The constraint text and the data text.
     pub fn parts(&self) -> (Vec<u8>, Vec<u8>) {
-        let attribute = Attribute {
-            name: b"a".to_vec(),
-            existence: 2,
-            value: self.value.clone(),
-        };
-        let object = Object {
-            type_name: b"A".to_vec(),
-            code: None,
-            attributes: vec![attribute],
-        };
+        let attribute = Attribute { name: b"a".to_vec(), existence: 2, value: self.value.clone() };
+        let object = Object { type_name: b"A".to_vec(), code: None, attributes: vec![attribute] };
         let random = &mut Random::new(self.spelling, SPELL, 0);
-        let tokens = spell(
-            random,
-            &object,
-            Spelling {
-                faults: 0,
-                plain: false,
-            },
-        );
+        let tokens = spell(random, &object, Spelling { faults: 0, plain: false });
         let quote: &[u8] = if self.is_string { b"\"" } else { b"" };
-        (
-            tokens.text(random, Style::Tight, false),
-            [b"<a=<", quote, &self.leaf, quote, b">>"].concat(),
-        )
+        (tokens.text(random, Style::Tight, false), [b"<a=<", quote, &self.leaf, quote, b">>"].concat())
     }
 
     /// What judging has to answer.
     fn expected(&self) -> JudgeAnswer {
-        let verdict = |reason| JudgeAnswer::Verdict {
-            reason,
-            record: 3,
-            place: 3,
-        };
+        let verdict = |reason| JudgeAnswer::Verdict { reason, record: 3, place: 3 };
         if !self.is_string && !is_good(&self.leaf) {
             return JudgeAnswer::Refused { number: 5, place: 4 };
         }
@@ -129,12 +96,8 @@ impl LeafCase {
             (Value::Booleans(list), false) => Some(list.contains(&boolean(leaf)?)),
             (Value::Integers(list), false) => Some(within(list, integer(leaf)?)),
             (Value::Dates(list), false) => Some(date(leaf)?.1.is_some_and(|day| within(list, day))),
-            (Value::DatePattern(flag), false) => {
-                Some(parts_fit(DATE_PATTERNS[usize::from(*flag) - 1], date(leaf)?.0))
-            }
-            (Value::TimePattern(flag), false) => {
-                Some(parts_fit(TIME_PATTERNS[usize::from(*flag) - 1], time(leaf)?))
-            }
+            (Value::DatePattern(flag), false) => Some(parts_fit(DATE_PATTERNS[usize::from(*flag) - 1], date(leaf)?.0)),
+            (Value::TimePattern(flag), false) => Some(parts_fit(TIME_PATTERNS[usize::from(*flag) - 1], time(leaf)?)),
             _ => None,
         }
     }
@@ -174,19 +137,13 @@ fn integer(word: &[u8]) -> Option<i64> {
     if !all_digits || needless || text == "-0" {
         return None;
     }
-    text.parse::<i64>()
-        .ok()
-        .filter(|value| (LOWEST..=HIGHEST).contains(value))
+    text.parse::<i64>().ok().filter(|value| (LOWEST..=HIGHEST).contains(value))
 }
 
 /// The number of two or four digits.
 fn digits(bytes: &[u8]) -> Option<i64> {
     let all = bytes.iter().all(u8::is_ascii_digit);
-    all.then(|| {
-        bytes
-            .iter()
-            .fold(0, |sum, byte| 10 * sum + i64::from(byte - b'0'))
-    })
+    all.then(|| bytes.iter().fold(0, |sum, byte| 10 * sum + i64::from(byte - b'0')))
 }
 
 /// How many parts a date has, and its day number when it is full.
@@ -210,18 +167,12 @@ fn date(word: &[u8]) -> Option<(usize, Option<i64>)> {
 
 /// How many parts a time has, its zone set aside.
 fn time(word: &[u8]) -> Option<usize> {
-    let zone_at = word
-        .iter()
-        .position(|byte| matches!(byte, b'Z' | b'+' | b'-'))
-        .unwrap_or(word.len());
+    let zone_at = word.iter().position(|byte| matches!(byte, b'Z' | b'+' | b'-')).unwrap_or(word.len());
     let (clock, zone) = word.split_at(zone_at);
     let parts: Vec<&[u8]> = clock.split(|byte| *byte == b':').collect();
     let limits = [23, 59, 59];
     let good = parts.len() <= 3
-        && parts
-            .iter()
-            .zip(limits)
-            .all(|(part, most)| part.len() == 2 && digits(part).is_some_and(|n| n <= most));
+        && parts.iter().zip(limits).all(|(part, most)| part.len() == 2 && digits(part).is_some_and(|n| n <= most));
     (good && is_zone(zone)).then_some(parts.len())
 }
 
@@ -255,20 +206,16 @@ impl Single for LeafCase {
         let meant = (bench.jobs.meaning)(&text, &data);
         count_judge(bench, judged);
         count_meaning(bench, meant);
-        ensure(
-            judged == expected && meant == MeaningAnswer::Answer(expected),
-            || format!("judge {judged:?}, meaning {meant:?}, the rules say {expected:?}"),
-        )
+        ensure(judged == expected && meant == MeaningAnswer::Answer(expected), || {
+            format!("judge {judged:?}, meaning {meant:?}, the rules say {expected:?}")
+        })
     }
 }
 
 impl Smaller for LeafCase {
     fn smaller<'a>(&'a self) -> Candidates<'a, Self> {
         let values = smaller_value(&self.value).filter(|value| *value != Value::Any);
-        let values = values.map(|value| LeafCase {
-            value,
-            ..self.clone()
-        });
+        let values = values.map(|value| LeafCase { value, ..self.clone() });
         let leaves = smaller_bytes(&self.leaf).filter(|leaf| self.is_string || !leaf.is_empty());
         let leaves = leaves.filter(|leaf| self.is_string || !leaf.starts_with(b"--"));
         Box::new(values.chain(leaves.map(|leaf| LeafCase { leaf, ..self.clone() })))

@@ -45,13 +45,7 @@ pub fn compile_line(case: &CompileCase, jobs: &Jobs) -> String {
         CompileAnswer::Done { length } => format!("done {length} {}", hex(&out[..length as usize])),
         CompileAnswer::Refused { number, place } => format!("refused {number} {place}"),
     };
-    format!(
-        "compile {} {} {} {} = {answer}",
-        hex(&case.text),
-        order(case.little),
-        case.room,
-        case.fill
-    )
+    format!("compile {} {} {} {} = {answer}", hex(&case.text), order(case.little), case.room, case.fill)
 }
 
 pub fn check_line(case: &CheckCase, jobs: &Jobs) -> String {
@@ -65,43 +59,22 @@ pub fn check_line(case: &CheckCase, jobs: &Jobs) -> String {
 pub fn merge_line(case: &MergeCase, jobs: &Jobs) -> String {
     let mut out = filling(case.fill, case.room);
     let answer = match (jobs.merge)(&case.first, &case.second, case.little, &mut out) {
-        MergeAnswer::Done {
-            length,
-            record_shift,
-            pool_shift,
-        } => {
-            format!(
-                "done {length} {record_shift} {pool_shift} {}",
-                hex(&out[..length as usize])
-            )
+        MergeAnswer::Done { length, record_shift, pool_shift } => {
+            format!("done {length} {record_shift} {pool_shift} {}", hex(&out[..length as usize]))
         }
         MergeAnswer::Refused { number, place, table } => format!("refused {number} {place} {table}"),
     };
     let (first, second) = (hex(&case.first), hex(&case.second));
-    format!(
-        "merge {first} {second} {} {} {} = {answer}",
-        order(case.little),
-        case.room,
-        case.fill
-    )
+    format!("merge {first} {second} {} {} {} = {answer}", order(case.little), case.room, case.fill)
 }
 
 pub fn judge_line(case: &JudgeCase, jobs: &Jobs) -> String {
     let answer = match (jobs.judge)(&case.table, case.root, &case.data) {
         JudgeAnswer::Valid => String::from("valid"),
         JudgeAnswer::Refused { number, place } => format!("refused {number} {place}"),
-        JudgeAnswer::Verdict {
-            reason,
-            record,
-            place,
-        } => format!("verdict {reason} {record} {place}"),
+        JudgeAnswer::Verdict { reason, record, place } => format!("verdict {reason} {record} {place}"),
     };
-    format!(
-        "judge {} {} {} = {answer}",
-        hex(&case.table),
-        case.root,
-        hex(&case.data)
-    )
+    format!("judge {} {} {} = {answer}", hex(&case.table), case.root, hex(&case.data))
 }
 
 pub fn name_line(case: &NameCase, jobs: &Jobs) -> String {

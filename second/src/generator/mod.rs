@@ -27,8 +27,8 @@ mod tokens;
 mod unrolled;
 
 pub use cases::{
-    clean_data, clean_shape, data_text, filling, table_length, CheckCase, CompileCase, JudgeCase, ListCase,
-    MadeText, Maker, MergeCase, NameCase, Other, Room, Step, LONGEST_TABLE,
+    clean_data, clean_shape, data_text, filling, table_length, CheckCase, CompileCase, JudgeCase, ListCase, MadeText,
+    Maker, MergeCase, NameCase, Other, Room, Step, LONGEST_TABLE,
 };
 pub use counts::{Counts, Job};
 pub use random::Random;

@@ -18,9 +18,7 @@ impl Random {
     pub fn new(seed: u64, kind: u64, number: u64) -> Random {
         let first = mix(seed ^ 0x9E37_79B9_7F4A_7C15);
         let second = mix(first.wrapping_add(kind.wrapping_mul(0xD1B5_4A32_D192_ED03)));
-        Random {
-            state: mix(second.wrapping_add(number.wrapping_mul(0x9E6C_63D0_876A_3F35))),
-        }
+        Random { state: mix(second.wrapping_add(number.wrapping_mul(0x9E6C_63D0_876A_3F35))) }
     }
 
     /// The next 64 random bits.

@@ -13,10 +13,7 @@ pub fn check(bytes: &[u8]) -> CheckAnswer {
     let (count, pool) = sizes(bytes);
     for number in 1..count {
         if !is_sound(bytes, number, count, pool) {
-            return CheckAnswer::Refused {
-                number: 13,
-                place: number as u64,
-            };
+            return CheckAnswer::Refused { number: 13, place: number as u64 };
         }
     }
     CheckAnswer::Passed
@@ -64,10 +61,7 @@ fn is_sound(bytes: &[u8], number: usize, count: usize, pool: usize) -> bool {
         target == 0 || (target > number && target < count && kinds.contains(&kind(bytes, target)))
     };
     let pair = |place: u32, length: u32, least: u32, most: u32| {
-        length >= least
-            && length <= most
-            && (length > 0 || place == 0)
-            && place as usize + length as usize <= pool
+        length >= least && length <= most && (length > 0 || place == 0) && place as usize + length as usize <= pool
     };
     let flag = record.flag;
     record.has_mark()
@@ -103,31 +97,15 @@ pub fn merge(first: (&[u8], CheckAnswer), second: (&[u8], CheckAnswer), room: us
     let (one, two) = (sizes(first.0), sizes(second.0));
     let length = merged_length(first.0, second.0);
     if one.0 + two.0 - 1 > MOST_RECORDS {
-        return MergeAnswer::Refused {
-            number: 8,
-            place: 0,
-            table: 0,
-        };
+        return MergeAnswer::Refused { number: 8, place: 0, table: 0 };
     }
     if one.1 + two.1 > MOST_POOL {
-        return MergeAnswer::Refused {
-            number: 10,
-            place: 0,
-            table: 0,
-        };
+        return MergeAnswer::Refused { number: 10, place: 0, table: 0 };
     }
     if room < length {
-        return MergeAnswer::Refused {
-            number: 11,
-            place: length as u64,
-            table: 0,
-        };
+        return MergeAnswer::Refused { number: 11, place: length as u64, table: 0 };
     }
-    MergeAnswer::Done {
-        length: length as u64,
-        record_shift: one.0 as u32 - 1,
-        pool_shift: one.1 as u32,
-    }
+    MergeAnswer::Done { length: length as u64, record_shift: one.0 as u32 - 1, pool_shift: one.1 as u32 }
 }
 
 /// The bytes that merging two sound tables has to write.
@@ -178,17 +156,11 @@ pub fn name(bytes: &[u8], answer: CheckAnswer, number: u32) -> NameAnswer {
     let (count, _) = sizes(bytes);
     let asked = number as usize;
     if asked >= count || !matches!(kind(bytes, asked), 1 | 2 | 5) {
-        return NameAnswer::Refused {
-            number: 14,
-            place: u64::from(number),
-        };
+        return NameAnswer::Refused { number: 14, place: u64::from(number) };
     }
     let record = record(bytes, asked);
     let start = RECORD * count + record.numbers[0] as usize;
-    NameAnswer::Name {
-        start: start as u64,
-        length: u64::from(record.numbers[1]),
-    }
+    NameAnswer::Name { start: start as u64, length: u64::from(record.numbers[1]) }
 }
 
 /// What judging has to refuse before it reads the data, given what checking answers.
@@ -198,10 +170,7 @@ pub fn judge_before_data(bytes: &[u8], answer: CheckAnswer, root: u32) -> Option
     }
     let asked = root as usize;
     let object = asked < sizes(bytes).0 && kind(bytes, asked) == 1;
-    (!object).then_some(JudgeAnswer::Refused {
-        number: 14,
-        place: root.into(),
-    })
+    (!object).then_some(JudgeAnswer::Refused { number: 14, place: root.into() })
 }
 
 /// Whether an answer of judging, the table and root being good, names places and records that can be meant.
@@ -210,11 +179,7 @@ pub fn can_be_meant(table: &[u8], data: &[u8], answer: JudgeAnswer) -> bool {
         JudgeAnswer::Valid => data.len() <= 16_384,
         JudgeAnswer::Refused { number: 1, place } => data.len() > 16_384 && place == 16_384,
         JudgeAnswer::Refused { number, place } => matches!(number, 2..=5 | 9) && place <= data.len() as u64,
-        JudgeAnswer::Verdict {
-            reason,
-            record,
-            place,
-        } => {
+        JudgeAnswer::Verdict { reason, record, place } => {
             let known = (record as usize) < sizes(table).0;
             let kind = if known { kind(table, record as usize) } else { 0 };
             let kinds: &[u8] = match reason {
@@ -237,11 +202,7 @@ mod tests {
 
     #[test]
     fn the_papers_example() {
-        let object = Object {
-            type_name: b"A".to_vec(),
-            code: None,
-            attributes: Vec::new(),
-        };
+        let object = Object { type_name: b"A".to_vec(), code: None, attributes: Vec::new() };
         let table = table_of(&object).bytes();
         let mut expected = vec![0xC0, 0xAD, 0, 0, 0, 0, 0, 2, 0, 0, 0, 1, 0, 0, 0, 1];
         expected.extend([0; 8]);
@@ -255,13 +216,6 @@ mod tests {
         assert_eq!(sizes(&twice), (3, 2));
         assert_eq!(record(&twice, 2).numbers[0], 1);
         let answer = merge((&table, CheckAnswer::Passed), (&table, CheckAnswer::Passed), 74);
-        assert_eq!(
-            answer,
-            MergeAnswer::Done {
-                length: 74,
-                record_shift: 1,
-                pool_shift: 1
-            }
-        );
+        assert_eq!(answer, MergeAnswer::Done { length: 74, record_shift: 1, pool_shift: 1 });
     }
 }

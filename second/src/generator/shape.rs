@@ -50,55 +50,19 @@ pub struct Plan {
 }
 
 pub const NAMES: [&[u8]; 18] = [
-    b"a",
-    b"b",
-    b"c",
-    b"aa",
-    b"ab",
-    b"abc",
-    b"value",
-    b"a1",
-    b"a_",
-    b"matchesx",
-    b"matche",
-    b"existence1",
-    b"existenc",
-    b"yyyy",
-    b"mm",
-    b"at0001",
-    b"true",
-    b"x9Z_",
+    b"a", b"b", b"c", b"aa", b"ab", b"abc", b"value", b"a1", b"a_", b"matchesx", b"matche", b"existence1", b"existenc",
+    b"yyyy", b"mm", b"at0001", b"true", b"x9Z_",
 ];
 
 pub const TYPES: [&[u8]; 18] = [
-    b"A", b"B", b"C", b"AB", b"ABC", b"A1", b"A_b", b"ELEMENT", b"True1", b"Tru", b"Falsey", b"TRUE",
-    b"FALSE", b"T", b"Thh", b"XX", b"X", b"Z",
+    b"A", b"B", b"C", b"AB", b"ABC", b"A1", b"A_b", b"ELEMENT", b"True1", b"Tru", b"Falsey", b"TRUE", b"FALSE", b"T",
+    b"Thh", b"XX", b"X", b"Z",
 ];
 
-const CODES: [&[u8]; 7] = [
-    b"at0000",
-    b"at0001",
-    b"at1",
-    b"at0001.1",
-    b"at0.0.1",
-    b"at0000.0.0.12",
-    b"at00000000",
-];
+const CODES: [&[u8]; 7] = [b"at0000", b"at0001", b"at1", b"at0001.1", b"at0.0.1", b"at0000.0.0.12", b"at00000000"];
 
-const STRINGS: [&[u8]; 12] = [
-    b"",
-    b"a",
-    b"b",
-    b"ab",
-    b"abc",
-    b"A",
-    b" ",
-    b"--",
-    b"a b",
-    b"{|},*",
-    b"~!#'()[]<>",
-    b"0123456789",
-];
+const STRINGS: [&[u8]; 12] =
+    [b"", b"a", b"b", b"ab", b"abc", b"A", b" ", b"--", b"a b", b"{|},*", b"~!#'()[]<>", b"0123456789"];
 
 impl Plan {
     /// A plan without faults and of common size.
@@ -106,11 +70,7 @@ impl Plan {
         let chain = random.one_in(24);
         Plan {
             faults: 0,
-            depth: if chain {
-                14 + random.below(3)
-            } else {
-                1 + random.below(4)
-            },
+            depth: if chain { 14 + random.below(3) } else { 1 + random.below(4) },
             chain,
             budget: 2 + random.below(14),
         }
@@ -157,17 +117,9 @@ pub fn object(random: &mut Random, plan: &mut Plan, level: usize) -> Object {
         } else {
             value(random, plan, level)
         };
-        attributes.push(Attribute {
-            name,
-            existence: random.one_of(&[0, 1, 1, 2, 2, 2]),
-            value,
-        });
+        attributes.push(Attribute { name, existence: random.one_of(&[0, 1, 1, 2, 2, 2]), value });
     }
-    Object {
-        type_name,
-        code,
-        attributes,
-    }
+    Object { type_name, code, attributes }
 }
 
 fn attribute_count(random: &mut Random, plan: &Plan, level: usize, forced: bool) -> usize {
@@ -237,35 +189,15 @@ fn item_count(random: &mut Random, plan: &mut Plan) -> usize {
 fn integers(random: &mut Random, plan: &mut Plan) -> Vec<(i64, i64)> {
     let count = item_count(random, plan);
     let starts = [-3, 0, 5, 95, 999, LOWEST, LOWEST + 1, HIGHEST - 3, HIGHEST - 40];
-    let start = if random.one_in(3) {
-        random.between(LOWEST, HIGHEST)
-    } else {
-        random.one_of(&starts)
-    };
+    let start = if random.one_in(3) { random.between(LOWEST, HIGHEST) } else { random.one_of(&starts) };
     pairs(random, plan, count, start, LOWEST, HIGHEST)
 }
 
 /// Random date pairs, as day numbers.
 fn dates(random: &mut Random, plan: &mut Plan) -> Vec<(i64, i64)> {
     let count = item_count(random, plan);
-    let starts = [
-        0,
-        1,
-        58,
-        59,
-        730_119,
-        730_178,
-        730_179,
-        731_580,
-        LAST_DAY - 400,
-        LAST_DAY - 1,
-        LAST_DAY,
-    ];
-    let start = if random.one_in(3) {
-        random.between(0, LAST_DAY)
-    } else {
-        random.one_of(&starts)
-    };
+    let starts = [0, 1, 58, 59, 730_119, 730_178, 730_179, 731_580, LAST_DAY - 400, LAST_DAY - 1, LAST_DAY];
+    let start = if random.one_in(3) { random.between(0, LAST_DAY) } else { random.one_of(&starts) };
     pairs(random, plan, count, start, 0, LAST_DAY)
 }
 
@@ -274,11 +206,7 @@ fn pairs(random: &mut Random, plan: &Plan, count: usize, start: i64, low: i64, h
     let mut list = Vec::with_capacity(count);
     let mut next = start;
     for _ in 0..count {
-        let width = if random.coin() {
-            0
-        } else {
-            random.one_of(&[1, 2, 3, 9, 30, 365, 100_000])
-        };
+        let width = if random.coin() { 0 } else { random.one_of(&[1, 2, 3, 9, 30, 365, 100_000]) };
         if next > high {
             break;
         }
@@ -416,24 +344,11 @@ pub fn crowded_object(random: &mut Random) -> Object {
         1 => Value::Integers(pairs),
         _ => {
             let shift = random.one_of(&[LOWEST - base - 1, -base, HIGHEST - base - span]);
-            Value::Integers(
-                pairs
-                    .iter()
-                    .map(|pair| (pair.0 + shift, pair.1 + shift))
-                    .collect(),
-            )
+            Value::Integers(pairs.iter().map(|pair| (pair.0 + shift, pair.1 + shift)).collect())
         }
     };
-    let attribute = Attribute {
-        name: b"a".to_vec(),
-        existence: 2,
-        value,
-    };
-    Object {
-        type_name: b"A".to_vec(),
-        code: None,
-        attributes: vec![attribute],
-    }
+    let attribute = Attribute { name: b"a".to_vec(), existence: 2, value };
+    Object { type_name: b"A".to_vec(), code: None, attributes: vec![attribute] }
 }
 
 /// A short name that differs for each number.
@@ -456,17 +371,9 @@ pub fn wide_object(random: &mut Random, records: usize) -> Object {
         let name = numbered_name(attributes.len());
         let value = wide_value(random, left);
         left -= 1 + records_of_value(&value);
-        attributes.push(Attribute {
-            name,
-            existence: 2,
-            value,
-        });
+        attributes.push(Attribute { name, existence: 2, value });
     }
-    Object {
-        type_name: b"A".to_vec(),
-        code: None,
-        attributes,
-    }
+    Object { type_name: b"A".to_vec(), code: None, attributes }
 }
 
 fn wide_value(random: &mut Random, left: usize) -> Value {
@@ -476,11 +383,7 @@ fn wide_value(random: &mut Random, left: usize) -> Value {
     }
     match random.below(24) {
         0 => Value::Booleans(vec![true]),
-        1 => Value::Object(Object {
-            type_name: b"B".to_vec(),
-            code: None,
-            attributes: Vec::new(),
-        }),
+        1 => Value::Object(Object { type_name: b"B".to_vec(), code: None, attributes: Vec::new() }),
         2 | 3 => Value::Strings((0..most).map(|i| vec![b'a' + i as u8]).collect()),
         _ => Value::Integers((0..most as i64).map(|i| (i, i)).collect()),
     }
@@ -488,11 +391,7 @@ fn wide_value(random: &mut Random, left: usize) -> Value {
 
 /// How many records an object takes.
 pub fn records_of(object: &Object) -> usize {
-    1 + object
-        .attributes
-        .iter()
-        .map(|a| 1 + records_of_value(&a.value))
-        .sum::<usize>()
+    1 + object.attributes.iter().map(|a| 1 + records_of_value(&a.value)).sum::<usize>()
 }
 
 fn records_of_value(value: &Value) -> usize {

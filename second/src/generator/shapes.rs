@@ -26,24 +26,14 @@ const SPELL: u64 = 21;
 /// Case `number` of a seed.
 pub fn shape_case(seed: u64, number: u64) -> ShapeCase {
     let random = &mut Random::new(seed, SHAPE, number);
-    ShapeCase {
-        shape: clean_shape(random),
-        spelling: random.bits(),
-    }
+    ShapeCase { shape: clean_shape(random), spelling: random.bits() }
 }
 
 impl ShapeCase {
     /// The text, whether it is compiled little-endian, and a data text that fits.
     pub fn parts(&self) -> (Vec<u8>, bool, Vec<u8>) {
         let random = &mut Random::new(self.spelling, SPELL, 0);
-        let tokens = spell(
-            random,
-            &self.shape,
-            Spelling {
-                faults: 0,
-                plain: false,
-            },
-        );
+        let tokens = spell(random, &self.shape, Spelling { faults: 0, plain: false });
         let style = any_style(random);
         let text = tokens.text(random, style, false);
         let little = random.coin();
@@ -64,11 +54,7 @@ impl Single for ShapeCase {
         let mut out = filling(0, LONGEST_TABLE);
         let answer = (jobs.compile)(&text, little, &mut out);
         bench.counts.add(Job::Compile, 0);
-        if answer
-            != (CompileAnswer::Done {
-                length: expected.len() as u64,
-            })
-        {
+        if answer != (CompileAnswer::Done { length: expected.len() as u64 }) {
             return Err(format!("compile: {answer:?}, not {} bytes done", expected.len()));
         }
         if out[..expected.len()] != expected[..] {
@@ -87,18 +73,12 @@ impl Single for ShapeCase {
 
 impl Smaller for ShapeCase {
     fn smaller<'a>(&'a self) -> Candidates<'a, Self> {
-        Box::new(smaller_object(&self.shape).map(|shape| ShapeCase {
-            shape,
-            ..self.clone()
-        }))
+        Box::new(smaller_object(&self.shape).map(|shape| ShapeCase { shape, ..self.clone() }))
     }
 }
 
 fn smaller_object(object: &Object) -> Candidates<'_, Object> {
-    let code = object.code.iter().map(|_| Object {
-        code: None,
-        ..object.clone()
-    });
+    let code = object.code.iter().map(|_| Object { code: None, ..object.clone() });
     let attributes = smaller_list(&object.attributes, |attribute| {
         Box::new(smaller_value(&attribute.value).map(|value| {
             let mut attribute = attribute.clone();
@@ -106,19 +86,14 @@ fn smaller_object(object: &Object) -> Candidates<'_, Object> {
             attribute
         }))
     });
-    Box::new(code.chain(attributes.map(|attributes| Object {
-        attributes,
-        ..object.clone()
-    })))
+    Box::new(code.chain(attributes.map(|attributes| Object { attributes, ..object.clone() })))
 }
 
 /// A leaf or object with less in it, `*` first.
 pub(super) fn smaller_value(value: &Value) -> Candidates<'_, Value> {
     match value {
         Value::Any => Box::new(std::iter::empty()),
-        Value::Object(object) => {
-            Box::new(std::iter::once(Value::Any).chain(smaller_object(object).map(Value::Object)))
-        }
+        Value::Object(object) => Box::new(std::iter::once(Value::Any).chain(smaller_object(object).map(Value::Object))),
         Value::Integers(list) => any_or_fewer(list, Value::Integers),
         Value::Dates(list) => any_or_fewer(list, Value::Dates),
         Value::Strings(list) => any_or_fewer(list, Value::Strings),
@@ -129,8 +104,6 @@ pub(super) fn smaller_value(value: &Value) -> Candidates<'_, Value> {
 
 /// `*`, or the list with an item less.
 fn any_or_fewer<T: Clone>(list: &[T], value: fn(Vec<T>) -> Value) -> Candidates<'_, Value> {
-    let fewer = smaller_list(list, |_| Box::new(std::iter::empty()))
-        .filter(|list| !list.is_empty())
-        .map(value);
+    let fewer = smaller_list(list, |_| Box::new(std::iter::empty())).filter(|list| !list.is_empty()).map(value);
     Box::new(std::iter::once(Value::Any).chain(fewer))
 }

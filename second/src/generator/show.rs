@@ -14,13 +14,7 @@ pub fn quoted(bytes: &[u8]) -> String {
 pub fn list_case(case: &ListCase) -> String {
     let mut out = String::new();
     let order = if case.little { "little" } else { "big" };
-    let _ = writeln!(
-        out,
-        "text ({} bytes, {order}, room {:?}, fill {}):",
-        case.text.len(),
-        case.room,
-        case.fill
-    );
+    let _ = writeln!(out, "text ({} bytes, {order}, room {:?}, fill {}):", case.text.len(), case.room, case.fill);
     let _ = writeln!(out, "  {}", quoted(&case.text));
     for (index, step) in case.steps.iter().enumerate() {
         let side = if step.carried_first { "first" } else { "second" };

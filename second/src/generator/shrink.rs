@@ -17,15 +17,10 @@ pub fn shrink<C: Smaller>(case: &C, most: usize, mut fails: impl FnMut(&C) -> bo
     let mut start = 0;
     let mut trials = 0;
     loop {
-        let found = best
-            .smaller()
-            .enumerate()
-            .skip(start)
-            .take(most - trials)
-            .find(|(_, candidate)| {
-                trials += 1;
-                fails(candidate)
-            });
+        let found = best.smaller().enumerate().skip(start).take(most - trials).find(|(_, candidate)| {
+            trials += 1;
+            fails(candidate)
+        });
         match found {
             Some((index, candidate)) => {
                 best = candidate;
@@ -45,9 +40,7 @@ pub fn smaller_bytes(bytes: &[u8]) -> Candidates<'_, Vec<u8>> {
     let length = bytes.len();
     let halves = std::iter::successors(Some(length), |size| Some(size / 2)).take_while(|size| *size > 24);
     let large = halves.flat_map(move |size| (0..length).step_by(size.div_ceil(2)).map(move |at| (at, size)));
-    let small = (1..=length.min(24))
-        .rev()
-        .flat_map(move |size| (0..=length - size).map(move |at| (at, size)));
+    let small = (1..=length.min(24)).rev().flat_map(move |size| (0..=length - size).map(move |at| (at, size)));
     Box::new(large.chain(small).map(move |(at, size)| without(bytes, at, size)))
 }
 
@@ -69,18 +62,10 @@ pub fn smaller_table(bytes: &[u8]) -> Candidates<'_, Vec<u8>> {
     let tails = std::iter::successors(Some(pool), |size| Some(size / 2))
         .take_while(|size| *size > 0)
         .map(move |size| with_pool(&tails, pool - size));
-    let dropped = (1..count)
-        .rev()
-        .map(move |number| without_record(&dropped, number));
+    let dropped = (1..count).rev().map(move |number| without_record(&dropped, number));
     let plain = (0..count).flat_map(move |number| plainer(&plain, number));
     let nothing = std::iter::once(Vec::new());
-    Box::new(
-        nothing
-            .chain(tails)
-            .chain(dropped)
-            .chain(plain)
-            .chain(smaller_bytes(bytes)),
-    )
+    Box::new(nothing.chain(tails).chain(dropped).chain(plain).chain(smaller_bytes(bytes)))
 }
 
 fn with_pool(table: &Table, length: usize) -> Vec<u8> {
@@ -171,15 +156,9 @@ fn smaller_flag(flag: bool) -> Candidates<'static, bool> {
 impl Smaller for CompileCase {
     fn smaller<'a>(&'a self) -> Candidates<'a, Self> {
         let text = smaller_bytes(&self.text).map(|text| CompileCase { text, ..self.clone() });
-        let little = smaller_flag(self.little).map(|little| CompileCase {
-            little,
-            ..self.clone()
-        });
+        let little = smaller_flag(self.little).map(|little| CompileCase { little, ..self.clone() });
         let room = smaller_number(self.room).map(|room| CompileCase { room, ..self.clone() });
-        let fill = smaller_number(self.fill.into()).map(|fill| CompileCase {
-            fill: fill as u8,
-            ..self.clone()
-        });
+        let fill = smaller_number(self.fill.into()).map(|fill| CompileCase { fill: fill as u8, ..self.clone() });
         Box::new(text.chain(little).chain(room).chain(fill))
     }
 }
@@ -192,23 +171,11 @@ impl Smaller for CheckCase {
 
 impl Smaller for MergeCase {
     fn smaller<'a>(&'a self) -> Candidates<'a, Self> {
-        let first = smaller_table(&self.first).map(|first| MergeCase {
-            first,
-            ..self.clone()
-        });
-        let second = smaller_table(&self.second).map(|second| MergeCase {
-            second,
-            ..self.clone()
-        });
-        let little = smaller_flag(self.little).map(|little| MergeCase {
-            little,
-            ..self.clone()
-        });
+        let first = smaller_table(&self.first).map(|first| MergeCase { first, ..self.clone() });
+        let second = smaller_table(&self.second).map(|second| MergeCase { second, ..self.clone() });
+        let little = smaller_flag(self.little).map(|little| MergeCase { little, ..self.clone() });
         let room = smaller_number(self.room).map(|room| MergeCase { room, ..self.clone() });
-        let fill = smaller_number(self.fill.into()).map(|fill| MergeCase {
-            fill: fill as u8,
-            ..self.clone()
-        });
+        let fill = smaller_number(self.fill.into()).map(|fill| MergeCase { fill: fill as u8, ..self.clone() });
         Box::new(first.chain(second).chain(little).chain(room).chain(fill))
     }
 }
@@ -216,28 +183,17 @@ impl Smaller for MergeCase {
 impl Smaller for JudgeCase {
     fn smaller<'a>(&'a self) -> Candidates<'a, Self> {
         let data = smaller_bytes(&self.data).map(|data| JudgeCase { data, ..self.clone() });
-        let table = smaller_table(&self.table).map(|table| JudgeCase {
-            table,
-            ..self.clone()
-        });
-        let root = smaller_number(self.root as usize).map(|root| JudgeCase {
-            root: root as u32,
-            ..self.clone()
-        });
+        let table = smaller_table(&self.table).map(|table| JudgeCase { table, ..self.clone() });
+        let root = smaller_number(self.root as usize).map(|root| JudgeCase { root: root as u32, ..self.clone() });
         Box::new(data.chain(table).chain(root))
     }
 }
 
 impl Smaller for NameCase {
     fn smaller<'a>(&'a self) -> Candidates<'a, Self> {
-        let table = smaller_table(&self.table).map(|table| NameCase {
-            table,
-            ..self.clone()
-        });
-        let record = smaller_number(self.record as usize).map(|record| NameCase {
-            record: record as u32,
-            ..self.clone()
-        });
+        let table = smaller_table(&self.table).map(|table| NameCase { table, ..self.clone() });
+        let record =
+            smaller_number(self.record as usize).map(|record| NameCase { record: record as u32, ..self.clone() });
         Box::new(table.chain(record))
     }
 }
@@ -248,18 +204,9 @@ impl Smaller for Step {
             Other::Bytes(bytes) => smaller_table(bytes),
             Other::Carried => Box::new(std::iter::empty()),
         };
-        let tables = tables.map(|bytes| Step {
-            other: Other::Bytes(bytes),
-            ..self.clone()
-        });
-        let little = smaller_flag(self.little).map(|little| Step {
-            little,
-            ..self.clone()
-        });
-        let fill = smaller_number(self.fill.into()).map(|fill| Step {
-            fill: fill as u8,
-            ..self.clone()
-        });
+        let tables = tables.map(|bytes| Step { other: Other::Bytes(bytes), ..self.clone() });
+        let little = smaller_flag(self.little).map(|little| Step { little, ..self.clone() });
+        let fill = smaller_number(self.fill.into()).map(|fill| Step { fill: fill as u8, ..self.clone() });
         let room = smaller_room(self.room).map(|room| Step { room, ..self.clone() });
         Box::new(room.chain(little).chain(fill).chain(tables))
     }
@@ -277,35 +224,16 @@ fn smaller_room(room: Room) -> Candidates<'static, Room> {
 
 impl Smaller for ListCase {
     fn smaller<'a>(&'a self) -> Candidates<'a, Self> {
-        let asked = smaller_list(&self.asked, |asked| {
-            Box::new(smaller_number(*asked as usize).map(|number| number as u32))
-        })
-        .map(|asked| ListCase {
-            asked,
-            ..self.clone()
-        });
-        let none = (!self.steps.is_empty())
-            .then(|| ListCase {
-                steps: Vec::new(),
-                ..self.clone()
-            })
-            .into_iter();
-        let steps = smaller_list(&self.steps, Step::smaller).map(|steps| ListCase {
-            steps,
-            ..self.clone()
-        });
-        let data = smaller_list(&self.data, |data| smaller_bytes(data))
-            .map(|data| ListCase { data, ..self.clone() });
+        let asked =
+            smaller_list(&self.asked, |asked| Box::new(smaller_number(*asked as usize).map(|number| number as u32)))
+                .map(|asked| ListCase { asked, ..self.clone() });
+        let none = (!self.steps.is_empty()).then(|| ListCase { steps: Vec::new(), ..self.clone() }).into_iter();
+        let steps = smaller_list(&self.steps, Step::smaller).map(|steps| ListCase { steps, ..self.clone() });
+        let data = smaller_list(&self.data, |data| smaller_bytes(data)).map(|data| ListCase { data, ..self.clone() });
         let text = smaller_bytes(&self.text).map(|text| ListCase { text, ..self.clone() });
-        let little = smaller_flag(self.little).map(|little| ListCase {
-            little,
-            ..self.clone()
-        });
+        let little = smaller_flag(self.little).map(|little| ListCase { little, ..self.clone() });
         let room = smaller_room(self.room).map(|room| ListCase { room, ..self.clone() });
-        let fill = smaller_number(self.fill.into()).map(|fill| ListCase {
-            fill: fill as u8,
-            ..self.clone()
-        });
+        let fill = smaller_number(self.fill.into()).map(|fill| ListCase { fill: fill as u8, ..self.clone() });
         let small = little.chain(room).chain(fill).chain(asked);
         Box::new(none.chain(small).chain(steps).chain(data).chain(text))
     }

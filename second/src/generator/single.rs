@@ -17,8 +17,7 @@ pub trait Single {
 
     /// Runs the case; a panic is a failure too.
     fn guarded(&self, bench: &mut Bench) -> Outcome {
-        catch_unwind(AssertUnwindSafe(|| self.run(bench)))
-            .unwrap_or_else(|_| Err(String::from("a job panicked")))
+        catch_unwind(AssertUnwindSafe(|| self.run(bench))).unwrap_or_else(|_| Err(String::from("a job panicked")))
     }
 }
 
@@ -65,27 +64,17 @@ impl Single for JudgeCase {
         let answer = (bench.jobs.judge)(&self.table, self.root, &self.data);
         count_judge(bench, answer);
         if let Some(expected) = rules::judge_before_data(&self.table, verdict, self.root) {
-            return ensure(answer == expected, || {
-                format!("judge: {answer:?}, the rules say {expected:?}")
-            });
+            return ensure(answer == expected, || format!("judge: {answer:?}, the rules say {expected:?}"));
         }
-        ensure(rules::can_be_meant(&self.table, &self.data, answer), || {
-            format!("judge: {answer:?} cannot be meant")
-        })?;
+        ensure(rules::can_be_meant(&self.table, &self.data, answer), || format!("judge: {answer:?} cannot be meant"))?;
         if let Some(expected) = meant(self, bench)? {
-            ensure(answer == expected, || {
-                format!("judge: {answer:?}, written out as a text {expected:?}")
-            })?;
+            ensure(answer == expected, || format!("judge: {answer:?}, written out as a text {expected:?}"))?;
         }
-        let other = mixed(
-            &mut Random::new(self.data.len() as u64, 0, self.root.into()),
-            &self.table,
-        );
+        let other = mixed(&mut Random::new(self.data.len() as u64, 0, self.root.into()), &self.table);
         let again = (bench.jobs.judge)(&other, self.root, &self.data);
-        ensure(
-            rules::check(&other) == CheckAnswer::Passed && again == answer,
-            || format!("judge in mixed order: {again:?}, before {answer:?}"),
-        )
+        ensure(rules::check(&other) == CheckAnswer::Passed && again == answer, || {
+            format!("judge in mixed order: {again:?}, before {answer:?}")
+        })
     }
 }
 
@@ -95,15 +84,7 @@ fn meant(case: &JudgeCase, bench: &mut Bench) -> Result<Option<JudgeAnswer>, Str
         return Ok(None);
     };
     let random = &mut Random::new(case.root.into(), 0, 0);
-    let text = spell(
-        random,
-        &written.shape,
-        Spelling {
-            faults: 0,
-            plain: false,
-        },
-    )
-    .text(random, Style::Tight, false);
+    let text = spell(random, &written.shape, Spelling { faults: 0, plain: false }).text(random, Style::Tight, false);
     if text.len() > 16_384 {
         return Ok(None);
     }
@@ -111,21 +92,9 @@ fn meant(case: &JudgeCase, bench: &mut Bench) -> Result<Option<JudgeAnswer>, Str
     count_meaning(bench, meaning);
     match meaning {
         MeaningAnswer::ConstraintRefused { .. } => Err(format!("{meaning:?} for {}", text.escape_ascii())),
-        MeaningAnswer::Answer(JudgeAnswer::Verdict {
-            reason,
-            record,
-            place,
-        }) => {
-            let record = written
-                .numbers
-                .get((record as usize).wrapping_sub(1))
-                .copied()
-                .unwrap_or(u32::MAX);
-            Ok(Some(JudgeAnswer::Verdict {
-                reason,
-                record,
-                place,
-            }))
+        MeaningAnswer::Answer(JudgeAnswer::Verdict { reason, record, place }) => {
+            let record = written.numbers.get((record as usize).wrapping_sub(1)).copied().unwrap_or(u32::MAX);
+            Ok(Some(JudgeAnswer::Verdict { reason, record, place }))
         }
         MeaningAnswer::Answer(answer) => Ok(Some(answer)),
     }

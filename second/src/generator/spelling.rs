@@ -5,13 +5,7 @@ use super::random::Random;
 use super::shape::{Attribute, Object, Value, HIGHEST, LOWEST};
 use super::tokens::Tokens;
 
-pub const DATE_PATTERNS: [&[u8]; 5] = [
-    b"yyyy-mm-dd",
-    b"yyyy-mm-??",
-    b"yyyy-??-??",
-    b"yyyy-mm-XX",
-    b"yyyy-??-XX",
-];
+pub const DATE_PATTERNS: [&[u8]; 5] = [b"yyyy-mm-dd", b"yyyy-mm-??", b"yyyy-??-??", b"yyyy-mm-XX", b"yyyy-??-XX"];
 pub const TIME_PATTERNS: [&[u8]; 4] = [b"Thh:mm:ss", b"Thh:mm:XX", b"Thh:??:XX", b"Thh:??:??"];
 
 /// The other spelling of `matches`.
@@ -19,64 +13,11 @@ pub const ELEMENT_OF: &[u8] = b"\xE2\x88\x88";
 
 /// Tokens that may turn up at any place when a text is damaged.
 pub const STRANGERS: [&[u8]; 58] = [
-    b"{",
-    b"}",
-    b",",
-    b"*",
-    b"|",
-    b"..",
-    b"<",
-    b">",
-    b"<=",
-    b">=",
-    b"+/-",
-    b"matches",
-    ELEMENT_OF,
-    b"existence",
-    b"True",
-    b"False",
-    b"A",
-    b"a",
-    b"[at0001]",
-    b"[at0001.1]",
-    b"[ at1]",
-    b"[ac1]",
-    b"[at1.]",
-    b"[at]",
-    b"at1",
-    b"0",
-    b"1",
-    b"-1",
-    b"007",
-    b"-0",
-    b"00",
-    b"2147483648",
-    b"2000-02-29",
-    b"1900-02-29",
-    b"0000-00-00",
-    b"2000-1-1",
-    b"\"a\"",
-    b"\"",
-    b"\"\\\"",
-    b"\"\t\"",
-    b"yyyy-mm-dd",
-    b"yyyy-??-mm",
-    b"yyyy-XX-XX",
-    b"Thh:mm:ss",
-    b"Thh:??:ss",
-    b"Thh:mm:??",
-    b"Thh:XX:XX",
-    b"1.5",
-    b"...",
-    b".",
-    b"+",
-    b"/",
-    b"-",
-    b"=",
-    b"_a",
-    b"\x80",
-    b"\xE2\x88",
-    b"\x00",
+    b"{", b"}", b",", b"*", b"|", b"..", b"<", b">", b"<=", b">=", b"+/-", b"matches", ELEMENT_OF, b"existence",
+    b"True", b"False", b"A", b"a", b"[at0001]", b"[at0001.1]", b"[ at1]", b"[ac1]", b"[at1.]", b"[at]", b"at1", b"0",
+    b"1", b"-1", b"007", b"-0", b"00", b"2147483648", b"2000-02-29", b"1900-02-29", b"0000-00-00", b"2000-1-1",
+    b"\"a\"", b"\"", b"\"\\\"", b"\"\t\"", b"yyyy-mm-dd", b"yyyy-??-mm", b"yyyy-XX-XX", b"Thh:mm:ss", b"Thh:??:ss",
+    b"Thh:mm:??", b"Thh:XX:XX", b"1.5", b"...", b".", b"+", b"/", b"-", b"=", b"_a", b"\x80", b"\xE2\x88", b"\x00",
 ];
 
 /// How a shape is spelled.
@@ -118,11 +59,7 @@ fn spell_object(random: &mut Random, object: &Object, how: Spelling, out: &mut T
 
 /// `matches {`, in either spelling.
 fn open(random: &mut Random, how: Spelling, out: &mut Tokens) {
-    out.push(if how.plain || random.one_in(4) {
-        ELEMENT_OF
-    } else {
-        b"matches"
-    });
+    out.push(if how.plain || random.one_in(4) { ELEMENT_OF } else { b"matches" });
     out.push(b"{");
 }
 
@@ -215,14 +152,7 @@ fn spell_integers(random: &mut Random, pair: (i64, i64), how: Spelling, out: &mu
         let middle = (low + high) / 2;
         let width = (high - low) / 2;
         if width <= HIGHEST {
-            return between_bars(
-                out,
-                &[
-                    middle.to_string().as_bytes(),
-                    b"+/-",
-                    width.to_string().as_bytes(),
-                ],
-            );
+            return between_bars(out, &[middle.to_string().as_bytes(), b"+/-", width.to_string().as_bytes()]);
         }
     }
     spell_interval(random, pair, (LOWEST, HIGHEST), i64::to_string_form, out);
@@ -265,13 +195,7 @@ fn spell_dates(random: &mut Random, pair: (i64, i64), how: Spelling, out: &mut T
 }
 
 /// One of the forms of an interval that mean the pair in the range.
-fn spell_interval(
-    random: &mut Random,
-    pair: (i64, i64),
-    range: (i64, i64),
-    form: fn(i64) -> String,
-    out: &mut Tokens,
-) {
+fn spell_interval(random: &mut Random, pair: (i64, i64), range: (i64, i64), form: fn(i64) -> String, out: &mut Tokens) {
     let (low, high) = pair;
     if low == range.0 && random.coin() {
         if high < range.1 && random.coin() {
@@ -304,31 +228,13 @@ fn spell_interval(
 }
 
 const BAD_INTEGERS: [&[u8]; 12] = [
-    b"007",
-    b"-0",
-    b"00",
-    b"-01",
-    b"2147483648",
-    b"-2147483649",
-    b"99999999999999999999",
-    b"4294967296",
-    b"01",
-    b"-99999999999999999999",
-    b"0000000000000000000001",
-    b"18446744073709551616",
+    b"007", b"-0", b"00", b"-01", b"2147483648", b"-2147483649", b"99999999999999999999", b"4294967296", b"01",
+    b"-99999999999999999999", b"0000000000000000000001", b"18446744073709551616",
 ];
 
 const BAD_DATES: [&[u8]; 10] = [
-    b"1900-02-29",
-    b"2001-02-29",
-    b"2000-02-30",
-    b"2000-04-31",
-    b"2000-00-10",
-    b"2000-13-10",
-    b"2000-10-00",
-    b"2000-10-32",
-    b"0000-00-00",
-    b"9999-99-99",
+    b"1900-02-29", b"2001-02-29", b"2000-02-30", b"2000-04-31", b"2000-00-10", b"2000-13-10", b"2000-10-00",
+    b"2000-10-32", b"0000-00-00", b"9999-99-99",
 ];
 
 /// An integer item with a fault, or at the edge of one.

@@ -37,12 +37,7 @@ pub enum Order {
 
 impl Record {
     pub fn new(kind: u8, flag: u8, numbers: [u32; 5]) -> Record {
-        Record {
-            mark: BIG_MARK,
-            kind,
-            flag,
-            numbers,
-        }
+        Record { mark: BIG_MARK, kind, flag, numbers }
     }
 
     /// Little-endian is written only under its own mark; any other mark reads as big-endian.
@@ -65,29 +60,16 @@ impl Record {
         for (index, number) in numbers.iter_mut().enumerate() {
             let at = 4 + 4 * index;
             let four = [bytes[at], bytes[at + 1], bytes[at + 2], bytes[at + 3]];
-            *number = if mark == LITTLE_MARK {
-                u32::from_le_bytes(four)
-            } else {
-                u32::from_be_bytes(four)
-            };
+            *number = if mark == LITTLE_MARK { u32::from_le_bytes(four) } else { u32::from_be_bytes(four) };
         }
-        Record {
-            mark,
-            kind: bytes[2],
-            flag: bytes[3],
-            numbers,
-        }
+        Record { mark, kind: bytes[2], flag: bytes[3], numbers }
     }
 
     /// Writes 24 bytes.
     pub fn write(&self, out: &mut Vec<u8>) {
         out.extend_from_slice(&[self.mark[0], self.mark[1], self.kind, self.flag]);
         for number in self.numbers {
-            let four = if self.is_little() {
-                number.to_le_bytes()
-            } else {
-                number.to_be_bytes()
-            };
+            let four = if self.is_little() { number.to_le_bytes() } else { number.to_be_bytes() };
             out.extend_from_slice(&four);
         }
     }
@@ -108,27 +90,17 @@ impl Table {
     pub fn read(bytes: &[u8]) -> Table {
         let whole = bytes.len() / RECORD;
         if whole == 0 {
-            return Table {
-                records: Vec::new(),
-                pool: bytes.to_vec(),
-            };
+            return Table { records: Vec::new(), pool: bytes.to_vec() };
         }
         let said = Record::read(&bytes[..RECORD]).numbers[0] as usize;
         let count = said.clamp(1, whole);
         let records = bytes.chunks_exact(RECORD).take(count).map(Record::read).collect();
-        Table {
-            records,
-            pool: bytes[RECORD * count..].to_vec(),
-        }
+        Table { records, pool: bytes[RECORD * count..].to_vec() }
     }
 
     /// Sets the header for the records and the pool as they are now.
     pub fn set_header(&mut self, root: u32) {
-        self.records[0] = Record::new(
-            0,
-            0,
-            [self.records.len() as u32, self.pool.len() as u32, root, 0, 0],
-        );
+        self.records[0] = Record::new(0, 0, [self.records.len() as u32, self.pool.len() as u32, root, 0, 0]);
     }
 
     pub fn set_order(&mut self, random: &mut Random, order: Order) {
@@ -160,10 +132,7 @@ pub fn mixed(random: &mut Random, bytes: &[u8]) -> Vec<u8> {
 
 /// The table of a shape, big-endian: records and pool in text order, root 1.
 pub fn table_of(object: &Object) -> Table {
-    let mut table = Table {
-        records: vec![Record::new(0, 0, [0; 5])],
-        pool: Vec::new(),
-    };
+    let mut table = Table { records: vec![Record::new(0, 0, [0; 5])], pool: Vec::new() };
     add_object(&mut table, object);
     table.set_header(1);
     table
@@ -183,11 +152,7 @@ fn add_object(table: &mut Table, object: &Object) {
     let number = table.records.len();
     let (a, b) = add_bytes(table, &object.type_name);
     let (c, d) = add_bytes(table, object.code.as_deref().unwrap_or(b""));
-    let first = if object.attributes.is_empty() {
-        0
-    } else {
-        number as u32 + 1
-    };
+    let first = if object.attributes.is_empty() { 0 } else { number as u32 + 1 };
     table.records.push(Record::new(1, 0, [a, b, c, d, first]));
     for (index, attribute) in object.attributes.iter().enumerate() {
         let own = table.records.len();
@@ -201,14 +166,8 @@ fn add_object(table: &mut Table, object: &Object) {
 fn add_attribute(table: &mut Table, attribute: &Attribute) {
     let own = table.records.len();
     let (a, b) = add_bytes(table, &attribute.name);
-    let below = if attribute.value == Value::Any {
-        0
-    } else {
-        own as u32 + 1
-    };
-    table
-        .records
-        .push(Record::new(2, attribute.existence, [a, b, below, 0, 0]));
+    let below = if attribute.value == Value::Any { 0 } else { own as u32 + 1 };
+    table.records.push(Record::new(2, attribute.existence, [a, b, below, 0, 0]));
     match &attribute.value {
         Value::Any => {}
         Value::Object(object) => add_object(table, object),
@@ -218,13 +177,7 @@ fn add_attribute(table: &mut Table, attribute: &Attribute) {
         }
         Value::Integers(list) => {
             for (index, &(low, high)) in list.iter().enumerate() {
-                add_item(
-                    table,
-                    4,
-                    low as i32 as u32,
-                    high as i32 as u32,
-                    index + 1 < list.len(),
-                );
+                add_item(table, 4, low as i32 as u32, high as i32 as u32, index + 1 < list.len());
             }
         }
         Value::Strings(list) => {
@@ -263,24 +216,16 @@ fn part(table: &Table, place: u32, length: u32) -> Vec<u8> {
 
 fn is_name(bytes: &[u8]) -> bool {
     bytes.first().is_some_and(u8::is_ascii_lowercase)
-        && bytes
-            .iter()
-            .all(|byte| byte.is_ascii_alphanumeric() || *byte == b'_')
+        && bytes.iter().all(|byte| byte.is_ascii_alphanumeric() || *byte == b'_')
 }
 
 fn is_type(bytes: &[u8]) -> bool {
     bytes.first().is_some_and(u8::is_ascii_uppercase)
-        && bytes
-            .iter()
-            .all(|byte| byte.is_ascii_alphanumeric() || *byte == b'_')
+        && bytes.iter().all(|byte| byte.is_ascii_alphanumeric() || *byte == b'_')
 }
 
 fn object_at(table: &Table, number: usize, level: usize, left: &mut usize) -> Object {
-    let mut object = Object {
-        type_name: b"Other".to_vec(),
-        code: None,
-        attributes: Vec::new(),
-    };
+    let mut object = Object { type_name: b"Other".to_vec(), code: None, attributes: Vec::new() };
     let Some(record) = table.records.get(number) else {
         return object;
     };
@@ -295,11 +240,7 @@ fn object_at(table: &Table, number: usize, level: usize, left: &mut usize) -> Ob
         let name = part(table, attribute.numbers[0], attribute.numbers[1]);
         if is_name(&name) {
             let value = value_at(table, attribute.numbers[2] as usize, level, left);
-            object.attributes.push(Attribute {
-                name,
-                existence: attribute.flag.min(2),
-                value,
-            });
+            object.attributes.push(Attribute { name, existence: attribute.flag.min(2), value });
         }
         next = attribute.numbers[3] as usize;
     }
@@ -312,26 +253,17 @@ fn value_at(table: &Table, number: usize, level: usize, left: &mut usize) -> Val
     };
     match record.kind {
         1 if level < 16 => Value::Object(object_at(table, number, level + 1, left)),
-        3 => Value::Booleans(
-            [true, false]
-                .into_iter()
-                .filter(|t| record.flag & (2 - u8::from(*t)) != 0)
-                .collect(),
-        ),
+        3 => Value::Booleans([true, false].into_iter().filter(|t| record.flag & (2 - u8::from(*t)) != 0).collect()),
         4 => Value::Integers(chain(table, number, |r| {
             Some((i64::from(r.numbers[0] as i32), i64::from(r.numbers[1] as i32)))
         })),
         5 => Value::Strings(chain(table, number, |r| {
             let string = part(table, r.numbers[0], r.numbers[1]);
-            let plain = string
-                .iter()
-                .all(|b| matches!(b, 0x20..=0x7E) && *b != b'"' && *b != b'\\');
+            let plain = string.iter().all(|b| matches!(b, 0x20..=0x7E) && *b != b'"' && *b != b'\\');
             plain.then_some(string)
         })),
         6 => Value::DatePattern(record.flag.clamp(1, 5)),
-        7 => Value::Dates(chain(table, number, |r| {
-            Some((unpacked(r.numbers[0])?, unpacked(r.numbers[1])?))
-        })),
+        7 => Value::Dates(chain(table, number, |r| Some((unpacked(r.numbers[0])?, unpacked(r.numbers[1])?)))),
         8 => Value::TimePattern(record.flag.clamp(1, 4)),
         _ => Value::Any,
     }

@@ -40,12 +40,7 @@ fn clean_shapes_compile_to_their_tables() {
     let mut bench = Bench::new(Jobs::library());
     for number in 0..5_000 {
         let case = shape_case(3, number);
-        assert_eq!(
-            case.guarded(&mut bench),
-            Ok(()),
-            "case {number}: {}",
-            show::quoted(&case.parts().0)
-        );
+        assert_eq!(case.guarded(&mut bench), Ok(()), "case {number}: {}", show::quoted(&case.parts().0));
     }
 }
 
@@ -125,37 +120,19 @@ fn single_cases_hold() {
 #[test]
 fn the_shrinker_finds_the_two_bytes_that_matter() {
     let text = b"some text with an x in it, and far behind it a y, and more".to_vec();
-    let case = CompileCase {
-        text,
-        little: true,
-        room: 4_000,
-        fill: 77,
-    };
+    let case = CompileCase { text, little: true, room: 4_000, fill: 77 };
     let small = shrink(&case, 100_000, |case| {
         let x = case.text.iter().position(|byte| *byte == b'x');
         let y = case.text.iter().rposition(|byte| *byte == b'y');
         x.is_some() && x < y && case.room >= 100
     });
-    assert_eq!(
-        small,
-        CompileCase {
-            text: b"xy".to_vec(),
-            little: false,
-            room: 100,
-            fill: 0
-        }
-    );
+    assert_eq!(small, CompileCase { text: b"xy".to_vec(), little: false, room: 100, fill: 0 });
 }
 
 /// Merging that forgets to leave the place of an empty string alone.
 fn merge_that_slips(first: &[u8], second: &[u8], little: bool, out: &mut [u8]) -> MergeAnswer {
     let answer = crate::merge(first, second, little, out);
-    if let MergeAnswer::Done {
-        record_shift,
-        pool_shift,
-        ..
-    } = answer
-    {
+    if let MergeAnswer::Done { record_shift, pool_shift, .. } = answer {
         let count = Record::read(out).numbers[0];
         for number in record_shift + 1..count {
             let at = 24 * number as usize;
@@ -177,9 +154,7 @@ fn a_slip_in_merging_is_found_and_made_small() {
     jobs.merge = merge_that_slips;
     let maker = Maker::new(2);
     let mut bench = Bench::new(jobs);
-    let case = (0..5_000)
-        .map(|number| maker.list(number))
-        .find(|case| bench.run(case).is_err());
+    let case = (0..5_000).map(|number| maker.list(number)).find(|case| bench.run(case).is_err());
     let case = case.expect("the slip is found");
     let small = shrink(&case, 200_000, |case| bench.run(case).is_err());
     assert!(bench.run(&small).is_err());

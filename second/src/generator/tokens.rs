@@ -147,11 +147,7 @@ fn separator(random: &mut Random, out: &mut Vec<u8>, data: bool) {
 /// The inside of a comment: any bytes but line ends.
 fn comment(random: &mut Random, out: &mut Vec<u8>) {
     for _ in 0..random.below(8) {
-        let byte = if random.coin() {
-            random.byte()
-        } else {
-            random.one_of(b"-\"{}|<>* a1")
-        };
+        let byte = if random.coin() { random.byte() } else { random.one_of(b"-\"{}|<>* a1") };
         if byte != b'\r' && byte != b'\n' {
             out.push(byte);
         }

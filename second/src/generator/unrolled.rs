@@ -34,9 +34,7 @@ fn part<'a>(table: &'a Table, record: &Record) -> &'a [u8] {
 }
 
 fn is_run(bytes: &[u8]) -> bool {
-    bytes
-        .iter()
-        .all(|byte| byte.is_ascii_alphanumeric() || *byte == b'_')
+    bytes.iter().all(|byte| byte.is_ascii_alphanumeric() || *byte == b'_')
 }
 
 /// A type that data can write; any other type can only be left out by data, so `Other` stands for it.
@@ -55,11 +53,7 @@ fn object(table: &Table, number: usize, level: usize, numbers: &mut Vec<u32>) ->
     }
     add(numbers, number)?;
     let record = &table.records[number];
-    let mut object = Object {
-        type_name: type_name(part(table, record)),
-        code: None,
-        attributes: Vec::new(),
-    };
+    let mut object = Object { type_name: type_name(part(table, record)), code: None, attributes: Vec::new() };
     let mut next = record.numbers[4] as usize;
     while next != 0 {
         let attribute = attribute(table, next, level, numbers)?;
@@ -84,11 +78,7 @@ fn attribute(table: &Table, number: usize, level: usize, numbers: &mut Vec<u32>)
         0 => Value::Any,
         below => value(table, below, level, numbers)?,
     };
-    Some(Attribute {
-        name: name.to_vec(),
-        existence: record.flag,
-        value,
-    })
+    Some(Attribute { name: name.to_vec(), existence: record.flag, value })
 }
 
 fn value(table: &Table, number: usize, level: usize, numbers: &mut Vec<u32>) -> Option<Value> {
@@ -103,24 +93,12 @@ fn value(table: &Table, number: usize, level: usize, numbers: &mut Vec<u32>) -> 
     let records = items.iter().map(|item| &table.records[*item]);
     Some(match record.kind {
         3 => Value::Booleans(
-            [(1, true), (2, false)]
-                .into_iter()
-                .filter(|t| record.flag & t.0 != 0)
-                .map(|t| t.1)
-                .collect(),
+            [(1, true), (2, false)].into_iter().filter(|t| record.flag & t.0 != 0).map(|t| t.1).collect(),
         ),
-        4 => Value::Integers(apart(
-            records
-                .map(|r| Some((number_of(r, 0), number_of(r, 1))))
-                .collect(),
-        )?),
+        4 => Value::Integers(apart(records.map(|r| Some((number_of(r, 0), number_of(r, 1)))).collect())?),
         5 => Value::Strings(distinct(records.map(|r| part(table, r).to_vec()).collect())?),
         6 => Value::DatePattern(record.flag),
-        7 => Value::Dates(apart(
-            records
-                .map(|r| Some((unpacked(r.numbers[0])?, unpacked(r.numbers[1])?)))
-                .collect(),
-        )?),
+        7 => Value::Dates(apart(records.map(|r| Some((unpacked(r.numbers[0])?, unpacked(r.numbers[1])?))).collect())?),
         _ => Value::TimePattern(record.flag),
     })
 }
@@ -143,19 +121,14 @@ fn items(table: &Table, first: usize) -> Vec<usize> {
 /// The pairs when there are at most 16 and none overlaps another.
 fn apart(pairs: Option<Vec<(i64, i64)>>) -> Option<Vec<(i64, i64)>> {
     let pairs = pairs?;
-    let overlap = pairs
-        .iter()
-        .enumerate()
-        .any(|(at, one)| pairs[..at].iter().any(|two| one.0 <= two.1 && two.0 <= one.1));
+    let overlap =
+        pairs.iter().enumerate().any(|(at, one)| pairs[..at].iter().any(|two| one.0 <= two.1 && two.0 <= one.1));
     (pairs.len() <= 16 && !overlap).then_some(pairs)
 }
 
 /// The strings when there are at most 16, all can be spelled and none equals another.
 fn distinct(list: Vec<Vec<u8>>) -> Option<Vec<Vec<u8>>> {
-    let plain = list
-        .iter()
-        .flatten()
-        .all(|byte| matches!(byte, 0x20..=0x7E) && *byte != b'"' && *byte != b'\\');
+    let plain = list.iter().flatten().all(|byte| matches!(byte, 0x20..=0x7E) && *byte != b'"' && *byte != b'\\');
     let equal = list.iter().enumerate().any(|(at, one)| list[..at].contains(one));
     (list.len() <= 16 && plain && !equal).then_some(list)
 }

@@ -47,18 +47,20 @@ fn add_all(stream: &mut Stream, title: &str, text: &str, data: &str) {
 
 /// Every form of a word, and words that are nearly one.
 const WORDS: [&str; 76] = [
-    "True", "False", "TRUE", "Truex", "0", "-0", "00", "5", "+5", "-5", "-05", "05", "007", "2147483647", "2147483648", "-2147483648", "-2147483649",
-    "99999999999999999999", "0000", "2004", "-2004", "9999", "10000", "2004-05", "2004-5", "2004-00", "2004-13", "2004-05-20", "2004-05-32", "2004-02-29",
-    "1900-02-29", "2000-02-29", "2004-04-31", "2004-05-20x", "00:00", "08", "23", "24", "25", "23:59", "23:60", "24:00", "23:59:59", "23:59:60", "24:00:00",
-    "12:30Z", "12Z", "12+01", "12+13", "12+13:59", "12+14", "12+14:00", "12-12", "12-12:59", "12-13", "12-00", "12-00:00", "12-00:30", "12-00:01", "12+00",
-    "12+00:00", "12:30:15-03:30", "12:30:15+0930", "12:30:15+9", "12:30:15z", "1:30", "12:3", "12.5", "P1D", "2004-05-20T10:00:00", "_x", "-", "+", "5--3",
-    "Tr.ue", "A:B",
+    "True", "False", "TRUE", "Truex", "0", "-0", "00", "5", "+5", "-5", "-05", "05", "007", "2147483647", "2147483648",
+    "-2147483648", "-2147483649", "99999999999999999999", "0000", "2004", "-2004", "9999", "10000", "2004-05",
+    "2004-5", "2004-00", "2004-13", "2004-05-20", "2004-05-32", "2004-02-29", "1900-02-29", "2000-02-29", "2004-04-31",
+    "2004-05-20x", "00:00", "08", "23", "24", "25", "23:59", "23:60", "24:00", "23:59:59", "23:59:60", "24:00:00",
+    "12:30Z", "12Z", "12+01", "12+13", "12+13:59", "12+14", "12+14:00", "12-12", "12-12:59", "12-13", "12-00",
+    "12-00:00", "12-00:30", "12-00:01", "12+00", "12+00:00", "12:30:15-03:30", "12:30:15+0930", "12:30:15+9",
+    "12:30:15z", "1:30", "12:3", "12.5", "P1D", "2004-05-20T10:00:00", "_x", "-", "+", "5--3", "Tr.ue", "A:B",
 ];
 
 /// A leaf of each kind, and `*`.
 const LEAVES: [&str; 20] = [
-    "*", "True", "False", "True, False", "5", "|0..9|, 24", "|>=-5|", "2004, 24", "\"5\"", "\"\"", "yyyy-mm-dd", "yyyy-mm-??", "yyyy-??-??", "yyyy-mm-XX",
-    "yyyy-??-XX", "|2004-05-20..2004-12-31|", "Thh:mm:ss", "Thh:mm:XX", "Thh:??:XX", "Thh:??:??",
+    "*", "True", "False", "True, False", "5", "|0..9|, 24", "|>=-5|", "2004, 24", "\"5\"", "\"\"", "yyyy-mm-dd",
+    "yyyy-mm-??", "yyyy-??-??", "yyyy-mm-XX", "yyyy-??-XX", "|2004-05-20..2004-12-31|", "Thh:mm:ss", "Thh:mm:XX",
+    "Thh:??:XX", "Thh:??:??",
 ];
 
 fn words(stream: &mut Stream) {
@@ -103,8 +105,17 @@ fn members(stream: &mut Stream) {
     }
     for (title, each) in [("shared records", shared()), ("unreached records", unreached())] {
         for number in 0..=each.records.len() as u32 {
-            for data in ["<>", "<b=<b=<5>> c=<b=<9>> d=<1> e=<5> f=<5>>", "<b=<b=<4>> c=<b=<9>> d=<4> e=<5> f=<1>>", "(A)<a=<10>>", "(B)<b=<10>>"] {
-                add(stream, &format!("{title} at {number}, {data}"), &ordered(&each, "bbl").bytes(), number, data.as_bytes());
+            for data in [
+                "<>", "<b=<b=<5>> c=<b=<9>> d=<1> e=<5> f=<5>>", "<b=<b=<4>> c=<b=<9>> d=<4> e=<5> f=<1>>",
+                "(A)<a=<10>>", "(B)<b=<10>>",
+            ] {
+                add(
+                    stream,
+                    &format!("{title} at {number}, {data}"),
+                    &ordered(&each, "bbl").bytes(),
+                    number,
+                    data.as_bytes(),
+                );
             }
         }
     }
@@ -112,10 +123,13 @@ fn members(stream: &mut Stream) {
 
 /// Data texts that are refused, or nearly: blanks and comments, unreadable tokens, repeated names, places.
 const TEXTS: [&str; 52] = [
-    "", " ", "-- only a comment", "<", ">", "<>>", "<> <>", "<> -- behind", "-- before\n<>", "--\r<>", "-<>", "< -- inside\n>", "<a>", "<a=>", "<a=<>", "<a=<5>", "<a=5>", "<a=<5>>x", "<5>",
-    "<\"x\">", "<a=<5 6>>", "<a=<\"x\" \"y\">>", "<a=<\"x>>", "<a=<\"x\\\">>", "<a=<\"\t\">>", "<a=(T)<5>>", "<a=(T)<>>", "<a=(t)<>>", "<a=(True)<>>", "<a=()<>>", "<a=(T<>>", "<a=(T)>", "(T)", "(T",
-    "(T)<a=<5>>", "<A=<5>>", "<a-b=<5>>", "<matches=<5>>", "<existence=<5>>", "<a=<5> a=<6>>", "<a=<5> b=<5> b=<5> a=<5>>", "<a=<a=<5>> b=<a=<5>>>", "<a=<5> a", "<a=<5> a=<", "<a=<b>>", "<a=<bad>>",
-    "<a=<x5>>", "<a = < 5 > >", "<a=<5--c\n>>", "<a=<5 --c\n>>", "<a=<\u{1}>>", "<a=<5>;b=<6>>",
+    "", " ", "-- only a comment", "<", ">", "<>>", "<> <>", "<> -- behind", "-- before\n<>", "--\r<>", "-<>",
+    "< -- inside\n>", "<a>", "<a=>", "<a=<>", "<a=<5>", "<a=5>", "<a=<5>>x", "<5>", "<\"x\">", "<a=<5 6>>",
+    "<a=<\"x\" \"y\">>", "<a=<\"x>>", "<a=<\"x\\\">>", "<a=<\"\t\">>", "<a=(T)<5>>", "<a=(T)<>>", "<a=(t)<>>",
+    "<a=(True)<>>", "<a=()<>>", "<a=(T<>>", "<a=(T)>", "(T)", "(T", "(T)<a=<5>>", "<A=<5>>", "<a-b=<5>>",
+    "<matches=<5>>", "<existence=<5>>", "<a=<5> a=<6>>", "<a=<5> b=<5> b=<5> a=<5>>", "<a=<a=<5>> b=<a=<5>>>",
+    "<a=<5> a", "<a=<5> a=<", "<a=<b>>", "<a=<bad>>", "<a=<x5>>", "<a = < 5 > >", "<a=<5--c\n>>", "<a=<5 --c\n>>",
+    "<a=<\u{1}>>", "<a=<5>;b=<6>>",
 ];
 
 fn texts(stream: &mut Stream) {
@@ -198,15 +212,33 @@ fn long(stream: &mut Stream) {
         add(stream, &format!("a string of {size}"), &any, 1, format!("<a=<\"{}\">>", "s".repeat(size)).as_bytes());
     }
     for size in [1_003, 1_004, 1_005, limits::TEXT - 1, limits::TEXT, limits::TEXT + 1] {
-        add(stream, &format!("a text of {size}, blanks behind"), &any, 1, format!("<>{}", " ".repeat(size - 2)).as_bytes());
-        add(stream, &format!("a text of {size}, one word"), &any, 1, format!("<a=<{}>>", "9".repeat(size - 6)).as_bytes());
+        add(
+            stream,
+            &format!("a text of {size}, blanks behind"),
+            &any,
+            1,
+            format!("<>{}", " ".repeat(size - 2)).as_bytes(),
+        );
+        add(
+            stream,
+            &format!("a text of {size}, one word"),
+            &any,
+            1,
+            format!("<a=<{}>>", "9".repeat(size - 6)).as_bytes(),
+        );
         add(stream, &format!("a text of {size}, unreadable"), &any, 1, "?".repeat(size).as_bytes());
         add(stream, &format!("a text of {size}, members without content"), &any, 1, opened(size).as_bytes());
         add(stream, &format!("a text of {size}, members"), &any, 1, full(size).as_bytes());
     }
     for objects in [16, 17, 40] {
         for levels in [16, 17] {
-            add(stream, &format!("{levels} levels under a chain of {objects}"), &chain(objects).bytes(), 1, nested(levels, "").as_bytes());
+            add(
+                stream,
+                &format!("{levels} levels under a chain of {objects}"),
+                &chain(objects).bytes(),
+                1,
+                nested(levels, "").as_bytes(),
+            );
         }
     }
 }

@@ -89,7 +89,9 @@ fn worked_checks(stream: &mut Stream) {
         add_check(stream, &format!("check, smallest cut to {length}"), &whole[..length]);
     }
     add_check(stream, "check, smallest and a byte more", &[&whole[..], b"A"].concat());
-    for (at, byte) in [(0, 0x00), (2, 1), (3, 1), (19, 1), (23, 1), (7, 1), (11, 2), (15, 0), (15, 2), (26, 2), (24, 0), (27, 1)] {
+    for (at, byte) in
+        [(0, 0x00), (2, 1), (3, 1), (19, 1), (23, 1), (7, 1), (11, 2), (15, 0), (15, 2), (26, 2), (24, 0), (27, 1)]
+    {
         let mut bytes = whole.clone();
         bytes[at] = byte;
         add_check(stream, &format!("check, smallest with byte {at} = {byte:02X}"), &bytes);
@@ -120,14 +122,27 @@ fn record_cases() -> Vec<(String, Table)> {
     for (low, high) in [(u32::MAX, 0), (0, u32::MAX), (0x8000_0000, 0x7FFF_FFFF), (5, 5), (6, 5)] {
         add(format!("integers {low} to {high}"), under(&[record(4, 0, [low, high, 0, 0, 0])], b"Aa"));
     }
-    for (low, high) in [(101, 99_991_231), (100, 101), (20_000_229, 20_000_229), (19_000_229, 19_000_301), (20_040_430, 20_040_431), (99_991_231, 99_991_232), (20_050_101, 20_041_231)] {
+    for (low, high) in [
+        (101, 99_991_231),
+        (100, 101),
+        (20_000_229, 20_000_229),
+        (19_000_229, 19_000_301),
+        (20_040_430, 20_040_431),
+        (99_991_231, 99_991_232),
+        (20_050_101, 20_041_231),
+    ] {
         add(format!("dates {low} to {high}"), under(&[record(7, 0, [low, high, 0, 0, 0])], b"Aa"));
     }
-    for (place, length) in [(0, 0), (1, 0), (2, 0), (0, 2), (1, 1), (1, 2), (2, 1), (u32::MAX, 1), (u32::MAX, 2), (0, 255), (0, 256)] {
+    for (place, length) in
+        [(0, 0), (1, 0), (2, 0), (0, 2), (1, 1), (1, 2), (2, 1), (u32::MAX, 1), (u32::MAX, 2), (0, 255), (0, 256)]
+    {
         add(format!("string at {place} of {length}"), under(&[record(5, 0, [place, length, 0, 0, 0])], b"Aa"));
     }
     for link in [0, 1, 2, 3, 4, 5, u32::MAX] {
-        add(format!("item linked to {link}"), under(&[record(4, 0, [1, 2, 0, 0, link]), record(4, 0, [3, 4, 0, 0, 0])], b"Aa"));
+        add(
+            format!("item linked to {link}"),
+            under(&[record(4, 0, [1, 2, 0, 0, link]), record(4, 0, [3, 4, 0, 0, 0])], b"Aa"),
+        );
     }
     for (field, letter) in ["a", "b", "c", "d", "e"].into_iter().enumerate() {
         for kind in [3, 6, 8] {
@@ -145,7 +160,12 @@ fn worked_names(stream: &mut Stream) {
     for (title, each) in named() {
         for (order, pattern) in ORDERS {
             for number in 0..=each.records.len() as u32 {
-                add_name(stream, &format!("name of {number}, {title}, {order}"), &ordered(&each, pattern).bytes(), number);
+                add_name(
+                    stream,
+                    &format!("name of {number}, {title}, {order}"),
+                    &ordered(&each, pattern).bytes(),
+                    number,
+                );
             }
         }
     }
@@ -219,7 +239,11 @@ fn limit_checks(stream: &mut Stream) {
     let most = plain(limits::RECORDS, limits::POOL);
     add_check(stream, "check, the largest table", &most.bytes());
     let last = limits::RECORDS - 1;
-    add_check(stream, "check, the largest table, its last record broken", &changed(&most, last, |record| record.flag = 1).bytes());
+    add_check(
+        stream,
+        "check, the largest table, its last record broken",
+        &changed(&most, last, |record| record.flag = 1).bytes(),
+    );
     add_name(stream, "name of the last record of the largest table", &most.bytes(), last as u32);
 }
 
@@ -239,8 +263,22 @@ fn limit_merges(stream: &mut Stream) {
         let all = needed(&first, &second).min(65_536);
         for little in [false, true] {
             let order = if little { "little" } else { "big" };
-            add_merge(stream, &format!("merge to {title}, {order}"), &first.bytes(), &second.bytes(), little, &room(all));
-            add_merge(stream, &format!("merge to {title}, {order}, one byte short"), &first.bytes(), &second.bytes(), little, &room(all - 1));
+            add_merge(
+                stream,
+                &format!("merge to {title}, {order}"),
+                &first.bytes(),
+                &second.bytes(),
+                little,
+                &room(all),
+            );
+            add_merge(
+                stream,
+                &format!("merge to {title}, {order}, one byte short"),
+                &first.bytes(),
+                &second.bytes(),
+                little,
+                &room(all - 1),
+            );
         }
     }
 }
@@ -258,6 +296,13 @@ fn generated(stream: &mut Stream) {
     let short = |case: &MergeCase| case.first.len().max(case.second.len()) <= LONGEST && case.room <= 2 * LONGEST;
     let merges = (0..).map(|number| (number, maker.merge(number))).filter(|(_, case)| short(case));
     for (number, case) in merges.take(MERGES) {
-        add_merge(stream, &format!("merge {number}"), &case.first, &case.second, case.little, &filling(case.fill, case.room));
+        add_merge(
+            stream,
+            &format!("merge {number}"),
+            &case.first,
+            &case.second,
+            case.little,
+            &filling(case.fill, case.room),
+        );
     }
 }

@@ -108,24 +108,152 @@ const TEXTS: &[&str] = &[
 /// Leaves of documents 01 and 001, and leaves that are nearly one.
 const LEAVES: &[&str] = &[
     // 001: Boolean, String, Integer
-    "True", "False", "True, False", "True, False; False", "'r'", "'r', 'g', 'b'", "/[rgbcmyk]/", "\"platypus\"", "\"platypus\", \"kangaroo\"", "\"platypus\", \"kangaroo\", \"wombat\"",
-    "/regular expression/", "^regular expression^", "1000", "0, 5, 8", "0", "|1000|", "|950..1050|", "|0..1000|", "|0..<1000|", "|>0..<1000|", "|100+/-5|", "|<10|", "|>10|", "|<=10|", "|>=10|",
-    "|>=10|;5", "5, |10..100|, 150, |200..400|, 1000", "|0..10|", "|0..10|, |60..90|, |>500|", "|0..60|, |60..90|, |90..110|, |110..130|, |>130|", "50, 60, 70, 80, 100, 130",
+    "True",
+    "False",
+    "True, False",
+    "True, False; False",
+    "'r'",
+    "'r', 'g', 'b'",
+    "/[rgbcmyk]/",
+    "\"platypus\"",
+    "\"platypus\", \"kangaroo\"",
+    "\"platypus\", \"kangaroo\", \"wombat\"",
+    "/regular expression/",
+    "^regular expression^",
+    "1000",
+    "0, 5, 8",
+    "0",
+    "|1000|",
+    "|950..1050|",
+    "|0..1000|",
+    "|0..<1000|",
+    "|>0..<1000|",
+    "|100+/-5|",
+    "|<10|",
+    "|>10|",
+    "|<=10|",
+    "|>=10|",
+    "|>=10|;5",
+    "5, |10..100|, 150, |200..400|, 1000",
+    "|0..10|",
+    "|0..10|, |60..90|, |>500|",
+    "|0..60|, |60..90|, |90..110|, |110..130|, |>130|",
+    "50, 60, 70, 80, 100, 130",
     // 001: Real, dates, times, durations, codes
-    "5.5", "|5.5|", "|80.0+/-12.0|", "|1998-09-20|", "|1998-09-20..2004-10-20|", "|>=1998-09-20|", "|<1998-09-20|", "yyyy-mm-dd", "yyyy-mm-??", "yyyy-??-??", "yyyy-mm-XX", "yyyy-??-XX", "Thh:mm:ss",
-    "Thh:mm:XX", "Thh:??:XX", "Thh:??:??", "yyyy-mm-ddThh:mm:ss", "yyyy-mm-dd, yyyy-mm-??", "Pd", "P1D", "|P1D|", "[at1]", "[ac1]", "[ac1; at2]", "2004-05-20", "2004-05-20T10:00:00",
+    "5.5",
+    "|5.5|",
+    "|80.0+/-12.0|",
+    "|1998-09-20|",
+    "|1998-09-20..2004-10-20|",
+    "|>=1998-09-20|",
+    "|<1998-09-20|",
+    "yyyy-mm-dd",
+    "yyyy-mm-??",
+    "yyyy-??-??",
+    "yyyy-mm-XX",
+    "yyyy-??-XX",
+    "Thh:mm:ss",
+    "Thh:mm:XX",
+    "Thh:??:XX",
+    "Thh:??:??",
+    "yyyy-mm-ddThh:mm:ss",
+    "yyyy-mm-dd, yyyy-mm-??",
+    "Pd",
+    "P1D",
+    "|P1D|",
+    "[at1]",
+    "[ac1]",
+    "[ac1; at2]",
+    "2004-05-20",
+    "2004-05-20T10:00:00",
     // Booleans
-    "False, True", "True, True", "True, False, True", "True, 5", "True False", "TRUE", "true",
+    "False, True",
+    "True, True",
+    "True, False, True",
+    "True, 5",
+    "True False",
+    "TRUE",
+    "true",
     // integers
-    "-0", "00", "007", "-5", "- 5", "+5", "2147483647", "2147483648", "-2147483648", "-2147483649", "99999999999999999999", "5--3", "5 -- 3\n", "5,", ",5", "5 6", "5, 5", "5, |5..9|", "|5..9|, 5", "|5..9|, 10",
-    "|5..9|, |9..12|", "5, \"a\"", "5, |2004-01-01|", "|5..4|", "|5..5|", "|>5..<6|", "|>0..<1|", "|>5..6|", "|>2147483647|", "|<-2147483648|", "|>=2147483647|", "|<=-2147483648|", "|0..<-2147483648|",
-    "|100+/--5|", "|100+/-0|", "|2147483647+/-1|", "|-2147483648+/-1|", "|0+/-2147483647|", "|-1+/-2147483647|", "|0+/--2147483648|", "|5 .. 9|", "| 5 |", "|5..9", "|5..|", "|..5|", "|5...9|", "|5..<=9|", "|5..>9|",
-    "||", "|*|", "|007|", "|5..007|", "|5+/-007|", "|5+/-|",
+    "-0",
+    "00",
+    "007",
+    "-5",
+    "- 5",
+    "+5",
+    "2147483647",
+    "2147483648",
+    "-2147483648",
+    "-2147483649",
+    "99999999999999999999",
+    "5--3",
+    "5 -- 3\n",
+    "5,",
+    ",5",
+    "5 6",
+    "5, 5",
+    "5, |5..9|",
+    "|5..9|, 5",
+    "|5..9|, 10",
+    "|5..9|, |9..12|",
+    "5, \"a\"",
+    "5, |2004-01-01|",
+    "|5..4|",
+    "|5..5|",
+    "|>5..<6|",
+    "|>0..<1|",
+    "|>5..6|",
+    "|>2147483647|",
+    "|<-2147483648|",
+    "|>=2147483647|",
+    "|<=-2147483648|",
+    "|0..<-2147483648|",
+    "|100+/--5|",
+    "|100+/-0|",
+    "|2147483647+/-1|",
+    "|-2147483648+/-1|",
+    "|0+/-2147483647|",
+    "|-1+/-2147483647|",
+    "|0+/--2147483648|",
+    "|5 .. 9|",
+    "| 5 |",
+    "|5..9",
+    "|5..|",
+    "|..5|",
+    "|5...9|",
+    "|5..<=9|",
+    "|5..>9|",
+    "||",
+    "|*|",
+    "|007|",
+    "|5..007|",
+    "|5+/-007|",
+    "|5+/-|",
     // strings
-    "\"\"", "\"a\", \"b\", \"a\"", "\"\", \"\"", "\"unclosed", "\"a\\\"b\"", "\"a\tb\"", "\"~ !\"", "\"a\" \"b\"", "\"a\", 5",
+    "\"\"",
+    "\"a\", \"b\", \"a\"",
+    "\"\", \"\"",
+    "\"unclosed",
+    "\"a\\\"b\"",
+    "\"a\tb\"",
+    "\"~ !\"",
+    "\"a\" \"b\"",
+    "\"a\", 5",
     // dates
-    "|2004-12-31..<2005-01-02|", "|>2004-12-31..2005-01-02|", "|>2004-02-28..<2004-03-01|", "|>2003-02-28..<2003-03-01|", "|2004-02-30|", "|1900-02-29|", "|2000-02-29|", "|>9999-12-31|", "|<0000-01-01|", "|<=0000-01-01|",
-    "|2004-01-01+/-5|", "|2004-01-01..5|", "|2004-01-01|, |2004-01-01|", "|2004-01-01|, 5",
+    "|2004-12-31..<2005-01-02|",
+    "|>2004-12-31..2005-01-02|",
+    "|>2004-02-28..<2004-03-01|",
+    "|>2003-02-28..<2003-03-01|",
+    "|2004-02-30|",
+    "|1900-02-29|",
+    "|2000-02-29|",
+    "|>9999-12-31|",
+    "|<0000-01-01|",
+    "|<=0000-01-01|",
+    "|2004-01-01+/-5|",
+    "|2004-01-01..5|",
+    "|2004-01-01|, |2004-01-01|",
+    "|2004-01-01|, 5",
 ];
 
 fn worked(stream: &mut Stream) {
@@ -150,7 +278,13 @@ fn tokens(stream: &mut Stream) {
             ("behind a comment's dashes", b"A matches {*}--", b"\nx"),
         ];
         for (place, front, back) in places {
-            add(stream, &format!("byte {byte:02X} {place}"), &[front, &[byte], back].concat(), byte % 2 == 1, &filling(FILL, 200));
+            add(
+                stream,
+                &format!("byte {byte:02X} {place}"),
+                &[front, &[byte], back].concat(),
+                byte % 2 == 1,
+                &filling(FILL, 200),
+            );
         }
     }
 }
@@ -177,12 +311,20 @@ fn items(stream: &mut Stream) {
     let list = |count: usize, item: &dyn Fn(usize) -> String| (0..count).map(item).collect::<Vec<_>>().join(", ");
     for count in [1, 2, 15, 16, 17, 18] {
         add_text(stream, &format!("{count} integers"), &under(&list(count, &|n| format!("{}", n * 3))));
-        add_text(stream, &format!("{count} intervals"), &under(&list(count, &|n| format!("|{}..{}|", n * 3, n * 3 + 1))));
+        add_text(
+            stream,
+            &format!("{count} intervals"),
+            &under(&list(count, &|n| format!("|{}..{}|", n * 3, n * 3 + 1))),
+        );
         add_text(stream, &format!("{count} strings"), &under(&list(count, &|n| format!("\"s{n}\""))));
         add_text(stream, &format!("{count} dates"), &under(&list(count, &|n| format!("|{:04}-01-01|", n + 1))));
     }
     for last in ["007", "|007|", "|5", "|5..9|", "\"a\"", "*", "True", "0"] {
-        add_text(stream, &format!("a 17th item {last}"), &under(&format!("{}, {last}", list(16, &|n| format!("{}", n * 3)))));
+        add_text(
+            stream,
+            &format!("a 17th item {last}"),
+            &under(&format!("{}, {last}", list(16, &|n| format!("{}", n * 3)))),
+        );
     }
     let long = format!("\"{}\"", "s".repeat(256));
     add_text(stream, "a 17th string of 256", &under(&format!("{}, {long}", list(16, &|n| format!("\"s{n}\"")))));
@@ -199,7 +341,11 @@ fn levels(stream: &mut Stream) {
             add_text(stream, &format!("{levels} levels and {inside}"), &nested(levels, inside));
         }
     }
-    add_text(stream, "a 17th level of 64 bytes", &nested(16, &format!("a matches {{{} matches {{*}}}}", "T".repeat(64))));
+    add_text(
+        stream,
+        "a 17th level of 64 bytes",
+        &nested(16, &format!("a matches {{{} matches {{*}}}}", "T".repeat(64))),
+    );
 }
 
 /// The name of an attribute by its number: of one letter, then of two, and so on.
@@ -222,7 +368,11 @@ fn wide(count: usize) -> String {
     let mut number = 0;
     while left > 0 {
         let items = if left >= 17 { 16 } else { left - 1 };
-        let leaf = if items == 0 { String::from("*") } else { (0..items).map(|item| item.to_string()).collect::<Vec<_>>().join(",") };
+        let leaf = if items == 0 {
+            String::from("*")
+        } else {
+            (0..items).map(|item| item.to_string()).collect::<Vec<_>>().join(",")
+        };
         text.push_str(&format!("{}\u{2208}{{{leaf}}}", name_of(number)));
         left -= 1 + items;
         number += 1;
@@ -241,7 +391,13 @@ fn records(stream: &mut Stream) {
     let full = wide(limits::RECORDS);
     let full = &full[..full.len() - 1];
     for more in ["zz matches {*}", "zz", "a matches {*}", "zz matches {5}", "?", ""] {
-        add(stream, &format!("2,048 records and {more}"), format!("{full} {more}}}").as_bytes(), false, &filling(FILL, 100));
+        add(
+            stream,
+            &format!("2,048 records and {more}"),
+            format!("{full} {more}}}").as_bytes(),
+            false,
+            &filling(FILL, 100),
+        );
     }
 }
 
@@ -250,7 +406,13 @@ fn outputs(stream: &mut Stream) {
         let needed = compiled(text).bytes().len();
         for room in [0, 1, needed - 1, needed, needed + 1, needed + 50] {
             for little in [false, true] {
-                add(stream, &format!("{text} into {room} bytes, little {little}"), text.as_bytes(), little, &filling(FILL, room));
+                add(
+                    stream,
+                    &format!("{text} into {room} bytes, little {little}"),
+                    text.as_bytes(),
+                    little,
+                    &filling(FILL, room),
+                );
             }
         }
     }
@@ -292,7 +454,14 @@ fn lists(stream: &mut Stream) {
                         short: (pattern + 2 * at) % 7 == 0,
                     })
                     .collect();
-                run(stream, &format!("list {number}.{pattern} from {}", if start { "little" } else { "big" }), text, start, &steps, data);
+                run(
+                    stream,
+                    &format!("list {number}.{pattern} from {}", if start { "little" } else { "big" }),
+                    text,
+                    start,
+                    &steps,
+                    data,
+                );
             }
         }
     }
@@ -304,9 +473,16 @@ fn judge_all(stream: &mut Stream, title: &str, table: &[u8], root: u32, data: &[
         let answer = match judge(table, root, text.as_bytes()) {
             JudgeAnswer::Valid => String::from(" valid"),
             JudgeAnswer::Refused { number, place } => format!(" refused {number} at {place}"),
-            JudgeAnswer::Verdict { reason, record, place } => format!(" reason {reason}, record {record}, place {place}"),
+            JudgeAnswer::Verdict { reason, record, place } => {
+                format!(" reason {reason}, record {record}, place {place}")
+            }
         };
-        stream.add(&Head { kind: b'j', little: false, number: root }, &format!("{title}, {text}"), &[text.as_bytes()], &answer);
+        stream.add(
+            &Head { kind: b'j', little: false, number: root },
+            &format!("{title}, {text}"),
+            &[text.as_bytes()],
+            &answer,
+        );
     }
 }
 
@@ -326,7 +502,9 @@ fn run(stream: &mut Stream, title: &str, text: &str, little: bool, steps: &[Step
         let mut out = filling(FILL, room);
         let merged = merge(first, second, step.little, &mut out);
         let answer = match merged {
-            MergeAnswer::Done { length, record_shift, pool_shift } => format!(" length {length}, shifts {record_shift} and {pool_shift}"),
+            MergeAnswer::Done { length, record_shift, pool_shift } => {
+                format!(" length {length}, shifts {record_shift} and {pool_shift}")
+            }
             MergeAnswer::Refused { number, place, table } => format!(" refused {number} at {place}, table {table}"),
         };
         let kind = if step.first { b'f' } else { b'm' };

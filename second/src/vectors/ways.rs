@@ -33,7 +33,13 @@ fn ladder(objects: u32, width: u32) -> Table {
 fn ladders(stream: &mut Stream) {
     let wide = ladder(17, 119).bytes();
     for (root, inside) in [(1, ""), (121, "a=<5>"), (121, "a=<6>")] {
-        add(stream, &format!("16 levels and {inside} at {root}, 119 ways a level"), &wide, root, nested(limits::LEVELS, inside).as_bytes());
+        add(
+            stream,
+            &format!("16 levels and {inside} at {root}, 119 ways a level"),
+            &wide,
+            root,
+            nested(limits::LEVELS, inside).as_bytes(),
+        );
     }
     let narrow = ordered(&ladder(17, 9), "lbb").bytes();
     for root in [1, 11] {
@@ -162,10 +168,14 @@ fn forked(levels: u32, inside: &str, last: &str) -> String {
 }
 
 fn lists(stream: &mut Stream) {
-    for (levels, width, kind, good) in [(3, 20, 4, "v=<5>"), (3, 20, 5, "v=<\"5\">"), (8, 1_000, 4, "v=<5>"), (8, 1_000, 5, "v=<\"5\">")] {
+    for (levels, width, kind, good) in
+        [(3, 20, 4, "v=<5>"), (3, 20, 5, "v=<\"5\">"), (8, 1_000, 4, "v=<5>"), (8, 1_000, 5, "v=<\"5\">")]
+    {
         let table = ordered(&listed(levels, width, kind), "lb").bytes();
         for last in [good, "v=<4>", "v=<\"A\">", "v=<>", "w=<4>"] {
-            let title = format!("{levels} levels of two blocks, {last} in the last, by {width} attributes into a list of kind {kind}");
+            let title = format!(
+                "{levels} levels of two blocks, {last} in the last, by {width} attributes into a list of kind {kind}"
+            );
             add(stream, &title, &table, 1, forked(levels, good, last).as_bytes());
         }
     }
