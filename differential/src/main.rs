@@ -6,12 +6,8 @@
 //! It prints how often each number was met, and ends with 1 at a difference, with the shortest case found that shows it.
 //! With `--exact` each part is lent as a heap block of its own length, for a run under a memory checker.
 
-mod compare;
-mod lent;
-mod told;
-
-use compare::{Agreement, Compared, Desk};
-use lent::Lending;
+use differential::compare::{Agreement, Compared, Desk};
+use differential::lent::Lending;
 use second::generator::{law::Jobs, lines, show, shrink, Counts, Maker, Smaller};
 use std::panic::{catch_unwind, AssertUnwindSafe};
 use std::process::ExitCode;

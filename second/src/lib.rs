@@ -8,6 +8,7 @@ mod calendar;
 mod compile;
 mod constraint;
 mod data;
+pub mod decisions;
 pub mod examples;
 mod faults;
 pub mod generator;
