@@ -82,7 +82,7 @@ impl<'a> Log<'a> {
     }
 
     /// Whether the prover has judged the crate, and refused it.
-    pub fn refuses(&self) -> bool {
+    fn refuses(&self) -> bool {
         self.text.lines().any(|line| line.starts_with("logic=not-proved"))
     }
 
@@ -90,17 +90,39 @@ impl<'a> Log<'a> {
         self.text.lines().last().unwrap_or("")
     }
 
-    pub fn finding(&self, function: &str) -> Option<Finding> {
+    fn finding(&self, function: &str) -> Option<Finding> {
         self.findings.get(function).copied()
     }
 
     /// The functions that are not proved by themselves.
-    pub fn unproved(&self) -> BTreeSet<String> {
+    fn unproved(&self) -> BTreeSet<String> {
         of_kind(&self.findings, Finding::Unproved)
     }
 
+    /// Whether the check, made with edits of the functions named, shows that the edit of one of them is refused as it must be; else what it shows instead.
+    pub fn refusal(&self, function: &str, named: &[&str], proofs: &Proofs) -> Result<(), String> {
+        if !self.refuses() {
+            return Err(format!("the prover does not refuse it: {}", self.last_line()));
+        }
+        let named: BTreeSet<String> = named.iter().flat_map(|function| proofs.together(function)).collect();
+        let others: Vec<String> = self.unproved().difference(&named).cloned().collect();
+        if !others.is_empty() {
+            return Err(format!("what is not proved by itself, though it is not named, is {}", others.join(" ")));
+        }
+        for function in proofs.together(function) {
+            match self.finding(&function) {
+                Some(Finding::Unproved) => {}
+                Some(Finding::Proved) => return Err(format!("the prover does not refuse it: {function} is proved")),
+                Some(Finding::Caller) => return Err(format!("{function} is told as a caller alone")),
+                None => return Err(format!("nothing is said of {function}")),
+            }
+        }
+        self.misfit(function, proofs)
+            .map_or(Ok(()), |said| Err(format!("what is said first of its proof is no fact: {said}")))
+    }
+
     /// What is said first of a function's proof, where that is not that a fact has no proof: then only the proof no longer fits the code.
-    pub fn misfit(&self, function: &str, proofs: &Proofs) -> Option<String> {
+    fn misfit(&self, function: &str, proofs: &Proofs) -> Option<String> {
         let proof = format!("crates/{}/proofs/{}/Proof.antt:", self.crate_name, proofs.folder(function));
         let own = format!("fn {}::{function}: no proof: ", self.crate_name);
         let said = self
@@ -185,6 +207,26 @@ logic=not-proved";
         assert_eq!(log.misfit("made", &proofs), None);
         assert!(log.misfit("walk::down", &proofs).is_some_and(|said| said.contains("differ")));
         assert!(log.misfit("over", &proofs).is_some());
+    }
+
+    #[test]
+    fn edits_of_a_set_are_refused_each_for_itself() {
+        let proofs = proofs();
+        let log = Log::of("small", SAID, &proofs);
+        let named = ["add", "made", "walk::up", "low", "over"];
+        assert_eq!(log.refusal("add", &named, &proofs), Ok(()));
+        assert_eq!(log.refusal("made", &named, &proofs), Ok(()));
+        assert!(log.refusal("walk::up", &named, &proofs).is_err_and(|why| why.contains("no fact")));
+        // an edit that changes nothing, and one that another hides
+        assert!(log.refusal("low", &named, &proofs).is_err_and(|why| why.contains("low is proved")));
+        assert!(log.refusal("over", &named, &proofs).is_err_and(|why| why.contains("as a caller alone")));
+    }
+
+    #[test]
+    fn a_function_that_fails_and_is_not_named_spoils_the_set() {
+        let proofs = proofs();
+        let log = Log::of("small", SAID, &proofs);
+        assert!(log.refusal("add", &["add", "walk::up"], &proofs).is_err_and(|why| why.ends_with("is made")));
     }
 
     #[test]

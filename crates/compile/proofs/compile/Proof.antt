@@ -11,7 +11,8 @@ returns-3 c =
     let short = c .before .before .before .before .before .before .before .before .before .before .before .before .before .if1 .left in
     let d = c .before .before .before .before .before .before .before .before .before .read-object .ensures in
     let g = c .before .before .before .before .before .before .before .q .given .1 in
-    compile-done _ short _ _ _ _ _ _ _ _ _ d _ g (c .before .before .finish .result) _ (length-replicate {A = ℕ} 49_152 0) (length-replicate {A = ℕ} 16_384 0) (c .before .before .finish .ensures)
+    let e = c .before .before .finish .ensures in
+    search (compile-done, length-replicate)
 
 pub compile-spec : {M : Type 1} → statement M
 compile-spec =

@@ -11,10 +11,10 @@
 //! only that counts.
 
 use gate::edits::{self, Edit};
-use gate::said::{Finding, Log, Proofs};
+use gate::said::{Log, Proofs};
 use gate::sets::sets;
 use gate::sources::Sources;
-use std::collections::{BTreeMap, BTreeSet};
+use std::collections::BTreeMap;
 use std::fs;
 use std::io;
 use std::os::unix::fs::symlink;
@@ -234,29 +234,8 @@ impl<'a> Desk<'a> {
         if made.is_empty() {
             return Ok(vec![if log.proves() { Ok(()) } else { Err(log.last_line().to_string()) }]);
         }
-        Ok(made.iter().map(|edit| self.verdict(&log, edit, made)).collect())
-    }
-
-    /// Whether a check shows that one of the edits made is refused as it must be.
-    fn verdict(&self, log: &Log, edit: &Edit, made: &[&Edit]) -> Verdict {
-        if !log.refuses() {
-            return Err(format!("the prover does not refuse it: {}", log.last_line()));
-        }
-        let named: BTreeSet<String> = made.iter().flat_map(|edit| self.proofs.together(function_of(edit))).collect();
-        let others: Vec<String> = log.unproved().difference(&named).cloned().collect();
-        if !others.is_empty() {
-            return Err(format!("what is not proved by itself, though it is not named, is {}", others.join(" ")));
-        }
-        for function in self.proofs.together(function_of(edit)) {
-            match log.finding(&function) {
-                Some(Finding::Unproved) => {}
-                Some(Finding::Proved) => return Err(format!("the prover does not refuse it: {function} is proved")),
-                Some(Finding::Caller) => return Err(format!("{function} is told as a caller alone")),
-                None => return Err(format!("nothing is said of {function}")),
-            }
-        }
-        log.misfit(function_of(edit), &self.proofs)
-            .map_or(Ok(()), |said| Err(format!("what is said first of its proof is no fact: {said}")))
+        let named: Vec<&str> = made.iter().map(|edit| function_of(edit)).collect();
+        Ok(named.iter().map(|function| log.refusal(function, &named, &self.proofs)).collect())
     }
 
     /// Puts back what a check wrote into what the incremental check knows.

@@ -19,10 +19,22 @@ abbrev μ-names : tie.MeasureT-names
 μ-names s tape first end start stop n₀ again₀ n again = end - n
 
 loop-less : tie.Need-loop-less Inv-loop μ-loop Inv-names μ-names
-loop-less c = letters-less _ _ _ _ _ _ _ _ _ _ _ (c .before .before .before .before .loop .inv) _ _ (c .before .before .before .letter .ensures) (c .before .before .letter2 .ensures) (c .before .if1 .left) (c .if2 .left)
+loop-less c =
+    let i = c .before .before .before .before .loop .inv in
+    let x = c .before .before .before .letter .ensures in
+    let y = c .before .before .letter2 .ensures in
+    let same = c .before .if1 .left in
+    let on = c .if2 .left in
+    search letters-less
 
 loop-again : tie.Need-loop-again Inv-loop μ-loop Inv-names μ-names
-loop-again c = letters-on _ _ _ _ _ _ _ _ _ _ _ (c .before .before .before .before .loop .inv) _ _ (c .before .before .before .letter .ensures) (c .before .before .letter2 .ensures) (c .before .if1 .left) (c .if2 .left)
+loop-again c =
+    let i = c .before .before .before .before .loop .inv in
+    let x = c .before .before .before .letter .ensures in
+    let y = c .before .before .letter2 .ensures in
+    let same = c .before .if1 .left in
+    let on = c .if2 .left in
+    search letters-on
 
 names-less : tie.Need-names-less Inv-loop μ-loop Inv-names μ-names
 names-less c = steps.names-less _ _ _ _ _ _ _ _ _ _ _ (c .before .before .before .before .loop .inv) _ _ (c .before .before .before .letter .ensures) (c .before .before .letter2 .ensures) _ (c .number3 .ensures)

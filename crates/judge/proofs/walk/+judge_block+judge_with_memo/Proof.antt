@@ -115,7 +115,9 @@ judge-block-may-visit-requires t c κs = search needs
 judge-block-judge-with-memo-requires : (t : ℕ) → judge-block-lts.Need-judge-with-memo-requires (judge-block-calls t) (judge-block-at t) judge-block.Post judge-block-Inv-loop judge-block-μ-loop
 judge-block-judge-with-memo-requires t c κs =
     let l = c .before .before .before .before .before .before .before in
-    (memo-fall _ _ _ _ _ _ _ _ _ _ _ _ _ (l .loop .inv) _ _ (c .before .may-visit .ensures .0) (c .if3 .taken) _ t (l .before .before .memo .given) (l .before .before .before .before .before .before .before .before .before .before .before .before .before .pre .0), l .loop .inv .under)
+    let falls = memo-fall _ _ _ _ _ _ _ _ _ _ _ _ _ (l .loop .inv) _ _ (c .before .may-visit .ensures .0) (c .if3 .taken) _ t (l .before .before .memo .given) (l .before .before .before .before .before .before .before .before .before .before .before .before .before .pre .0) in
+    let under = l .loop .inv .under in
+    (search falls, search under)
 
 judge-block-same-length : (t : ℕ) → judge-block-lts.Need-same-length (judge-block-calls t) (judge-block-at t) judge-block.Post judge-block-Inv-loop judge-block-μ-loop
 judge-block-same-length t c =

@@ -1,6 +1,8 @@
 -- `table::records::read` meets its contract. Assumes nothing.
 use Rattle.table.proofs.RecordSteps.{read-ordered}
+use Prim.Native.Nat.{ℕ, _<_}
 use native.Mathlib.Omega.{arith}
+use lib.ListN.{getD}
 use borrow.Author.Needs.{needs}
 use Rattle.table.proofs.records.read.Statement.{statement}
 use Rattle.table.proofs.records.read.Tie as tie
@@ -13,7 +15,16 @@ returns c =
     let c2 = c3 .before in
     let c1 = c2 .before in
     let l = c1 .before .before .before in
-    read-ordered _ _ _ _ _ _ _ _ _ (l .is-little .ensures) (c1 .get32 .ensures) (c2 .get322 .ensures) (c3 .get323 .ensures) (c4 .get324 .ensures) (c5 .get325 .ensures) (c .ordered .ensures) (l .before .before .pre) (λ i. omega (arith, l .before .shared-slice-known .given i))
+    let little = l .is-little .ensures in
+    let ea = c1 .get32 .ensures in
+    let eb = c2 .get322 .ensures in
+    let ec = c3 .get323 .ensures in
+    let ed = c4 .get324 .ensures in
+    let ee = c5 .get325 .ensures in
+    let et = c .ordered .ensures in
+    let h = l .before .before .pre in
+    let g : (i : ℕ) → getD (l .before .before .args .s .now) i 0 < 256 = λ i. omega (arith, l .before .shared-slice-known .given i) in
+    search read-ordered
 
 pub read-spec : {M : Type 1} → statement M
 read-spec =
