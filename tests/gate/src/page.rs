@@ -98,10 +98,18 @@ fn crate_table(
         let rows = served.get(&index).cloned().unwrap_or_default();
         let reason = reasons.get(&full(name, function));
         if rows.len() < EDITS && reason.is_none() {
-            wrong.push(format!("{} has {} edits, and no reason is written", full(name, function), rows.len()));
+            wrong.push(format!(
+                "{} has {} of {EDITS} edits, and no reason is written",
+                full(name, function),
+                rows.len()
+            ));
         }
         if rows.len() >= EDITS && reason.is_some() {
-            wrong.push(format!("{} has {} edits, and a reason why it has fewer", full(name, function), rows.len()));
+            wrong.push(format!(
+                "{} has {} of {EDITS} edits, and a reason why it has fewer",
+                full(name, function),
+                rows.len()
+            ));
         }
         table.push_str(&function_rows(function, &rows, reason));
     }
@@ -198,7 +206,7 @@ mod tests {
     #[test]
     fn a_function_with_fewer_edits_needs_a_reason() {
         let why = made(&[carry("lib/one")], WHY).expect_err("add has one edit");
-        assert_eq!(why, "small::add has 1 edits, and no reason is written");
+        assert_eq!(why, "small::add has 1 of 2 edits, and no reason is written");
     }
 
     #[test]
@@ -206,7 +214,8 @@ mod tests {
         let spare = WHY.replace("`small::Place::start`", "`small::Place::start`, `small::add`, `small::gone`");
         let why = made(&[carry("lib/one"), carry("lib/two")], &spare).expect_err("two reasons do not hold");
         assert!(
-            why.contains("small::gone, and there is no such") && why.contains("small::add has 2 edits, and a reason")
+            why.contains("small::gone, and there is no such")
+                && why.contains("small::add has 2 of 2 edits, and a reason")
         );
     }
 

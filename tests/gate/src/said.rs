@@ -101,8 +101,11 @@ impl<'a> Log<'a> {
 
     /// Whether the check, made with edits of the functions named, shows that the edit of one of them is refused as it must be; else what it shows instead.
     pub fn refusal(&self, function: &str, named: &[&str], proofs: &Proofs) -> Result<(), String> {
+        if self.proves() {
+            return Err("the prover does not refuse it: all is proved".to_string());
+        }
         if !self.refuses() {
-            return Err(format!("the prover does not refuse it: {}", self.last_line()));
+            return Err(format!("it does not reach the prover: {}", self.last_line()));
         }
         let named: BTreeSet<String> = named.iter().flat_map(|function| proofs.together(function)).collect();
         let others: Vec<String> = self.unproved().difference(&named).cloned().collect();
