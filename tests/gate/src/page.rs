@@ -13,11 +13,15 @@ const REASONS: &str = "## Functions with fewer than two edits";
 
 const INTRODUCTION: &str = "# Contracts, with the wrong programs that they rule out
 
-This page is written by `tests/contracts write`, from the sources and from the edits that must be refused. CI fails where it is stale, and where a public function has fewer than two edits without a reason in `LAWS.md`.
+This page is written by `tests/contracts write`, from the sources and from the edits that must be refused. CI fails where it is stale, and where a public function
+has fewer than two edits without a reason in `LAWS.md`.
 
-A row names a public function. It says what the function is, in the words of the comment before it, and which definitions its promise cites: the contract, in the source, says that its answer and what it leaves in each buffer are what
-these definitions say. Behind it stand wrong programs, each with the edit that makes it, by its path below `crates/NAME/must-fail/`, without `.edit`. \"Of\" names the private function that is edited, where it is one that serves the public one. `tests/edits` sees of an edit in a folder that
-just the function named is not proved, since a fact has no proof; the edits without a folder change what several functions share, or a contract, and `rt ci` sees that the crate is refused.
+A row names a public function. It says what the function is, in the words of the comment before it, and which definitions its promise cites: the contract, in the
+source, says that its answer and what it leaves in each buffer are what these definitions say. Behind it stand wrong programs, each with the edit that makes it, by
+its path below `crates/NAME/must-fail/`, without `.edit`; \"of\" names the private function that is edited, where it is one that serves the public one.
+
+`tests/edits` sees of an edit in a folder that just the function named is not proved, since a fact has no proof. The edits without a folder change a contract, or a
+constant that several functions share, and `rt ci` sees that the crate is refused (D16).
 
 What holds the definitions themselves, and what the contracts leave open, is in `LAWS.md`.
 ";
