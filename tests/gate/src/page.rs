@@ -17,11 +17,11 @@ This page is written by `tests/contracts write`, from the sources and from the e
 has fewer than two edits without a reason in `LAWS.md`.
 
 A row names a public function. It says what the function is, in the words of the comment before it, and which definitions its promise cites: the contract, in the
-source, says that its answer and what it leaves in each buffer are what these definitions say. Behind it stand wrong programs, each with the edit that makes it, by
+source, is over these definitions, and where it cites none over numbers and lists alone. Behind it stand wrong programs, each with the edit that makes it, by
 its path below `crates/NAME/must-fail/`, without `.edit`; \"of\" names the private function that is edited, where it is one that serves the public one.
 
-`tests/edits` sees of an edit in a folder that just the function named is not proved, since a fact has no proof. The edits without a folder change a contract, or a
-constant that several functions share, and `rt ci` sees that the crate is refused (D16).
+`tests/edits` sees of an edit in a folder that just the function named is not proved, since a fact has no proof. The edits without a folder change a contract or a
+constant, and `rt ci` sees that the crate is refused (D16).
 
 What holds the definitions themselves, and what the contracts leave open, is in `LAWS.md`.
 ";
@@ -203,7 +203,7 @@ mod tests {
     #[test]
     fn edits_of_private_functions_stand_with_the_public_one() {
         let page = made(&[carry("lib/one"), carry("lib/two")], WHY).expect("all is there");
-        assert!(page.contains("| `add` | Adds two numbers. | `sumOf` | `\\|` is added | `lib/one`, of `carry` |\n| | | | `\\|` is added | `lib/two`, of `carry` |\n"));
+        assert!(page.contains("| `add` | Adds two numbers. | `answerOf`, `sumOf` | `\\|` is added | `lib/one`, of `carry` |\n| | | | `\\|` is added | `lib/two`, of `carry` |\n"));
         assert!(page.contains("| Why fewer: none can be had. |  |"));
     }
 

@@ -118,7 +118,7 @@ fn module_of(file: &str) -> Vec<&str> {
 /// The functions of a file. The formatter puts a function's first line, its opening brace where it has clauses, and its closing brace at one depth.
 fn functions_of(file: &str, text: &str) -> Vec<Function> {
     let lines = lines_of(text);
-    let definitions = definitions_used(text);
+    let definitions = Definitions::used(text);
     let mut owner: Option<&str> = None;
     let mut functions = Vec::new();
     for (index, &(_, line)) in lines.iter().enumerate() {
@@ -190,24 +190,42 @@ fn comment_before(lines: &[(usize, &str)]) -> String {
     said.join(" ")
 }
 
-/// The names that a file takes from the specs of the crates: those of its lines `ghost use Rattle·..{A, B};`.
-fn definitions_used(text: &str) -> BTreeSet<&str> {
-    text.lines()
-        .filter_map(|line| line.strip_prefix("ghost use Rattle·")?.split_once('{'))
-        .flat_map(|(_, names)| names.trim_end_matches("};").split(", "))
-        .collect()
+/// What a file takes from the specs of the crates.
+struct Definitions<'a> {
+    /// The names of its lines `ghost use Rattle·..{A, B};`.
+    names: BTreeSet<&'a str>,
+    /// The names of whole files, of its lines `ghost use Rattle·.. as A;`.
+    files: BTreeSet<&'a str>,
+}
+
+impl<'a> Definitions<'a> {
+    fn used(text: &'a str) -> Definitions<'a> {
+        let uses = || text.lines().filter_map(|line| line.strip_prefix("ghost use Rattle·")?.strip_suffix(';'));
+        let names =
+            uses().filter_map(|line| line.strip_suffix('}')?.split_once('{')).flat_map(|(_, names)| names.split(", "));
+        let files = uses().filter_map(|line| Some(line.split_once(" as ")?.1));
+        Definitions { names: names.collect(), files: files.collect() }
+    }
+
+    /// The definition that a word of a clause names, by itself or behind the name of its file.
+    fn named<'w>(&self, word: &'w str) -> Option<&'w str> {
+        match word.split_once('.') {
+            Some((file, name)) => self.files.contains(file).then_some(name),
+            None => self.names.contains(word).then_some(word),
+        }
+    }
 }
 
 /// The definitions that the clauses `ensures` of a function's head name, each once, in their order.
-fn cited_in(head: &str, definitions: &BTreeSet<&str>) -> Vec<String> {
+fn cited_in(head: &str, definitions: &Definitions) -> Vec<String> {
     let mut cited: Vec<String> = Vec::new();
     let mut promises = false;
     for line in head.lines().map(str::trim) {
         promises = line.starts_with("ensures") || (promises && !line.starts_with("requires"));
         let words = line.split(|c: char| c.is_whitespace() || "(){}⌜⌝,".contains(c)).filter(|_| promises);
-        for word in words.filter(|word| definitions.contains(word)) {
-            if !cited.iter().any(|name| name == word) {
-                cited.push(word.to_string());
+        for name in words.filter_map(|word| definitions.named(word)) {
+            if !cited.iter().any(|known| known == name) {
+                cited.push(name.to_string());
             }
         }
     }
@@ -261,6 +279,7 @@ pub(crate) mod tests {
     const LIB: &str = r#"// A crate.
 ghost use mathlib.Core.Path.{_≡_};
 ghost use Rattle.small.specs.Sums.{sumOf, Bound};
+ghost use Rattle.small.specs.Answers as answers;
 
 pub struct Place(pub u32);
 
@@ -278,7 +297,8 @@ impl Place {
 #[no_mangle]
 pub extern "C" fn add(a: u32, b: u32) -> u32
     requires { ⌜ Bound a ⌝ }
-    ensures { λ r. ⌜ r ≡ sumOf (a ∷ b) ⌝ }
+    ensures { λ r. ⌜ answers.answerOf r ≡ sumOf (a ∷ b) ⌝ }
+    ensures { λ r. ⌜ r .place ≡ sumOf a ⌝ }
 {
     // not a call: twice
     carry(a, b)
@@ -321,7 +341,7 @@ fn carry(a: u32, b: u32) -> u32 {
     #[test]
     fn a_promise_cites_what_its_ensures_name() {
         let sources = sample();
-        assert_eq!(sources.functions[index(&sources, "add")].cited, ["sumOf"]);
+        assert_eq!(sources.functions[index(&sources, "add")].cited, ["answerOf", "sumOf"]);
         assert!(sources.functions[index(&sources, "carry")].cited.is_empty());
     }
 
