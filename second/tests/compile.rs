@@ -4,6 +4,7 @@ mod common;
 use common::*;
 use second::api::*;
 use second::compile;
+use second::generator::{Maker, LONGEST_TABLE};
 
 #[test]
 fn smallest_table_is_49_bytes() {
@@ -37,6 +38,14 @@ fn matches_sign_is_the_keyword() {
 #[test]
 fn code_follows_type_in_the_pool() {
     compiles_to("AB[at0001.2] matches {*}", &[(1, 0, [0, 2, 2, 8, 0])], "ABat0001.2");
+}
+
+#[test]
+fn pool_holds_type_code_name_and_string() {
+    let text = "A[at1] matches {ab matches {\"xyz\"}}";
+    assert_eq!(text.len(), 35);
+    let lines = [(1, 0, [0, 1, 1, 3, 2]), (2, 2, [4, 2, 3, 0, 0]), (5, 0, [6, 3, 0, 0, 0])];
+    compiles_to(text, &lines, "Aat1abxyz");
 }
 
 #[test]
@@ -212,4 +221,152 @@ fn bytes_past_the_table_stay() {
     assert_eq!(compile(b"A matches {*}", false, &mut out), CompileAnswer::Done { length: 49 });
     let behind: Vec<u8> = (49..100).collect();
     assert_eq!(out[49..], behind[..]);
+}
+
+/// The names of the fullest text's four attributes.
+fn fullest_names() -> [String; 4] {
+    ["a00", "a01", "a02", "a03"].map(|front| front.to_string() + &"x".repeat(60))
+}
+
+/// The strings of the fullest text, numbered from 0 on, in one list to each attribute.
+fn fullest_strings() -> Vec<Vec<String>> {
+    let mut all: Vec<String> = (0..62).map(|number| format!("{number:04}") + &"s".repeat(251)).collect();
+    all.push(String::from("0062ssssssssssss"));
+    all.chunks(16).map(<[String]>::to_vec).collect()
+}
+
+/// The text of 16,384 bytes whose types, codes, names and strings are as long as they may be.
+fn fullest() -> String {
+    let mut text = "T".repeat(63) + "[at" + &"1".repeat(29) + "]∈{";
+    for (name, strings) in fullest_names().iter().zip(fullest_strings()) {
+        text += &format!("{name}∈{{\"{}\"}}", strings.join("\",\""));
+    }
+    text + "}"
+}
+
+/// The bytes of its type, its code without brackets, and its names and strings without quotes.
+fn fullest_pool() -> String {
+    let mut pool = "T".repeat(63) + "at" + &"1".repeat(29);
+    for (name, strings) in fullest_names().iter().zip(fullest_strings()) {
+        pool += name;
+        pool += &strings.concat();
+    }
+    pool
+}
+
+/// Its records: an object, and four times an attribute with its strings behind it.
+fn fullest_lines() -> Vec<Line> {
+    let mut lines = vec![(1, 0, [0, 63, 63, 31, 2])];
+    let mut place = 94;
+    for (first, next, items) in [(2, 19, 16), (19, 36, 16), (36, 53, 16), (53, 0, 15)] {
+        lines.push((2, 2, [place, 63, first + 1, next, 0]));
+        place += 63;
+        for number in first + 1..=first + items {
+            let length = if number == 68 { 16 } else { 255 };
+            let link = if number == first + items { 0 } else { number + 1 };
+            lines.push((5, 0, [place, length, 0, 0, link]));
+            place += length;
+        }
+    }
+    lines
+}
+
+#[test]
+fn fullest_text_is_accepted() {
+    let (text, pool) = (fullest(), fullest_pool());
+    assert_eq!(text.len(), 16_384);
+    assert_eq!(pool.len(), 16_172);
+    accepted(&text);
+    for little in [false, true] {
+        let bytes = table(&text, little);
+        assert_eq!(bytes.len(), 17_828);
+        assert_eq!(bytes[..24], record(little, 0, 0, [69, 16_172, 1, 0, 0]));
+        assert_eq!(&bytes[69 * 24..], pool.as_bytes());
+    }
+    compiles_to(&text, &fullest_lines(), &pool);
+}
+
+#[test]
+fn fullest_text_into_an_output_that_fits_and_one_short() {
+    let text = fullest();
+    for little in [false, true] {
+        let mut out = vec![FILL; 17_828];
+        assert_eq!(compile(text.as_bytes(), little, &mut out), CompileAnswer::Done { length: 17_828 });
+        let mut out = vec![FILL; 17_827];
+        let short = CompileAnswer::Refused { number: 11, place: 16_384 };
+        assert_eq!(compile(text.as_bytes(), little, &mut out), short);
+        assert!(out.iter().all(|byte| *byte == FILL));
+    }
+}
+
+#[test]
+fn fullest_text_and_a_blank_is_too_long() {
+    let text = fullest() + " ";
+    refused_bytes(1, 16_384, text.as_bytes());
+    for little in [false, true] {
+        let long = CompileAnswer::Refused { number: 1, place: 16_384 };
+        assert_eq!(compile(text.as_bytes(), little, &mut []), long);
+    }
+}
+
+/// Whether each of the bytes is found at a place of its own in the text, in the same order.
+fn stands_in(bytes: &[u8], text: &[u8]) -> bool {
+    let mut rest = text.iter();
+    bytes.iter().all(|byte| rest.any(|other| other == byte))
+}
+
+/// A number of a table's header, in the order that its mark says.
+fn header_number(bytes: &[u8], at: usize) -> usize {
+    let four = [bytes[at], bytes[at + 1], bytes[at + 2], bytes[at + 3]];
+    let little = bytes[0] == 0xAD;
+    (if little { u32::from_le_bytes(four) } else { u32::from_be_bytes(four) }) as usize
+}
+
+/// Compiles into an output of so many bytes; the answer isn't 10, and a pool's bytes are the text's. Whether it was done.
+fn pool_comes_from_the_text(text: &[u8], little: bool, room: usize) -> bool {
+    let mut out = vec![FILL; room];
+    let shown = String::from_utf8_lossy(&text[..text.len().min(300)]);
+    match compile(text, little, &mut out) {
+        CompileAnswer::Done { length } => {
+            let (count, pool) = (header_number(&out, 4), header_number(&out, 8));
+            assert_eq!(length as usize, 24 * count + pool, "{shown}");
+            assert!(pool <= text.len(), "{shown}");
+            assert!(stands_in(&out[24 * count..length as usize], text), "{shown}");
+            true
+        }
+        CompileAnswer::Refused { number, .. } => {
+            assert_ne!(number, 10, "{shown}");
+            false
+        }
+    }
+}
+
+#[test]
+fn any_pool_comes_from_its_text() {
+    let maker = Maker::new(21);
+    let mut done = 0;
+    for number in 0..10_000 {
+        let case = maker.compile(number);
+        pool_comes_from_the_text(&case.text, case.little, case.room);
+        for little in [false, true] {
+            done += usize::from(pool_comes_from_the_text(&case.text, little, LONGEST_TABLE));
+        }
+    }
+    assert!(done > 10_000, "{done}");
+}
+
+#[test]
+fn pools_of_texts_near_the_fullest_come_from_them() {
+    let text = fullest();
+    let mut done = 0;
+    for place in (0..text.len()).step_by(61) {
+        for byte in *b"s\"},{ 1" {
+            let mut bytes = text.clone().into_bytes();
+            bytes[place] = byte;
+            done += usize::from(pool_comes_from_the_text(&bytes, place % 2 == 0, LONGEST_TABLE));
+            bytes.remove(place);
+            pool_comes_from_the_text(&bytes, place % 2 == 1, LONGEST_TABLE);
+        }
+    }
+    assert!(done > 500, "{done}");
 }

@@ -187,6 +187,54 @@ fn merged_pool() {
     merged(&sized(2, 1), &sized(2, 16_383), false, (1, 1));
 }
 
+/// A table of 2 records whose pool is `A` so many times.
+fn long_pool(little: bool, pool: usize) -> Vec<u8> {
+    made(little, 1, &[(1, 0, [0, 1, 0, 0, 0])], &"A".repeat(pool))
+}
+
+#[test]
+fn smallest_table_and_a_pool_that_is_full_with_it() {
+    let small = table("A matches {*}", false);
+    assert_eq!(small.len(), 49);
+    let pool = "A".repeat(16_384);
+    for order in [false, true] {
+        let long = long_pool(order, 16_383);
+        for little in [false, true] {
+            let both = merged(&small, &long, little, (1, 1));
+            assert_eq!(both.len(), 16_456);
+            assert_eq!(both, made(little, 1, &[(1, 0, [0, 1, 0, 0, 0]), (1, 0, [1, 1, 0, 0, 0])], &pool));
+            let both = merged(&long, &small, little, (1, 16_383));
+            assert_eq!(both.len(), 16_456);
+            assert_eq!(both, made(little, 1, &[(1, 0, [0, 1, 0, 0, 0]), (1, 0, [16_383, 1, 0, 0, 0])], &pool));
+        }
+        refused_merge(&small, &long, 16_455, 11, 16_456, 0);
+        refused_merge(&long, &small, 16_455, 11, 16_456, 0);
+    }
+}
+
+#[test]
+fn smallest_table_and_a_pool_one_byte_too_long_with_it() {
+    let small = table("A matches {*}", false);
+    for order in [false, true] {
+        let long = long_pool(order, 16_384);
+        assert_eq!(check(&long), CheckAnswer::Passed);
+        for room in [0, 16_456, 16_457, 80_000] {
+            refused_merge(&small, &long, room, 10, 0, 0);
+            refused_merge(&long, &small, room, 10, 0, 0);
+        }
+    }
+}
+
+#[test]
+fn pools_up_to_the_limit_and_one_byte_above() {
+    for first in [1, 2, 255, 256, 8_191, 8_192, 8_193, 16_128, 16_382, 16_383] {
+        let second = 16_384 - first;
+        merged(&sized(2, first), &sized(3, second), first % 2 == 0, (1, first as u32));
+        refused_merge(&sized(2, first), &sized(3, second + 1), 80_000, 10, 0, 0);
+        refused_merge(&sized(2, first + 1), &sized(3, second), 80_000, 10, 0, 0);
+    }
+}
+
 #[test]
 fn output_long_enough_and_one_short() {
     let small = sized(2, 1);
@@ -212,6 +260,24 @@ fn order_of_refusals() {
     refused_merge(&sized(1_000, 9_000), &sized(1_000, 9_000), 0, 10, 0, 0);
     refused_merge(&sized(1_000, 8_000), &sized(1_000, 8_000), 0, 11, 1_999 * 24 + 16_000, 0);
     refused_merge(&sized(2_048, 16_384), b"", 0, 12, 0, 2);
+}
+
+#[test]
+fn a_long_pool_comes_behind_broken_tables_and_the_count() {
+    let full = sized(2, 16_384);
+    let mut headless = full.clone();
+    headless[3] = 1;
+    let mut broken = full.clone();
+    broken[27] = 1;
+    for room in [0, 80_000] {
+        refused_merge(&full, &full, room, 10, 0, 0);
+        for (bad, number, place) in [(&headless, 12, 0), (&sized(2, 16_385), 12, 0), (&broken, 13, 1)] {
+            refused_merge(bad, &full, room, number, place, 1);
+            refused_merge(&full, bad, room, number, place, 2);
+        }
+        refused_merge(&sized(2_048, 16_384), &full, room, 8, 0, 0);
+        refused_merge(&sized(2_047, 16_384), &full, room, 10, 0, 0);
+    }
 }
 
 #[test]

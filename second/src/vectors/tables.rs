@@ -25,6 +25,7 @@ pub fn cases() -> Stream {
     worked_merges(&mut stream);
     limit_checks(&mut stream);
     limit_merges(&mut stream);
+    pool_merges(&mut stream);
     generated(&mut stream);
     stream
 }
@@ -279,6 +280,30 @@ fn limit_merges(stream: &mut Stream) {
                 little,
                 &room(all - 1),
             );
+        }
+    }
+}
+
+/// The smallest table and one whose pool, with the smallest's byte, fills a pool or is a byte above it.
+fn pool_merges(stream: &mut Stream) {
+    let small = smallest();
+    for pool in [limits::POOL - 1, limits::POOL] {
+        for (own, pattern) in [("big", "b"), ("little", "l")] {
+            let long = ordered(&plain(2, pool), pattern);
+            let title = format!("a pool of {pool} in {own}");
+            add_rooms(stream, &format!("smallest and {title}"), &small, &long);
+            add_rooms(stream, &format!("{title} and smallest"), &long, &small);
+        }
+    }
+}
+
+/// A merge in both orders, with an output that fits exactly and with one that is a byte too short.
+fn add_rooms(stream: &mut Stream, title: &str, first: &Table, second: &Table) {
+    let all = needed(first, second);
+    for (little, order) in [(false, "big"), (true, "little")] {
+        for (what, out) in [("exactly", all), ("one byte short", all - 1)] {
+            let title = format!("merge, {title}, into {order}, room {what}");
+            add_merge(stream, &title, &first.bytes(), &second.bytes(), little, &room(out));
         }
     }
 }

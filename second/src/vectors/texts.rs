@@ -29,6 +29,7 @@ pub fn cases() -> Stream {
     items(&mut stream);
     levels(&mut stream);
     records(&mut stream);
+    pools(&mut stream);
     outputs(&mut stream);
     lists(&mut stream);
     generated(&mut stream);
@@ -49,6 +50,13 @@ fn add(stream: &mut Stream, title: &str, text: &[u8], little: bool, out: &[u8]) 
 fn add_text(stream: &mut Stream, title: &str, text: &str) {
     for (little, order) in [(false, "big"), (true, "little")] {
         add(stream, &format!("{title}, {order}"), text.as_bytes(), little, &filling(FILL, 2_000));
+    }
+}
+
+/// A text into an output that has room for every table, in both orders.
+fn add_long(stream: &mut Stream, title: &str, text: &str) {
+    for (little, order) in [(false, "big"), (true, "little")] {
+        add(stream, &format!("{title}, {order}"), text.as_bytes(), little, &filling(FILL, LONGEST_TABLE));
     }
 }
 
@@ -383,10 +391,7 @@ fn wide(count: usize) -> String {
 
 fn records(stream: &mut Stream) {
     for count in [limits::RECORDS - 1, limits::RECORDS, limits::RECORDS + 1, limits::RECORDS + 17] {
-        let text = wide(count);
-        for (little, order) in [(false, "big"), (true, "little")] {
-            add(stream, &format!("{count} records, {order}"), text.as_bytes(), little, &filling(FILL, LONGEST_TABLE));
-        }
+        add_long(stream, &format!("{count} records"), &wide(count));
     }
     let full = wide(limits::RECORDS);
     let full = &full[..full.len() - 1];
@@ -399,6 +404,36 @@ fn records(stream: &mut Stream) {
             &filling(FILL, 100),
         );
     }
+}
+
+/// The string with a number: its four digits, then `s` up to its length.
+fn string_of(number: usize, length: usize) -> String {
+    format!("{number:04}{}", "s".repeat(length - 4))
+}
+
+/// The attribute with a number: its name is as long as a name may be, and its strings have these lengths.
+fn full_attribute(number: usize, lengths: &[usize]) -> String {
+    let first = limits::ITEMS * number;
+    let name = format!("a{number:02}{}", "x".repeat(limits::NAME - 3));
+    let strings: Vec<String> =
+        lengths.iter().enumerate().map(|(at, length)| format!("\"{}\"", string_of(first + at, *length))).collect();
+    format!("{name}\u{2208}{{{}}}", strings.join(","))
+}
+
+/// A text as long as a text may be, without a blank, whose parts are as long as they may be; its last string takes what is left.
+fn fullest() -> String {
+    let full = [limits::STRING; limits::ITEMS];
+    let last = [&full[..14], &[16]].concat();
+    let head = format!("{}[at{}]", "T".repeat(limits::NAME), "1".repeat(limits::CODE - 2));
+    let attributes: String = (0..3).map(|number| full_attribute(number, &full)).collect();
+    format!("{head}\u{2208}{{{attributes}{}}}", full_attribute(3, &last))
+}
+
+fn pools(stream: &mut Stream) {
+    add_text(stream, "a type, a code, a name and a string", "A[at1] matches {ab matches {\"xyz\"}}");
+    let text = fullest();
+    add_long(stream, "the fullest text", &text);
+    add_long(stream, "the fullest text and a blank", &format!("{text} "));
 }
 
 fn outputs(stream: &mut Stream) {
