@@ -9,6 +9,7 @@ use lib.Seq.{sets}
 use Rattle.lexis.specs.Runs.{part}
 use Rattle.lexis.specs.Spelling.{closeBrace}
 use Rattle.lexis.specs.declared.Token.{Token}
+use Rattle.lexis.proofs.Parts.{part-length}
 use Rattle.lexis.proofs.Stores.{sets-behind}
 use Rattle.refusals.specs.Reading.{Reading, refused, got, andThen}
 use Rattle.refusals.specs.Steps.{expect}
@@ -19,14 +20,14 @@ use Rattle.meaning.specs.Counting.{valuePool}
 use Rattle.items.specs.Spans.{firstOf, secondOf, earlier, SpansIn}
 use Rattle.items.specs.Parts.{Kept}
 use Rattle.items.proofs.ItemLaws.{item-first, item-second, item-kept, first-kept, second-kept, all-kept}
-use Rattle.constraint.specs.Objects.{Count, count, value, Attribute, attributeFrom, past, objectFrom}
+use Rattle.constraint.specs.Objects.{value, Attribute, attributeFrom, past, objectFrom}
 use Rattle.constraint.specs.Answers.{Named, attributeHead, namedReading, NamedPast, AttributeHeadIs}
 use Rattle.constraint.specs.declared.heads.AttributeHead.{AttributeHead}
 use Rattle.constraint.specs.declared.heads.AttributeHead.the-variants as attributeHeadRead
 use Rattle.constraint.proofs.TreeReading.{ValueRead, AttributeRead, value-holds, object-holds}
 use Rattle.table.specs.Records.{recordSize, encodes}
 use Rattle.flatten.specs.Flatten.{valueLink, valueTable}
-use Rattle.emission.specs.Answers.{spot, written, linkBelow, Room, NameRoom, NameKept, attributeRow, nextLink, closedAttribute, CloseIs, CloseRoom}
+use Rattle.emission.specs.Answers.{spot, written, linkBelow, Room, PartFits, NameRoom, NameKept, attributeRow, nextLink, closedAttribute, CloseIs, CloseRoom}
 use Rattle.compile.specs.Answers.{TreeIs, Stacked, attributeWritten, Pushed, AttributeIs, AttributeRoom}
 use Rattle.emission.specs.declared.spots.Spot.{Spot}
 use Rattle.emission.specs.declared.spots.TreeRead.{TreeRead}
@@ -35,12 +36,12 @@ use Rattle.emission.specs.declared.spots.AttributeRead as attributeReads
 use Rattle.emission.specs.declared.spots.AttributeRead.the-variants as attributeRead
 use Rattle.flatten.proofs.FlattenLaws.{value-length}
 use Rattle.emission.proofs.TreeWriting.{row-below, IsTree, is-tree, is-refused, tree-room, value-link}
-use Rattle.compile.proofs.ReadingLaws.{behindName, attribute-by, HeadRead, attribute-head-holds}
+use Rattle.compile.proofs.ReadingLaws.{behindName, attribute-by}
 
 -- ---- an attribute
 
 abbrev pub AttributeOf : List ℕ → ℕ → Spot → ℕ → ℕ → List ℕ → Reading Attribute
-AttributeOf s levels p first top names = attributeFrom s (objectFrom s levels) (earlier s names first top) (count (p .next) (p .pool)) (p .place)
+AttributeOf s levels p first top names = attributeFrom s (objectFrom s levels) (earlier s names first top) (p .next) (p .place)
 
 abbrev attributeAs : ℕ → List ℕ → Value → Attribute
 attributeAs flag w v = record { existence = flag; name = w; value = v }
@@ -61,8 +62,8 @@ attribute-written s little p flag w v place rs bs (got t at) h =
     rw (r, b, h)
 
 -- an attribute behind its head has the head's name
-name-of : (s : List ℕ) (down : Count → ℕ → Reading Object) (c : Count) (h : Named) (r : ℕ) (a : Attribute) (at : ℕ) → behindName s down c h r ≡ got a at → a .name ≡ h .name
-name-of s down c h r a at e = by (value s down (count (c .next + 1) (c .pool + length (h .name))) r) e
+name-of : (s : List ℕ) (down : ℕ → ℕ → Reading Object) (n : ℕ) (h : Named) (r : ℕ) (a : Attribute) (at : ℕ) → behindName s down n h r ≡ got a at → a .name ≡ h .name
+name-of s down n h r a at e = by (value s down (n + 1) r) e
   where
     two : (v : Value) (y : Reading Token) → andThen y (λ u z. got (attributeAs (h .existence) (h .name) v) z) ≡ got a at → a .name ≡ h .name
     two v (refused x) f = let z : _≡_ {A = ℕ} 0 1 = cc in absurd (omega arith)
@@ -76,11 +77,11 @@ name-of s down c h r a at e = by (value s down (count (c .next + 1) (c .pool + l
 pub kept-both : {a b : ℕ} {x y z : List ℕ} → a ≤ b → Kept a x y → Kept b y z → Kept a x z
 kept-both h k l = record { same = λ j m. l .same j (omega arith) ∙ k .same j m }
 
-module _ {s : List ℕ} {p : Spot} {first top : ℕ} {names : List ℕ} (room : AttributeRoom s p first top names) {o : AttributeHead} (e : AttributeHeadIs s (earlier s names first top) (p .next) (p .pool) (p .place) o) where
+module _ {s : List ℕ} {p : Spot} {first top : ℕ} {names : List ℕ} (room : AttributeRoom s p first top names) {o : AttributeHead} (e : AttributeHeadIs s (earlier s names first top) (p .next) (p .place) o) where
   abbrev Seen : List (List ℕ)
   Seen = earlier s names first top
 
-  head-is : (k : AttributeHead) → o ≡ k → namedReading s k ≡ attributeHead s Seen (count (p .next) (p .pool)) (p .place)
+  head-is : (k : AttributeHead) → o ≡ k → namedReading s k ≡ attributeHead s Seen (p .next) (p .place)
   head-is k g = rw g at (e .is)
 
   module _ (levels : ℕ) where
@@ -90,43 +91,48 @@ module _ {s : List ℕ} {p : Spot} {first top : ℕ} {names : List ℕ} (room : 
     refused-is k f = record { is = rw f; kept = k; pushed = λ a at g. let z : _≡_ {A = ℕ} 0 1 = cc in absurd (omega arith) }
 
     pub attribute-faulty : (little : Bool) (rs bs : List ℕ) (x : Refusal) → o ≡ attributeHeadRead.Faulty x → AttributeIs s little levels p first top names rs bs names rs bs (attributeRead.Refused x)
-    attribute-faulty little rs bs x g = refused-is (all-kept names top) (attribute-by s (objectFrom s levels) Seen (count (p .next) (p .pool)) (p .place) ∙ rw (← head-is _ g))
+    attribute-faulty little rs bs x g = refused-is (all-kept names top) (attribute-by s (objectFrom s levels) Seen (p .next) (p .place) ∙ rw (← head-is _ g))
 
   module _ {start end flag next : ℕ} (g : o ≡ attributeHeadRead.Head start end flag next) where
-    named-past : NamedPast s (p .next) (p .pool) (p .place) start end flag next
+    named-past : NamedPast s (p .next) (p .place) start end flag next
     named-past = rw g at (e .past)
+
+    name-fits : PartFits s start end (p .pool)
+    name-fits =
+        let h = named-past in
+        let r = room .stacked .room in
+        record { lies = omega arith; room = omega arith }
 
     pub name-room : NameRoom s p start end top
     name-room =
         let h = named-past in
         let r = room .stacked in
-        record { part = record { lies = h .name; room = h .bytes }; short = r .room .short; records = h .records; few = r .few }
+        record { part = name-fits; short = r .room .short; records = h .records; few = r .few }
 
     abbrev word : List ℕ
     word = part s start end
 
     module _ {bs names1 bs1 : List ℕ} {q : Spot} (put : NameKept word p next start end top bs names bs1 names1 q) where
       pub value-stacked : Stacked s q (top + 1)
-      unfolding Holds
       value-stacked =
           let h = named-past in
-          let f : HeadRead s (p .place) (length word) next = rw (sym (head-is _ g)) at (attribute-head-holds s Seen (count (p .next) (p .pool)) (p .place) (room .stacked .room .inside)) in
+          let l = part-length s start end (omega arith) in
           let v = room .stacked .room in
           let x = room .stacked .few in
-          rw (put .spot) (record { room = record { inside = h .inside; short = v .short; records = let n = h .records in omega arith; bytes = let l = f .bytes in let m = v .bytes in omega arith }; few = omega arith })
+          rw (put .spot) (record { room = record { inside = h .inside; short = v .short; records = let n = h .records in omega arith; bytes = omega arith }; few = omega arith })
 
-      module _ (levels : ℕ) (little : Bool) (rs : List ℕ) {names2 rs2 bs2 : List ℕ} {r : TreeRead} (d : TreeIs (top + 1) names1 names2 (written valueTable valuePool little q rs bs1 (value s (objectFrom s levels) (count (q .next) (q .pool)) (q .place))) rs2 bs2 r) where
+      module _ (levels : ℕ) (little : Bool) (rs : List ℕ) {names2 rs2 bs2 : List ℕ} {r : TreeRead} (d : TreeIs (top + 1) names1 names2 (written valueTable valuePool little q rs bs1 (value s (objectFrom s levels) (q .next) (q .place))) rs2 bs2 r) where
         abbrev inside : Reading Value
-        inside = value s (objectFrom s levels) (count (p .next + 1) (p .pool + length word)) next
+        inside = value s (objectFrom s levels) (p .next + 1) next
 
-        head-read : AttributeOf s levels p first top names ≡ behindName s (objectFrom s levels) (count (p .next) (p .pool)) (record { name = word; existence = flag }) next
-        head-read = attribute-by s (objectFrom s levels) Seen (count (p .next) (p .pool)) (p .place) ∙ rw (← head-is _ g)
+        head-read : AttributeOf s levels p first top names ≡ behindName s (objectFrom s levels) (p .next) (record { name = word; existence = flag }) next
+        head-read = attribute-by s (objectFrom s levels) Seen (p .next) (p .place) ∙ rw (← head-is _ g)
 
         still : Kept top names names2
         still = kept-both {b = top + 1} (omega arith) (rw (put .stack) (item-kept names top start end)) (d .kept)
 
-        same-value : value s (objectFrom s levels) (count (q .next) (q .pool)) (q .place) ≡ inside
-        same-value = ap (λ (y : Spot). value s (objectFrom s levels) (count (y .next) (y .pool)) (y .place)) (put .spot)
+        same-value : value s (objectFrom s levels) (q .next) (q .place) ≡ inside
+        same-value = ap (λ (y : Spot). value s (objectFrom s levels) (y .next) (y .place)) (put .spot)
 
         pub value-refused : (x : Refusal) → r ≡ Refused x → AttributeIs s little levels p first top names rs bs names2 rs2 bs2 (attributeRead.Refused x)
         value-refused x k =
@@ -134,7 +140,7 @@ module _ {s : List ℕ} {p : Spot} {first top : ℕ} {names : List ℕ} (room : 
             refused-is levels still (head-read ∙ rw (← same-value, f))
 
         module _ {v : Spot} (k : r ≡ Read v) where
-          read : IsTree valueTable valuePool little q rs bs1 rs2 bs2 v (value s (objectFrom s levels) (count (q .next) (q .pool)) (q .place))
+          read : IsTree valueTable valuePool little q rs bs1 rs2 bs2 v (value s (objectFrom s levels) (q .next) (q .place))
           read = is-tree valueTable valuePool little q rs bs1 rs2 bs2 v _ (rw k at (d .is))
 
           value-is : inside ≡ got (read .tree) (v .place)
@@ -151,7 +157,7 @@ module _ {s : List ℕ} {p : Spot} {first top : ℕ} {names : List ℕ} (room : 
 
           read-in : ValueRead s (p .next + 1) next (read .tree) (v .place)
           unfolding Holds
-          read-in = rw value-is at (value-holds s (objectFrom s levels) (object-holds s levels) (count (p .next + 1) (p .pool + length word)) next (named-past .inside))
+          read-in = rw value-is at (value-holds s (objectFrom s levels) (object-holds s levels) (p .next + 1) next (named-past .inside))
 
           pub value-closing : CloseRoom s p start end v
           value-closing =
@@ -160,7 +166,8 @@ module _ {s : List ℕ} {p : Spot} {first top : ℕ} {names : List ℕ} (room : 
               let w : Room s x = rw (put .spot) at (value-stacked .room) in
               let n : v .next ≡ p .next + 1 + length (valueTable (read .tree) (p .pool + length word)) = ap (λ (y : Spot). y .next) spot-is in
               record {
-                part = record { lies = h .name; room = h .bytes };
+                lies = name-fits .lies;
+                bytes = let m : v .pool ≡ p .pool + length word + length (valuePool (read .tree)) = ap (λ (y : Spot). y .pool) spot-is in omega (arith, part-length s start end (name-fits .lies .inside));
                 room = tree-room {p = x} {q = v} (valueTable (read .tree) (p .pool + length word)) w read-in (value-length (read .tree) (p .pool + length word)) spot-is;
                 order = omega arith;
               }
@@ -178,7 +185,7 @@ module _ {s : List ℕ} {p : Spot} {first top : ℕ} {names : List ℕ} (room : 
               let l : 2 * top + 1 < length names = let m = h .records in omega arith in
               let a : firstOf names2 top ≡ start = first-kept (top + 1) names1 names2 (d .kept) top (omega arith) ∙ rw (put .stack) (item-first names top start end l) in
               let b : secondOf names2 top ≡ end = second-kept (top + 1) names1 names2 (d .kept) top (omega arith) ∙ rw (put .stack) (item-second names top start end l) in
-              record { is = λ i. part s (a i) (b i); lies = rw (a, b) (h .name) }
+              record { is = λ i. part s (a i) (b i); lies = rw (a, b) (name-fits .lies) }
 
           pub value-closed : (rs3 : List ℕ) (z : attributeReads.AttributeRead) → length names ≡ 4_096 → CloseIs s little p flag word v rs2 rs3 z → AttributeIs s little levels p first top names rs bs names2 rs3 bs2 z
           value-closed rs3 z long f =
@@ -186,7 +193,7 @@ module _ {s : List ℕ} {p : Spot} {first top : ℕ} {names : List ℕ} (room : 
               record {
                 is = f .is bs2 ∙ (λ i. closedAttribute s little p flag word (spot-is i) (records-are i) (bytes-are i) x) ∙ attribute-written s little p flag word (read .tree) (v .place) rs bs x link-is ∙ ap (attributeWritten s little p rs bs) (sym whole);
                 kept = still;
-                pushed = λ a at j. rw (name-of s (objectFrom s levels) (count (p .next) (p .pool)) (record { name = word; existence = flag }) next a at (sym head-read ∙ j)) (on-stack long);
+                pushed = λ a at j. rw (name-of s (objectFrom s levels) (p .next) (record { name = word; existence = flag }) next a at (sym head-read ∙ j)) (on-stack long);
               }
 
 pub attribute-spans : {s : List ℕ} {p : Spot} {first top : ℕ} {names : List ℕ} → AttributeRoom s p first top names → length names ≡ 4_096 → SpansIn s names first top

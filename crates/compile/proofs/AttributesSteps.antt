@@ -13,7 +13,6 @@ use Rattle.lexis.specs.Runs.{part}
 use Rattle.lexis.specs.Spelling.{closeBrace}
 use Rattle.lexis.specs.Tokens.{tokenAt}
 use Rattle.lexis.proofs.Stores.{sets-behind}
-use Rattle.lexis.proofs.Parts.{sub-length}
 use Rattle.refusals.specs.Reading.{Reading, refused, got, andThen}
 use Rattle.refusals.specs.declared.Refusal.{Refusal}
 use Rattle.refusals.proofs.Readings.{Holds}
@@ -22,8 +21,7 @@ use Rattle.meaning.specs.Counting.{attributePool, valuePool, valueRecords}
 use Rattle.items.specs.Spans.{firstOf, secondOf, spanAt, latest, earlier, Within}
 use Rattle.items.specs.Parts.{Kept}
 use Rattle.items.proofs.ItemLaws.{first-kept, second-kept, all-kept}
-use Rattle.lexis.proofs.Parts.{part-length}
-use Rattle.constraint.specs.Objects.{Count, count, value, Attribute, past, goOn, attributes, objectFrom}
+use Rattle.constraint.specs.Objects.{value, Attribute, past, goOn, attributes, objectFrom}
 use Rattle.constraint.proofs.TreeReading.{AttributeRead, attribute-holds, object-holds}
 use Rattle.table.specs.Records.{Record, recordSize, encodes}
 use Rattle.flatten.specs.Flatten.{attributesLink, valueLink, attributesTable, valueTable}
@@ -34,7 +32,7 @@ use Rattle.emission.specs.declared.spots.TreeRead.the-variants.{Refused, Read}
 use Rattle.emission.specs.declared.spots.AttributeRead as attributeReads
 use Rattle.emission.specs.declared.spots.AttributeRead.the-variants as attributeRead
 use Rattle.flatten.proofs.FlattenLaws.{value-length}
-use Rattle.emission.proofs.TreeWriting.{five-value, rows-behind}
+use Rattle.emission.proofs.TreeWriting.{five-value, rows-behind, pool-below}
 use Rattle.compile.proofs.ReadingLaws.{Linked, linked, turn}
 use Rattle.compile.proofs.AttributeSteps.{AttributeOf, kept-both}
 
@@ -174,8 +172,8 @@ pub record InAttributes (s : List ℕ) (little : Bool) (levels : ℕ) (p : Spot)
   pub order : first ≤ top
   pub enough : length s < q .place + fuel
   pub kept : Kept first names₀ names
-  pub is : written attributesTable attributePool little q rs bs (attributes s (objectFrom s levels) fuel (earlier s names first top) (count (q .next) (q .pool)) (q .place))
-      ≡ written attributesTable attributePool little p rs₀ bs₀ (attributes s (objectFrom s levels) (length s + 1) [] (count (p .next) (p .pool)) (p .place))
+  pub is : written attributesTable attributePool little q rs bs (attributes s (objectFrom s levels) fuel (earlier s names first top) (q .next) (q .place))
+      ≡ written attributesTable attributePool little p rs₀ bs₀ (attributes s (objectFrom s levels) (length s + 1) [] (p .next) (p .place))
 
 pub attributes-start : (s : List ℕ) (little : Bool) (levels : ℕ) {p : Spot} {first : ℕ} (rs bs names : List ℕ) → Stacked s p first → InAttributes s little levels p first rs bs names p first rs bs names
 unfolding latest
@@ -193,10 +191,10 @@ attributes-start s little levels {first = first} rs bs names h =
 module _ {s : List ℕ} {little : Bool} {levels : ℕ} {p : Spot} {first : ℕ} {rs₀ bs₀ names₀ : List ℕ} {q : Spot} {top : ℕ} {rs bs names : List ℕ} (inv : InAttributes s little levels p first rs₀ bs₀ names₀ q top rs bs names)
     {names' rs' bs' : List ℕ} {r : attributeReads.AttributeRead} (d : AttributeIs s little levels q first top names rs bs names' rs' bs' r) where
   abbrev Whole : Reading Attributes
-  Whole = attributes s (objectFrom s levels) (length s + 1) [] (count (p .next) (p .pool)) (p .place)
+  Whole = attributes s (objectFrom s levels) (length s + 1) [] (p .next) (p .place)
 
-  abbrev Here : Count
-  Here = count (q .next) (q .pool)
+  abbrev Here : ℕ
+  Here = q .next
 
   still : Kept first names₀ names'
   still = kept-both (inv .order) (inv .kept) (d .kept)
@@ -264,12 +262,9 @@ module _ {s : List ℕ} {little : Bool} {levels : ℕ} {p : Spot} {first : ℕ} 
         let x : z .place ≡ e .at = ap (λ (y : Spot). y .place) (e .spot) in
         let n : z .next ≡ q .next + 1 + length (valueTable (a .value) (q .pool + length (a .name))) = ap (λ (y : Spot). y .next) (e .spot) in
         let m : z .pool ≡ q .pool + length (a .name) + length (valuePool (a .value)) = ap (λ (y : Spot). y .pool) (e .spot) in
-        let h = sub-length (k .pool) in
+        let h = pool-below s (q .pool) (q .place) (e .at) (a .name ++ valuePool (a .value)) (v .bytes) (omega (arith, k .least)) (k .most) (k .pool) in
         let i = length-append (a .name) (valuePool (a .value)) in
-        let j = part-length s (q .place) (e .at) (k .most) in
         let u = k .room (v .records) in
-        let b = v .bytes in
-        let c = k .least in
         let t = k .most in
         record { inside = omega arith; short = v .short; records = omega arith; bytes = omega arith }
 
@@ -288,15 +283,15 @@ module _ {s : List ℕ} {little : Bool} {levels : ℕ} {p : Spot} {first : ℕ} 
         let pool = q .pool + length (a .name) + length (valuePool (a .value)) in
         let t : attributes s (objectFrom s levels) (inv .fuel) (earlier s names first top) Here (q .place) ≡ andThen rest (λ xs at. got (attribute (q .next) (a .existence) (a .name) (a .value) xs) at) = turned false z g ∙ rw (e .sort) in
         let w = step little q a (e .at) next rs bs rest (λ xs at y. by rest lk xs at y ∙ ap (λ (j : ℕ). q .next + 1 + j) (sym l)) in
-        let same : attributes s (objectFrom s levels) (inv .fuel - 1) (earlier s names' first (top + 1)) (count next pool) (e .at) ≡ rest
-        = λ i. attributes s (objectFrom s levels) (inv .fuel - 1) (seen-next i) (count (q .next + 1 + l i) pool) (e .at) in
+        let same : attributes s (objectFrom s levels) (inv .fuel - 1) (earlier s names' first (top + 1)) next (e .at) ≡ rest
+        = λ i. attributes s (objectFrom s levels) (inv .fuel - 1) (seen-next i) (q .next + 1 + l i) (e .at) in
         record {
           fuel = inv .fuel - 1;
           room = record { stacked = record { room = behind; few = few }; lies = lies-more (inv .order) (d .kept) (d .pushed _ _ (e .is)) (inv .room .lies) };
           order = let o = inv .order in omega arith;
           enough = let f = inv .enough in let c = k .least in omega arith;
           kept = still;
-          is = (λ i. written attributesTable attributePool little (e .spot i) (e .records i) (e .bytes i) (attributes s (objectFrom s levels) (inv .fuel - 1) (earlier s names' first (top + 1)) (count (e .spot i .next) (e .spot i .pool)) (e .spot i .place)))
+          is = (λ i. written attributesTable attributePool little (e .spot i) (e .records i) (e .bytes i) (attributes s (objectFrom s levels) (inv .fuel - 1) (earlier s names' first (top + 1)) (e .spot i .next) (e .spot i .place)))
               ∙ ap (written attributesTable attributePool little (spot (e .at) next pool) _ _) same ∙ w ∙ rw t at (inv .is);
         }
       where

@@ -14,6 +14,7 @@ use Rattle.lexis.specs.Spelling.{closeBrace, star}
 use Rattle.lexis.specs.Tokens.{tokenAt, typeName}
 use Rattle.lexis.specs.Postconditions.{TokenIs}
 use Rattle.lexis.specs.declared.Token.{Token}
+use Rattle.lexis.proofs.Parts.{part-length}
 use Rattle.lexis.proofs.Stores.{sets-behind}
 use Rattle.refusals.specs.Reading.{Reading, refused, got, andThen}
 use Rattle.refusals.specs.Steps.{expect}
@@ -22,11 +23,10 @@ use Rattle.refusals.specs.declared.Refusal.{Refusal}
 use Rattle.refusals.specs.declared.steps.Expected.{Expected}
 use Rattle.refusals.specs.declared.steps.Expected.the-variants.{Fault, Taken}
 use Rattle.refusals.proofs.StepLaws.{expected-fault, expected-token}
-use Rattle.refusals.proofs.Readings.{Holds}
 use Rattle.meaning.specs.Constraints.{Object, object, Attributes, noMore, Value, any, nested}
 use Rattle.meaning.specs.Counting.{objectPool, attributePool, valuePool}
 use Rattle.items.proofs.ItemLaws.{all-kept}
-use Rattle.constraint.specs.Objects.{count, value, past, attributes, objectFrom}
+use Rattle.constraint.specs.Objects.{value, past, attributes, objectFrom}
 use Rattle.constraint.specs.Answers.{Counted, objectHead, typedReading, TypedPast, ObjectHeadIs}
 use Rattle.constraint.specs.declared.heads.ObjectHead.{ObjectHead}
 use Rattle.constraint.specs.declared.heads.ObjectHead.the-variants as objectHeadRead
@@ -38,7 +38,7 @@ use Rattle.emission.specs.declared.spots.Spot.{Spot}
 use Rattle.emission.specs.declared.spots.TreeRead.{TreeRead}
 use Rattle.emission.specs.declared.spots.TreeRead.the-variants.{Refused, Read}
 use Rattle.emission.proofs.WritingSteps.{front}
-use Rattle.compile.proofs.ReadingLaws.{behindHead, object-refused, object-levels, object-got, HeadRead, object-head-holds, Linked, linked}
+use Rattle.compile.proofs.ReadingLaws.{behindHead, object-refused, object-levels, object-got, Linked, linked}
 
 -- ---- the `}` of an object that any attribute may follow
 
@@ -53,8 +53,8 @@ module _ {s : List ℕ} {from : ℕ} {o : Expected} (e : ExpectIs s closeBrace f
 
 -- ---- an object
 
-pub counted : {s : List ℕ} {p : Spot} → Room s p → Counted s (p .next) (p .pool) (p .place)
-counted h = record { inside = h .inside; short = h .short; records = h .records; bytes = let a = h .bytes in let b = h .inside in let c = h .short in omega arith }
+pub counted : {s : List ℕ} {p : Spot} → Room s p → Counted s (p .next) (p .place)
+counted h = record { inside = h .inside; records = h .records }
 
 -- attributes behind an object's record and names make up the object
 object-written : (little : Bool) (p : Spot) (t c : List ℕ) (place : ℕ) (first : ℕ) (rs bs : List ℕ) (x : Reading Attributes) → ((xs : Attributes) (at : ℕ) → x ≡ got xs at → attributesLink xs ≡ first)
@@ -76,29 +76,29 @@ object-written little p t c place first rs bs (got xs at) h =
       bytes = b i;
     }
 
-module _ {s : List ℕ} {p : Spot} {top : ℕ} (room : Stacked s p top) {levels : ℕ} {o : ObjectHead} (e : ObjectHeadIs s levels (p .next) (p .pool) (p .place) o) where
+module _ {s : List ℕ} {p : Spot} {top : ℕ} (room : Stacked s p top) {levels : ℕ} {o : ObjectHead} (e : ObjectHeadIs s levels (p .next) (p .place) o) where
   abbrev From : Reading Object
-  From = objectFrom s levels (count (p .next) (p .pool)) (p .place)
+  From = objectFrom s levels (p .next) (p .place)
 
-  head-is : (k : ObjectHead) → o ≡ k → typedReading s k ≡ objectHead s levels (count (p .next) (p .pool)) (p .place)
+  head-is : (k : ObjectHead) → o ≡ k → typedReading s k ≡ objectHead s levels (p .next) (p .place)
   head-is k g = rw g at (e .is)
 
   pub object-faulty : (little : Bool) (names rs bs : List ℕ) (x : Refusal) → o ≡ objectHeadRead.Faulty x → TreeIs top names names (written objectTable objectPool little p rs bs From) rs bs (Refused x)
   unfolding written
-  object-faulty little names rs bs x g = record { is = rw (object-refused s levels (count (p .next) (p .pool)) (p .place) x (sym (head-is _ g))); kept = all-kept names top }
+  object-faulty little names rs bs x g = record { is = rw (object-refused s levels (p .next) (p .place) x (sym (head-is _ g))); kept = all-kept names top }
 
   module _ {a b c d next : ℕ} (g : o ≡ objectHeadRead.Head a b c d next) where
-    pub object-past : TypedPast s (p .next) (p .pool) (p .place) a b c d next
+    pub object-past : TypedPast s (p .next) (p .place) a b c d next
     object-past = rw g at (e .past)
 
     pub object-inside : next ≤ length s
     object-inside = object-past .inside
 
     pub object-level : 1 ≤ levels
-    object-level = object-levels s levels (count (p .next) (p .pool)) (p .place) _ next (sym (head-is _ g))
+    object-level = object-levels s levels (p .next) (p .place) _ next (sym (head-is _ g))
 
-    read : From ≡ behindHead s (objectFrom s (levels - 1)) (count (p .next) (p .pool)) (record { type = part s a b; code = part s c d }) next
-    read = object-got s levels (count (p .next) (p .pool)) (p .place) _ next (sym (head-is _ g))
+    read : From ≡ behindHead s (objectFrom s (levels - 1)) (p .next) (record { type = part s a b; code = part s c d }) next
+    read = object-got s levels (p .next) (p .place) _ next (sym (head-is _ g))
 
     module _ {t : Token} (tok : TokenIs s next (tokenAt s next) t) {little any : Bool} {rs bs rs' bs' : List ℕ} {q : Spot} (put : ObjectPut (part s a b) (part s c d) little p next any rs bs rs' bs' q) where
       pub object-any : (names : List ℕ) (r : TreeRead) → any ≡ eqb (t .sort) star → any ≡ true → EndIs s q (t .end) r → TreeIs top names names (written objectTable objectPool little p rs bs From) rs' bs' r
@@ -113,22 +113,21 @@ module _ {s : List ℕ} {p : Spot} {top : ℕ} (room : Stacked s p top) {levels 
           ends (got u y) xs at f = let z : noMore ≡ xs = cc in rw (← z)
 
       pub object-more : Stacked s q top
-      unfolding Holds
       object-more =
           let h = object-past in
-          let f : HeadRead s (p .place) (length (part s a b) + length (part s c d)) next = rw (sym (head-is _ g)) at (object-head-holds s levels (count (p .next) (p .pool)) (p .place) (room .room .inside)) in
+          let l = part-length s a b (omega arith) in
+          let m = part-length s c d (omega arith) in
           let v = room .room in
           let x = room .few in
-          rw (put .spot) (record { room = record { inside = h .inside; short = v .short; records = let n = h .records in omega arith; bytes = let l = f .bytes in let m = v .bytes in omega arith }; few = omega arith })
+          rw (put .spot) (record { room = record { inside = h .inside; short = v .short; records = let n = h .records in omega arith; bytes = omega arith }; few = omega arith })
 
       pub object-attributes : (names names' rs2 bs2 : List ℕ) (r : TreeRead) → any ≡ eqb (t .sort) star → any ≡ false
-          → TreeIs top names names' (written attributesTable attributePool little q rs' bs' (attributes s (objectFrom s (levels - 1)) (length s + 1) [] (count (q .next) (q .pool)) (q .place))) rs2 bs2 r
+          → TreeIs top names names' (written attributesTable attributePool little q rs' bs' (attributes s (objectFrom s (levels - 1)) (length s + 1) [] (q .next) (q .place))) rs2 bs2 r
           → TreeIs top names names' (written objectTable objectPool little p rs bs From) rs2 bs2 r
       object-attributes names names' rs2 bs2 r k y h =
           let z : eqb (tokenAt s next .sort) star ≡ false = ap (λ (x : Token). eqb (x .sort) star) (sym (tok .is)) ∙ sym k ∙ y in
-          let c1 = count (p .next + 1) (p .pool + length (part s a b) + length (part s c d)) in
-          let x = attributes s (objectFrom s (levels - 1)) (length s + 1) [] c1 next in
-          let l : Linked (p .next + 1) x = linked s (objectFrom s (levels - 1)) (length s + 1) [] c1 next in
+          let x = attributes s (objectFrom s (levels - 1)) (length s + 1) [] (p .next + 1) next in
+          let l : Linked (p .next + 1) x = linked s (objectFrom s (levels - 1)) (length s + 1) [] (p .next + 1) next in
           let w = object-written little p (part s a b) (part s c d) next (p .next + 1) rs bs x (λ xs at f. by x l xs at f) in
           record { is = h .is ∙ rw (put .spot, put .records, put .bytes, y, read, z) w; kept = h .kept }
         where
@@ -144,7 +143,7 @@ nested-written little p rs bs (refused x) = refl
 nested-written little p rs bs (got o at) = refl
 
 abbrev ValueOf : List ℕ → ℕ → Spot → Reading Value
-ValueOf s levels p = value s (objectFrom s levels) (count (p .next) (p .pool)) (p .place)
+ValueOf s levels p = value s (objectFrom s levels) (p .next) (p .place)
 
 module _ (s : List ℕ) (p : Spot) (t : Token) (tok : TokenIs s (p .place) (tokenAt s (p .place)) t) (levels top : ℕ) where
   pub value-any : (little : Bool) (names rs bs : List ℕ) → t .sort ≡ star → TreeIs top names names (written valueTable valuePool little p rs bs (ValueOf s levels p)) rs bs (Read (spot (t .end) (p .next) (p .pool)))
@@ -152,9 +151,9 @@ module _ (s : List ℕ) (p : Spot) (t : Token) (tok : TokenIs s (p .place) (toke
   value-any little names rs bs k = record { is = rw (← tok .is, eq-eqb (t .sort) star k, add-zero, add-zero); kept = all-kept names top }
 
   pub value-object : (little : Bool) (names names' rs bs rs' bs' : List ℕ) (r : TreeRead) → (t .sort ≡ star → ⊥) → t .sort ≡ typeName
-      → TreeIs top names names' (written objectTable objectPool little p rs bs (objectFrom s levels (count (p .next) (p .pool)) (p .place))) rs' bs' r → TreeIs top names names' (written valueTable valuePool little p rs bs (ValueOf s levels p)) rs' bs' r
+      → TreeIs top names names' (written objectTable objectPool little p rs bs (objectFrom s levels (p .next) (p .place))) rs' bs' r → TreeIs top names names' (written valueTable valuePool little p rs bs (ValueOf s levels p)) rs' bs' r
   value-object little names names' rs bs rs' bs' r k l h = record {
-    is = h .is ∙ nested-written little p rs bs (objectFrom s levels (count (p .next) (p .pool)) (p .place)) ∙ rw (← tok .is, ne-eqb (t .sort) star k, eq-eqb (t .sort) typeName l);
+    is = h .is ∙ nested-written little p rs bs (objectFrom s levels (p .next) (p .place)) ∙ rw (← tok .is, ne-eqb (t .sort) star k, eq-eqb (t .sort) typeName l);
     kept = h .kept;
   }
 

@@ -13,7 +13,6 @@ use Rattle.lexis.specs.Runs.{part}
 use Rattle.lexis.specs.Tokens.{textEnd}
 use Rattle.lexis.specs.declared.Token.{Token}
 use Rattle.lexis.proofs.Stores.{sets-behind}
-use Rattle.lexis.proofs.Parts.{sub-length}
 use Rattle.refusals.specs.Limits.{textLimit, levelLimit, recordLimit, poolLimit}
 use Rattle.refusals.specs.Refusals.{refusal}
 use Rattle.refusals.specs.Reading.{Reading, refused, got, andThen}
@@ -27,8 +26,7 @@ use Rattle.refusals.proofs.StepLaws.{expected-fault, expected-token}
 use Rattle.refusals.proofs.Readings.{Holds}
 use Rattle.meaning.specs.Constraints.{Object}
 use Rattle.meaning.specs.Counting.{objectPool}
-use Rattle.lexis.proofs.Parts.{part-length}
-use Rattle.constraint.specs.Objects.{count, objectFrom}
+use Rattle.constraint.specs.Objects.{objectFrom}
 use Rattle.constraint.specs.Texts.{constraintOf}
 use Rattle.constraint.proofs.TreeReading.{ObjectRead, object-holds}
 use Rattle.table.specs.Records.{Record, recordSize, encode, encodes, bytesOf}
@@ -45,7 +43,7 @@ use Rattle.emission.specs.declared.spots.TreeRead.{TreeRead}
 use Rattle.emission.specs.declared.spots.TreeRead.the-variants.{Refused, Read}
 use Rattle.compile.specs.declared.CompileResult.{CompileResult}
 use Rattle.flatten.proofs.FlattenLaws.{object-length}
-use Rattle.emission.proofs.TreeWriting.{five-object, row-below, IsTree, is-tree, is-refused}
+use Rattle.emission.proofs.TreeWriting.{five-object, row-below, IsTree, is-tree, is-refused, pool-below}
 
 -- ---- the records and the pool in the output
 
@@ -116,7 +114,7 @@ table-is little end place o rs bs out p lr lb h k =
         two false e = rw (from-front w out (ltb-false (length out) (length w) e))
 
 module _ (text : List ℕ) (short : length text ≤ textLimit) (little : Bool) (rs bs names names1 rs1 bs1 out : List ℕ) (r : TreeRead)
-    (d : TreeIs 0 names names1 (written objectTable objectPool little (spot 0 1 0) rs bs (objectFrom text levelLimit (count 1 0) 0)) rs1 bs1 r) where
+    (d : TreeIs 0 names names1 (written objectTable objectPool little (spot 0 1 0) rs bs (objectFrom text levelLimit 1 0)) rs1 bs1 r) where
   pub compile-refused : (x : Refusal) → r ≡ Refused x → compiling (Answer.refused x) out ≡ compileAnswer text little out
   unfolding compileAnswer constraintOf
   compile-refused x g =
@@ -124,12 +122,12 @@ module _ (text : List ℕ) (short : length text ≤ textLimit) (little : Bool) (
       rw (le-ltb textLimit (length text) short, f)
 
   module _ (q : Spot) (g : r ≡ Read q) where
-    read : IsTree objectTable objectPool little (spot 0 1 0) rs bs rs1 bs1 q (objectFrom text levelLimit (count 1 0) 0)
+    read : IsTree objectTable objectPool little (spot 0 1 0) rs bs rs1 bs1 q (objectFrom text levelLimit 1 0)
     read = is-tree objectTable objectPool little (spot 0 1 0) rs bs rs1 bs1 q _ (rw g at (d .is))
 
     tree : ObjectRead text 1 0 (read .tree) (q .place)
     unfolding Holds
-    tree = rw (read .is) at (object-holds text levelLimit (count 1 0) 0 (omega arith))
+    tree = rw (read .is) at (object-holds text levelLimit 1 0 (omega arith))
 
     spot-is : q ≡ spot (q .place) (suc (length (objectTable (read .tree) 0))) (length (objectPool (read .tree)))
     spot-is =
@@ -148,8 +146,7 @@ module _ (text : List ℕ) (short : length text ≤ textLimit) (little : Bool) (
 
     pool-room : length (objectPool (read .tree)) ≤ poolLimit
     pool-room =
-        let l = sub-length (tree .pool) in
-        let n = part-length text 0 (q .place) (tree .most) in
+        let l = pool-below text 0 0 (q .place) (objectPool (read .tree)) (omega arith) (omega arith) (tree .most) (tree .pool) in
         let m = tree .most in
         omega arith
 

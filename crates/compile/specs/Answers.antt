@@ -17,7 +17,7 @@ use Rattle.refusals.specs.Reading.{Reading, refused, got, andThen}
 use Rattle.meaning.specs.Constraints.{noMore}
 use Rattle.items.specs.Spans.{firstOf, secondOf, spanAt, earlier, Within}
 use Rattle.items.specs.Parts.{Kept}
-use Rattle.constraint.specs.Objects.{count, Attribute, attributeFrom, objectFrom}
+use Rattle.constraint.specs.Objects.{Attribute, attributeFrom, objectFrom}
 use Rattle.meaning.specs.Counting.{attributePool, valuePool}
 use Rattle.table.specs.Records.{recordSize, encode, encodes}
 use Rattle.flatten.specs.Flatten.{make, valueLink, attributesTable, valueTable}
@@ -64,9 +64,9 @@ pub record Pushed (s names : List ℕ) (top : ℕ) (w : List ℕ) : Type 0 where
   pub lies : Within s (firstOf names top) (secondOf names top)
 
 pub record AttributeIs (s : List ℕ) (little : Bool) (levels : ℕ) (p : Spot) (first top : ℕ) (names rs bs names' rs' bs' : List ℕ) (r : AttributeRead) : Type 0 where
-  pub is : attributeWrote r rs' bs' ≡ attributeWritten s little p rs bs (attributeFrom s (objectFrom s levels) (earlier s names first top) (count (p .next) (p .pool)) (p .place))
+  pub is : attributeWrote r rs' bs' ≡ attributeWritten s little p rs bs (attributeFrom s (objectFrom s levels) (earlier s names first top) (p .next) (p .place))
   pub kept : Kept top names names'
-  pub pushed : (a : Attribute) (at : ℕ) → attributeFrom s (objectFrom s levels) (earlier s names first top) (count (p .next) (p .pool)) (p .place) ≡ got a at → Pushed s names' top (a .name)
+  pub pushed : (a : Attribute) (at : ℕ) → attributeFrom s (objectFrom s levels) (earlier s names first top) (p .next) (p .place) ≡ got a at → Pushed s names' top (a .name)
 
 -- a text that goes on with an attribute: the names of its object are the spans from `first` on
 pub record AttributeRoom (s : List ℕ) (p : Spot) (first top : ℕ) (names : List ℕ) : Type 0 where

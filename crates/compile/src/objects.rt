@@ -20,7 +20,7 @@ ghost use mathlib.Core.List.{[]};
 ghost use Prim.Native.Nat.{_+_, _≤_};
 ghost use lib.ListN.{length};
 ghost use Rattle.meaning.specs.Counting.{objectPool, attributePool, valuePool};
-ghost use Rattle.constraint.specs.Objects.{count, value, attributes, objectFrom};
+ghost use Rattle.constraint.specs.Objects.{value, attributes, objectFrom};
 ghost use Rattle.flatten.specs.Flatten.{objectTable, attributesTable, valueTable};
 ghost use Rattle.emission.specs.Answers.{written};
 ghost use Rattle.compile.specs.Answers.{Stacked, TreeIs, EndIs, AttributeRoom, AttributeIs};
@@ -56,9 +56,9 @@ pub fn read_object(
     names: &mut [u32; 4096],
 ) -> TreeRead
     requires { ⌜ Stacked (now s) p top ⌝ }
-    ensures { λ r. ⌜ TreeIs top (now (names .entry)) (now (names .exit)) (written objectTable objectPool little p (now (records .entry)) (now (bytes .entry)) (objectFrom (now (s .entry)) levels (count (p .next) (p .pool)) (p .place))) (now (records .exit)) (now (bytes .exit)) r ⌝ }
+    ensures { λ r. ⌜ TreeIs top (now (names .entry)) (now (names .exit)) (written objectTable objectPool little p (now (records .entry)) (now (bytes .entry)) (objectFrom (now (s .entry)) levels (p .next) (p .place))) (now (records .exit)) (now (bytes .exit)) r ⌝ }
 {
-    match object_head(s, levels, p.next, p.pool, p.place) {
+    match object_head(s, levels, p.next, p.place) {
         ObjectHead::Faulty(fault) => {
             return TreeRead::Refused(fault);
         }
@@ -92,7 +92,7 @@ fn read_attributes(
     names: &mut [u32; 4096],
 ) -> TreeRead
     requires { ⌜ Stacked (now s) p first ⌝ }
-    ensures { λ r. ⌜ TreeIs first (now (names .entry)) (now (names .exit)) (written attributesTable attributePool little p (now (records .entry)) (now (bytes .entry)) (attributes (now (s .entry)) (objectFrom (now (s .entry)) levels) (length (now (s .entry)) + 1) [] (count (p .next) (p .pool)) (p .place))) (now (records .exit)) (now (bytes .exit)) r ⌝ }
+    ensures { λ r. ⌜ TreeIs first (now (names .entry)) (now (names .exit)) (written attributesTable attributePool little p (now (records .entry)) (now (bytes .entry)) (attributes (now (s .entry)) (objectFrom (now (s .entry)) levels) (length (now (s .entry)) + 1) [] (p .next) (p .place))) (now (records .exit)) (now (bytes .exit)) r ⌝ }
 {
     let mut q = p;
     let mut top = first;
@@ -127,7 +127,7 @@ fn read_attribute(
     requires { ⌜ AttributeRoom (now s) p first top (now names) ⌝ }
     ensures { λ r. ⌜ AttributeIs (now (s .entry)) little levels p first top (now (names .entry)) (now (records .entry)) (now (bytes .entry)) (now (names .exit)) (now (records .exit)) (now (bytes .exit)) r ⌝ }
 {
-    match attribute_head(s, names, first, top, p.next, p.pool, p.place) {
+    match attribute_head(s, names, first, top, p.next, p.place) {
         AttributeHead::Faulty(fault) => {
             return AttributeRead::Refused(fault);
         }
@@ -162,7 +162,7 @@ fn read_value(
     names: &mut [u32; 4096],
 ) -> TreeRead
     requires { ⌜ Stacked (now s) p top ⌝ }
-    ensures { λ r. ⌜ TreeIs top (now (names .entry)) (now (names .exit)) (written valueTable valuePool little p (now (records .entry)) (now (bytes .entry)) (value (now (s .entry)) (objectFrom (now (s .entry)) levels) (count (p .next) (p .pool)) (p .place))) (now (records .exit)) (now (bytes .exit)) r ⌝ }
+    ensures { λ r. ⌜ TreeIs top (now (names .entry)) (now (names .exit)) (written valueTable valuePool little p (now (records .entry)) (now (bytes .entry)) (value (now (s .entry)) (objectFrom (now (s .entry)) levels) (p .next) (p .place))) (now (records .exit)) (now (bytes .exit)) r ⌝ }
 {
     let t = token_at(s, p.place);
     if t.sort == STAR {
@@ -175,5 +175,5 @@ fn read_value(
     if t.sort == TYPE_NAME {
         return read_object(s, little, levels, p, top, records, bytes, names);
     }
-    write_leaf(s, little, p, records, bytes)
+    write_leaf(s, little, p, t, records, bytes)
 }

@@ -10,15 +10,15 @@ use Rattle.refusals.specs.Reading.{Reading, refused, got}
 use Rattle.refusals.specs.Refusals.{numberOf}
 use Rattle.meaning.specs.Constraints.{Object}
 use Rattle.meaning.proofs.Trees.{objectList}
-use Rattle.constraint.specs.Objects.{objectFrom, count}
+use Rattle.constraint.specs.Objects.{objectFrom}
 use Rattle.constraint.specs.Texts.{constraintOf}
 
--- a text and what is expected of it; or an object that is no outermost one, from a count of records and of the pool's bytes on
+-- a text and what is expected of it; or an object that is no outermost one, from a record's number on
 pub data Case : Type 0 where
   accepts : (text : List ℕ) (tree : Object) → Case
   refuses : (text : List ℕ) (number place : ℕ) → Case
-  acceptsFrom : (text : List ℕ) (next pool : ℕ) (tree : Object) → Case
-  refusesFrom : (text : List ℕ) (next pool number place : ℕ) → Case
+  acceptsFrom : (text : List ℕ) (next : ℕ) (tree : Object) → Case
+  refusesFrom : (text : List ℕ) (next number place : ℕ) → Case
 
 abbrev pub isTree : Reading Object → Object → ℕ → Bool
 isTree (refused r) o end = false
@@ -32,5 +32,5 @@ isRefusal (got x p) number place = false
 unfoldable pub right : Case → Bool
 right (accepts s o) = isTree (constraintOf s) o (length s)
 right (refuses s number place) = isRefusal (constraintOf s) number place
-right (acceptsFrom s next pool o) = isTree (objectFrom s (levelLimit - 1) (count next pool) 0) o (length s)
-right (refusesFrom s next pool number place) = isRefusal (objectFrom s (levelLimit - 1) (count next pool) 0) number place
+right (acceptsFrom s next o) = isTree (objectFrom s (levelLimit - 1) next 0) o (length s)
+right (refusesFrom s next number place) = isRefusal (objectFrom s (levelLimit - 1) next 0) number place

@@ -1,5 +1,5 @@
 -- What a step of the readers of existence shows: a law for each way out. Assumes nothing.
-use mathlib.Core.Path.{_≡_, sym}
+use mathlib.Core.Path.{_≡_, refl, sym}
 use mathlib.Core.Bool.{Bool, true, false, _&&_}
 use mathlib.Core.List.{List}
 use Prim.Native.Nat.{ℕ, _≤_}
@@ -21,7 +21,7 @@ use Rattle.refusals.specs.Answers.{TokenPast, ExpectIs}
 use Rattle.refusals.specs.declared.Refusal.{Refusal}
 use Rattle.refusals.specs.declared.steps.Expected.{Expected}
 use Rattle.refusals.specs.declared.steps.Expected.the-variants.{Fault, Taken}
-use Rattle.refusals.proofs.StepLaws.{expected-fault, expected-token, expected-past}
+use Rattle.refusals.proofs.StepLaws.{expect-taken, expect-fault, expected-fault, expected-token, expected-past}
 use Rattle.items.specs.Spans.{Within}
 use Rattle.constraint.specs.Existence.{opening, fromNought, fromOne, bounds, existenceFrom}
 use Rattle.constraint.specs.Answers.{ExistencePast, ExistenceIs, closed, braced}
@@ -40,19 +40,27 @@ existence-earlier s from later (Existence flag next) h p = (p .0, omega arith, p
 
 -- `matches {`
 module _ (s : List ℕ) (from : ℕ) (r : Expected) (e : ExpectIs s matches from (expect s matches from) r) where
-  pub opening-fault : (x : Refusal) → r ≡ Fault x → ExpectIs s openBrace from (opening s from) (Fault x)
+  opening-fault : (x : Refusal) → r ≡ Fault x → ExpectIs s openBrace from (opening s from) (Fault x)
   unfolding opening
   opening-fault x g = record { is = rw (expected-fault e x g); past = tt }
 
   module _ (t : Token) (g : r ≡ Taken t) where
-    pub opening-asks : t .end ≤ length s
-    opening-asks = expected-past e t g .2
-
-    pub opening-rest : (q : Expected) → ExpectIs s openBrace (t .end) (expect s openBrace (t .end)) q → ExpectIs s openBrace from (opening s from) q
+    opening-rest : (q : Expected) → ExpectIs s openBrace (t .end) (expect s openBrace (t .end)) q → ExpectIs s openBrace from (opening s from) q
     unfolding opening
     opening-rest q h =
         let p = expected-past e t g in
         record { is = rw (expected-token e t g) (h .is); past = token-earlier s openBrace from (t .end) q (omega arith) (h .past) }
+
+module _ (s : List ℕ) (from : ℕ) (t : Token) (tok : TokenIs s from (tokenAt s from) t) where
+  pub opening-other : (t .sort ≡ matches → ⊥) → (x : Refusal) → x ≡ refusal (syntaxCause t) (t .start) → ExpectIs s openBrace from (opening s from) (Fault x)
+  opening-other n x e = opening-fault s from (Fault x) (expect-fault s matches from t tok n x e) x refl
+
+  pub opening-opens : t .sort ≡ matches → (q : Expected) → ExpectIs s openBrace (t .end) (expect s openBrace (t .end)) q → ExpectIs s openBrace from (opening s from) q
+  opening-opens k q h = opening-rest s from (Taken t) (expect-taken s matches from t tok k) t refl q h
+
+  -- the same place has the same token
+  pub token-same : (place : ℕ) → place ≡ from → TokenIs s place (tokenAt s place) t
+  token-same place e = rw e tok
 
 -- an integer that is spelled so
 module _ (s w : List ℕ) (t : Token) where
@@ -175,9 +183,9 @@ module _ (s : List ℕ) (from : ℕ) (o : Expected) (e : ExpectIs s openBrace fr
             record { is = rw (expected-token e t g, existence-got h flag next k) (q .is); past = existence-earlier s from next r (omega arith) (q .past) }
 
 pub ruleset existence-steps = (
-  opening-fault,
-  opening-asks,
-  opening-rest,
+  opening-other,
+  opening-opens,
+  token-same,
   spells-not,
   spells-is,
   token-within,

@@ -19,7 +19,8 @@ ghost use lib.Dec.{eqb};
 ghost use lib.ListN.{length};
 ghost use Rattle.lexis.specs.Runs.{same};
 ghost use Rattle.lexis.specs.Spelling.{openBrace};
-ghost use Rattle.lexis.specs.Tokens.{integer, spelling};
+ghost use Rattle.lexis.specs.Tokens.{tokenAt, integer, spelling};
+ghost use Rattle.lexis.specs.Postconditions.{TokenIs};
 ghost use Rattle.refusals.specs.Answers.{ExpectIs};
 ghost use Rattle.items.specs.Spans.{Within};
 ghost use Rattle.constraint.specs.Existence.{opening, fromNought, fromOne, bounds, existenceFrom};
@@ -38,19 +39,16 @@ pub enum ExistenceRead {
     Existence { flag: u8, next: usize },
 }
 
-// `matches {`
-pub fn opening(s: &[u8], from: usize) -> Expected
-    requires { ⌜ from ≤ length (now s) ⌝ }
+// `matches {` from a place on, where the next token is t.
+pub fn opening(s: &[u8], from: usize, t: Token) -> Expected
+    requires { ⌜ TokenIs (now s) from (tokenAt (now s) from) t ⌝ }
     ensures { λ r. ⌜ ExpectIs (now (s .entry)) openBrace from (opening (now (s .entry)) from) r ⌝ }
 {
-    match expect(s, MATCHES, from) {
-        Expected::Fault(fault) => {
-            return Expected::Fault(fault);
-        }
-        Expected::Taken(t) => {
-            return expect(s, OPEN_BRACE, t.end);
-        }
+    if t.sort != MATCHES {
+        let fault = syntax_fault(t);
+        return Expected::Fault(fault);
     }
+    expect(s, OPEN_BRACE, t.end)
 }
 
 // The token is an integer that is spelled so.
@@ -154,7 +152,8 @@ fn braced(s: &[u8], from: usize) -> ExistenceRead
     requires { ⌜ from ≤ length (now s) ⌝ }
     ensures { λ r. ⌜ ExistenceIs (now (s .entry)) from (braced (now (s .entry)) from) r ⌝ }
 {
-    match opening(s, from) {
+    let keyword = token_at(s, from);
+    match opening(s, from, keyword) {
         Expected::Fault(fault) => {
             return ExistenceRead::Faulty(fault);
         }
@@ -169,12 +168,12 @@ fn braced(s: &[u8], from: usize) -> ExistenceRead
     }
 }
 
-// The existence from a place behind a NAME on; 1..1 where there is none.
-pub fn existence_from(s: &[u8], from: usize) -> ExistenceRead
+// The existence from a place behind a NAME on, where the next token is t; 1..1 where there is none.
+pub fn existence_from(s: &[u8], from: usize, t: Token) -> ExistenceRead
     requires { ⌜ from ≤ length (now s) ⌝ }
+    requires { ⌜ TokenIs (now s) from (tokenAt (now s) from) t ⌝ }
     ensures { λ r. ⌜ ExistenceIs (now (s .entry)) from (existenceFrom (now (s .entry)) from) r ⌝ }
 {
-    let t = token_at(s, from);
     if t.sort == EXISTENCE {
         return braced(s, t.end);
     }

@@ -12,19 +12,19 @@ use refusals::Cause;
 use refusals::Refusal;
 use refusals::limits::CODE_LIMIT;
 use refusals::limits::NAME_LIMIT;
-use refusals::limits::POOL_LIMIT;
 use refusals::limits::RECORD_LIMIT;
 use refusals::steps::Expected;
 use refusals::steps::expect;
 use refusals::steps::too_long;
 ghost use Prim.Native.Nat.{_≤_};
 ghost use lib.ListN.{length};
-ghost use Rattle.refusals.specs.Limits.{textLimit, poolLimit};
+ghost use Rattle.lexis.specs.Tokens.{tokenAt};
+ghost use Rattle.lexis.specs.Postconditions.{TokenIs};
 ghost use Rattle.items.specs.Spans.{earlier, SpansIn};
-ghost use Rattle.constraint.specs.Objects.{count, objectType, attributeName};
-ghost use Rattle.constraint.specs.Answers.{Counted, PooledIs, WordIs, CodeRoom, CodeIs, OpenedIs, ObjectHeadIs, NamedIs, AttributeHeadIs};
+ghost use Rattle.constraint.specs.Objects.{objectType, attributeName};
+ghost use Rattle.constraint.specs.Answers.{Counted, WordIs, CodeIs, OpenedIs, ObjectHeadIs, NamedIs, AttributeHeadIs};
 
-// The place of a code and the place behind it, 0 and 0 where there is none; or its refusal.
+// The place of a code, empty where there is none, and the place behind it; or its refusal.
 pub enum CodeRead {
     Faulty(Refusal),
     Code {
@@ -60,24 +60,10 @@ pub enum AttributeHead {
 // The bytes of a code's two brackets.
 const BRACKETS: usize = 2;
 
-// The token, if the pool has room for so many bytes.
-fn pooled(t: Token, size: usize, pool: usize) -> Expected
-    requires { ⌜ (size ≤ textLimit) × (pool ≤ poolLimit) ⌝ }
-    ensures { λ r. ⌜ PooledIs t size pool r ⌝ }
-{
-    if POOL_LIMIT < pool + size {
-        return Expected::Fault(Refusal {
-            cause: Cause::PoolTooLarge,
-            place: t.start,
-        });
-    }
-    Expected::Taken(t)
-}
-
 // A TYPE that starts an object, where so many levels are left.
-fn object_type(s: &[u8], levels: usize, next: usize, pool: usize, from: usize) -> Expected
-    requires { ⌜ Counted (now s) next pool from ⌝ }
-    ensures { λ r. ⌜ WordIs (now (s .entry)) next pool from (objectType (now (s .entry)) levels (count next pool) from) r ⌝ }
+fn object_type(s: &[u8], levels: usize, next: usize, from: usize) -> Expected
+    requires { ⌜ Counted (now s) next from ⌝ }
+    ensures { λ r. ⌜ WordIs (now (s .entry)) next from (objectType (now (s .entry)) levels next from) r ⌝ }
 {
     match expect(s, TYPE_NAME, from) {
         Expected::Fault(fault) => {
@@ -100,21 +86,21 @@ fn object_type(s: &[u8], levels: usize, next: usize, pool: usize, from: usize) -
                     place: t.start,
                 });
             }
-            return pooled(t, t.end - t.start, pool);
+            return Expected::Taken(t);
         }
     }
 }
 
 // A code without its brackets, where there is one.
-fn object_code(s: &[u8], pool: usize, from: usize) -> CodeRead
-    requires { ⌜ CodeRoom (now s) pool from ⌝ }
-    ensures { λ r. ⌜ CodeIs (now (s .entry)) pool from r ⌝ }
+fn object_code(s: &[u8], from: usize) -> CodeRead
+    requires { ⌜ from ≤ length (now s) ⌝ }
+    ensures { λ r. ⌜ CodeIs (now (s .entry)) from r ⌝ }
 {
     let t = token_at(s, from);
     if t.sort != CODE {
         return CodeRead::Code {
-            start: 0,
-            end: 0,
+            start: from,
+            end: from,
             next: from,
         };
     }
@@ -122,17 +108,10 @@ fn object_code(s: &[u8], pool: usize, from: usize) -> CodeRead
         let fault = too_long(t);
         return CodeRead::Faulty(fault);
     }
-    match pooled(t, t.end - t.start - BRACKETS, pool) {
-        Expected::Fault(fault) => {
-            return CodeRead::Faulty(fault);
-        }
-        Expected::Taken(_) => {
-            return CodeRead::Code {
-                start: t.start + 1,
-                end: t.end - 1,
-                next: t.end,
-            };
-        }
+    CodeRead::Code {
+        start: t.start + 1,
+        end: t.end - 1,
+        next: t.end,
     }
 }
 
@@ -143,12 +122,11 @@ fn attribute_name(
     first: usize,
     top: usize,
     next: usize,
-    pool: usize,
     from: usize,
 ) -> Expected
-    requires { ⌜ Counted (now s) next pool from ⌝ }
+    requires { ⌜ Counted (now s) next from ⌝ }
     requires { ⌜ SpansIn (now s) (now names) first top ⌝ }
-    ensures { λ r. ⌜ WordIs (now (s .entry)) next pool from (attributeName (now (s .entry)) (earlier (now (s .entry)) (now (names .entry)) first top) (count next pool) from) r ⌝ }
+    ensures { λ r. ⌜ WordIs (now (s .entry)) next from (attributeName (now (s .entry)) (earlier (now (s .entry)) (now (names .entry)) first top) next from) r ⌝ }
 {
     match expect(s, NAME, from) {
         Expected::Fault(fault) => {
@@ -171,7 +149,7 @@ fn attribute_name(
                     place: t.start,
                 });
             }
-            return pooled(t, t.end - t.start, pool);
+            return Expected::Taken(t);
         }
     }
 }
@@ -181,7 +159,8 @@ fn object_opening(s: &[u8], t: Token, start: usize, end: usize, from: usize) -> 
     requires { ⌜ from ≤ length (now s) ⌝ }
     ensures { λ r. ⌜ OpenedIs (now (s .entry)) t start end from r ⌝ }
 {
-    match opening(s, from) {
+    let keyword = token_at(s, from);
+    match opening(s, from, keyword) {
         Expected::Fault(fault) => {
             return ObjectHead::Faulty(fault);
         }
@@ -198,15 +177,15 @@ fn object_opening(s: &[u8], t: Token, start: usize, end: usize, from: usize) -> 
 }
 
 // What an object begins with: a TYPE, a code where there is one, and `matches {`.
-pub fn object_head(s: &[u8], levels: usize, next: usize, pool: usize, from: usize) -> ObjectHead
-    requires { ⌜ Counted (now s) next pool from ⌝ }
-    ensures { λ r. ⌜ ObjectHeadIs (now (s .entry)) levels next pool from r ⌝ }
+pub fn object_head(s: &[u8], levels: usize, next: usize, from: usize) -> ObjectHead
+    requires { ⌜ Counted (now s) next from ⌝ }
+    ensures { λ r. ⌜ ObjectHeadIs (now (s .entry)) levels next from r ⌝ }
 {
-    match object_type(s, levels, next, pool, from) {
+    match object_type(s, levels, next, from) {
         Expected::Fault(fault) => {
             return ObjectHead::Faulty(fault);
         }
-        Expected::Taken(t) => match object_code(s, pool + (t.end - t.start), t.end) {
+        Expected::Taken(t) => match object_code(s, t.end) {
             CodeRead::Faulty(fault) => {
                 return ObjectHead::Faulty(fault);
             }
@@ -221,12 +200,24 @@ pub fn object_head(s: &[u8], levels: usize, next: usize, pool: usize, from: usiz
     }
 }
 
-// The opening brace of an attribute whose name and existence are read.
-fn attribute_opening(s: &[u8], t: Token, flag: u8, from: usize) -> AttributeHead
-    requires { ⌜ from ≤ length (now s) ⌝ }
+// The token from a place on, which is u where the place is the one that u was read from.
+fn token_behind(s: &[u8], from: usize, u: Token, place: usize) -> Token
+    requires { ⌜ place ≤ length (now s) ⌝ }
+    requires { ⌜ TokenIs (now s) from (tokenAt (now s) from) u ⌝ }
+    ensures { λ r. ⌜ TokenIs (now (s .entry)) place (tokenAt (now (s .entry)) place) r ⌝ }
+{
+    if place == from {
+        return u;
+    }
+    token_at(s, place)
+}
+
+// The opening brace of an attribute whose name and existence are read, where the next token is u.
+fn attribute_opening(s: &[u8], t: Token, flag: u8, from: usize, u: Token) -> AttributeHead
+    requires { ⌜ TokenIs (now s) from (tokenAt (now s) from) u ⌝ }
     ensures { λ r. ⌜ NamedIs (now (s .entry)) t flag from r ⌝ }
 {
-    match opening(s, from) {
+    match opening(s, from, u) {
         Expected::Fault(fault) => {
             return AttributeHead::Faulty(fault);
         }
@@ -248,24 +239,27 @@ pub fn attribute_head(
     first: usize,
     top: usize,
     next: usize,
-    pool: usize,
     from: usize,
 ) -> AttributeHead
-    requires { ⌜ Counted (now s) next pool from ⌝ }
+    requires { ⌜ Counted (now s) next from ⌝ }
     requires { ⌜ SpansIn (now s) (now names) first top ⌝ }
-    ensures { λ r. ⌜ AttributeHeadIs (now (s .entry)) (earlier (now (s .entry)) (now (names .entry)) first top) next pool from r ⌝ }
+    ensures { λ r. ⌜ AttributeHeadIs (now (s .entry)) (earlier (now (s .entry)) (now (names .entry)) first top) next from r ⌝ }
 {
-    match attribute_name(s, names, first, top, next, pool, from) {
+    match attribute_name(s, names, first, top, next, from) {
         Expected::Fault(fault) => {
             return AttributeHead::Faulty(fault);
         }
-        Expected::Taken(t) => match existence_from(s, t.end) {
-            ExistenceRead::Faulty(fault) => {
-                return AttributeHead::Faulty(fault);
+        Expected::Taken(t) => {
+            let u = token_at(s, t.end);
+            match existence_from(s, t.end, u) {
+                ExistenceRead::Faulty(fault) => {
+                    return AttributeHead::Faulty(fault);
+                }
+                ExistenceRead::Existence { flag, next: behind } => {
+                    let v = token_behind(s, t.end, u, behind);
+                    return attribute_opening(s, t, flag, behind, v);
+                }
             }
-            ExistenceRead::Existence { flag, next: behind } => {
-                return attribute_opening(s, t, flag, behind);
-            }
-        },
+        }
     }
 }

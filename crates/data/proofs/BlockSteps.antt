@@ -24,7 +24,7 @@ use Rattle.refusals.specs.Steps.{syntaxCause}
 use Rattle.refusals.specs.declared.Cause.{Cause}
 use Rattle.refusals.specs.declared.Cause.the-variants.{TooDeep, TooLong, RepeatedName}
 use Rattle.refusals.specs.declared.Refusal.{Refusal}
-use Rattle.refusals.proofs.Readings.{Holds, then-holds, holds-map}
+use Rattle.refusals.proofs.Readings.{Holds, DataRefusal, then-holds, holds-map}
 use Rattle.data.specs.Placed.{Span, span, Block, block, Entries, noMore, entry, Content, string, word, inside}
 use Rattle.data.specs.Data.{Down, expect, nameFrom, contentFrom, members, blockFrom, spanOf}
 use Rattle.data.specs.Tape.{rowSize, blockRows, entryRows, contentRows, nextRow, typeStart, typeEnd, rowOf, blockTape, entriesTape, contentTape}
@@ -314,7 +314,7 @@ members-start s levels from n tape t room tok = record {
 }
 
 -- members that were read take a byte for `>` and four for each row
-rows-read : (s : List ℕ) (from n : ℕ) (before after : List ℕ) (x : Reading Entries) (r : RowsRead) → Holds (length s) (EntriesRead s from) x → rowsWrote r after ≡ entriesWritten n before x → RowsPast s from n r
+rows-read : (s : List ℕ) (from n : ℕ) (before after : List ℕ) (x : Reading Entries) (r : RowsRead) → Holds (DataRefusal s) (EntriesRead s from) x → rowsWrote r after ≡ entriesWritten n before x → RowsPast s from n r
 unfolding Holds
 rows-read s from n before after x (Refused y) h e = tt
 rows-read s from n before after x (Read rows place) h e =
@@ -413,13 +413,13 @@ record MemberTakes (s : List ℕ) (place : ℕ) (c : Content) (q : ℕ) : Type 0
   pub least : place + 4 + 4 * contentRows c ≤ q
   pub most : q ≤ length s
 
-member-takes : (s : List ℕ) (levels : ℕ) (seen : List (List ℕ)) (place : ℕ) (t : Token) → t ≡ dataTokenAt s place → t .sort ≡ name → place ≤ length s → Holds (length s) (MemberTakes s place) (memberOf s seen t (blockFrom s levels))
+member-takes : (s : List ℕ) (levels : ℕ) (seen : List (List ℕ)) (place : ℕ) (t : Token) → t ≡ dataTokenAt s place → t .sort ≡ name → place ≤ length s → Holds (DataRefusal s) (MemberTakes s place) (memberOf s seen t (blockFrom s levels))
 unfolding memberOf
 member-takes s levels seen place t e k h =
     let down = blockFrom s levels in
-    let z : Holds (length s) (SpanRead s place) (nameFrom s seen t) = rw e (name-holds s down (block-holds s levels) seen place h (eq-eqb _ name (rw e at k))) in
-    then-holds (length s) (MemberTakes s place) (SpanRead s place) (nameFrom s seen t) _ z (λ w p a.
-    holds-map (length s) (ContentRead s p) (MemberTakes s place) _ (λ c q b. record { least = omega arith; most = b .most }) (content-holds s down (block-holds s levels) p (a .most)))
+    let z : Holds (DataRefusal s) (SpanRead s place) (nameFrom s seen t) = rw e (name-holds s down (block-holds s levels) seen place h (eq-eqb _ name (rw e at k))) in
+    then-holds (DataRefusal s) (MemberTakes s place) (SpanRead s place) (nameFrom s seen t) _ z (λ w p a.
+    holds-map (DataRefusal s) (ContentRead s p) (MemberTakes s place) _ (λ c q b. record { least = omega arith; most = b .most }) (content-holds s down (block-holds s levels) p (a .most)))
 
 -- a token of the text lies in it
 token-there : (s : List ℕ) (q : ℕ) (a : Token) → q ≤ length s → a ≡ dataTokenAt s q → TokenIs s q (dataTokenAt s q) a

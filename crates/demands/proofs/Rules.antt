@@ -1,6 +1,6 @@
 -- Demand 2: the answers of compiling and judging, from the rules as relations. Assumes nothing.
-use mathlib.Core.Path.{_≡_, refl, sym, ap, subst}
-use mathlib.Core.Logic.{_↔_, _⊎_, inl, inr}
+use mathlib.Core.Path.{_≡_, refl, sym, ap, subst, _∙_}
+use mathlib.Core.Logic.{_↔_, _⊎_, inl, inr, _≢_}
 use mathlib.Core.Bool.{Bool, true, false, cond}
 use mathlib.Core.List.{List, [], _++_}
 use Prim.Native.Nat.{ℕ, _≤_}
@@ -12,7 +12,7 @@ use Rattle.refusals.specs.Reading
 use Rattle.refusals.specs.Reading.{Reading, got}
 use Rattle.refusals.specs.declared.Refusal.{Refusal}
 use Rattle.refusals.specs.declared.Cause.the-variants.{OutputTooShort}
-use Rattle.refusals.specs.Refusals.{refusal}
+use Rattle.refusals.specs.Refusals.{refusal, numberOf}
 use Rattle.meaning.specs.Constraints.{Object}
 use Rattle.meaning.specs.Data.{Datum}
 use Rattle.meaning.specs.Verdicts.{Verdict}
@@ -21,6 +21,7 @@ use Rattle.meaning.specs.Judging.{judge}
 use Rattle.data.specs.Placed.{Block, spelledBlock}
 use Rattle.data.specs.Data.{blockOf, datumOf}
 use Rattle.constraint.specs.Texts.{constraintOf}
+use Rattle.constraint.proofs.TreeReading.{not-ten}
 use Rattle.compile.specs.Answer.{CompileAnswer, compileAnswer, tableOf, write}
 use Rattle.compile.specs.Answer as Compile
 use Rattle.judge.specs.Answer.{JudgeAnswer, judgeAnswer, judgeDatum}
@@ -92,21 +93,37 @@ module _ (text : List ℕ) (little : Bool) (out : List ℕ) where
       let x = Constrained.read-derives text tree .1 d in
       rw (x .1, le-ltb (length out) (length (tableOf little tree)) h)
 
-  refused-only : (r : Refusal) → compileAnswer text little out .answer ≡ Compile.refused r → Least r (ConstraintFaults.faults text) ⊎ TooShort text little out r
+  -- a refusal is the text's own, or the output is too short
+  refused-by : (r : Refusal) → compileAnswer text little out .answer ≡ Compile.refused r → (constraintOf text ≡ Reading.refused r) ⊎ TooShort text little out r
   unfolding compileAnswer
-  refused-only r = by (constraintOf text) refl
+  refused-by r = by (constraintOf text) refl
     where
-      by : (x : Reading Object) → constraintOf text ≡ x → write little out (length text) x .answer ≡ Compile.refused r → Least r (ConstraintFaults.faults text) ⊎ TooShort text little out r
-      by (Reading.refused y) e h = let z : y ≡ r = ap (whyOf r) h in inl (subst (λ (w : Refusal). Least w (ConstraintFaults.faults text)) z (ConstraintScanned.refused-least text y e))
+      by : (x : Reading Object) → constraintOf text ≡ x → write little out (length text) x .answer ≡ Compile.refused r → (constraintOf text ≡ Reading.refused r) ⊎ TooShort text little out r
+      by (Reading.refused y) e h = inl (e ∙ ap (λ (w : Refusal). Reading.refused w) (ap (whyOf r) h))
       by (got o p) e h = room (ltb (length out) (length (tableOf little o))) refl h
         where
           room : (b : Bool)
               → ltb (length out) (length (tableOf little o)) ≡ b
               → cond b (Compile.compiling (Compile.refused (refusal OutputTooShort (length text))) out) (Compile.compiling (Compile.done (length (tableOf little o))) (tableOf little o ++ drop (length (tableOf little o)) out)) .answer ≡ Compile.refused r
-              → Least r (ConstraintFaults.faults text) ⊎ TooShort text little out r
+              → (constraintOf text ≡ Reading.refused r) ⊎ TooShort text little out r
           room true f k =
               inr (record { tree = o; derived = Constrained.read-derives text o .0 (p, e); short = ltb-true (length out) (length (tableOf little o)) f; told = sym (ap (whyOf r) k) })
           room false f k = absurd (not-done (sym k))
+
+  refused-only : (r : Refusal) → compileAnswer text little out .answer ≡ Compile.refused r → Least r (ConstraintFaults.faults text) ⊎ TooShort text little out r
+  refused-only r h = by (refused-by r h)
+    where
+      by : (constraintOf text ≡ Reading.refused r) ⊎ TooShort text little out r → Least r (ConstraintFaults.faults text) ⊎ TooShort text little out r
+      by (inl e) = inl (ConstraintScanned.refused-least text r e)
+      by (inr x) = inr x
+
+  never-ten : (r : Refusal) → compileAnswer text little out .answer ≡ Compile.refused r → numberOf (r .cause) ≢ 10
+  unfolding numberOf
+  never-ten r h = by (refused-by r h)
+    where
+      by : (constraintOf text ≡ Reading.refused r) ⊎ TooShort text little out r → numberOf (r .cause) ≢ 10
+      by (inl e) = let k = not-ten text r e in omega arith
+      by (inr x) = rw (x .told) (omega arith)
 
   least-refused : (x : Refusal) → Least x (ConstraintFaults.faults text) → (r : Refusal) × (compileAnswer text little out .answer ≡ Compile.refused r) × Alike x r
   unfolding compileAnswer
@@ -211,6 +228,7 @@ demand2 = record {
   refused = refused-only;
   least-refused = least-refused;
   short-refused = short-refused;
+  never-ten = never-ten;
   valid = λ table root form o h. verdict-told table root form o h Verdicts.valid (λ d. Admits o d) (λ d. valid-admits o d);
   fails = λ table root form o r n p h. verdict-told table root form o h (Verdicts.fails r n p) (λ d. FirstFailure o d r n p) (λ d. fails-first o d r n p);
   one-datum = Derived.one-tree;

@@ -2,7 +2,7 @@
 -- contracts, each an equation for every input: compile's answer and output are compileAnswer's, merge's are mergeAnswer's, judge's answer is judgeAnswer's, check's is tableFault's, and
 -- name's are nameAnswer's. Assumes nothing.
 use mathlib.Core.Path.{_≡_}
-use mathlib.Core.Logic.{_↔_, _⊎_}
+use mathlib.Core.Logic.{_↔_, _⊎_, _≢_}
 use mathlib.Core.Bool.{Bool}
 use mathlib.Core.Option.{none, some}
 use mathlib.Core.List.{List, [], _++_}
@@ -73,7 +73,7 @@ pub record Demand2 : Type 0 where
   pub accepted : (text : List ℕ) (little : Bool) (out : List ℕ) (size : ℕ)
       → (compileAnswer text little out .answer ≡ Compile.done size) ↔ ((tree : Object) × DerivesConstraint text tree × (size ≡ length (tableOf little tree)) × (size ≤ length out))
   pub one-tree : (text : List ℕ) (a b : Object) → DerivesConstraint text a → DerivesConstraint text b → a ≡ b
-  -- 'Table': "Compiling numbers records and fills the pool in text order"; "on success only bytes past the table's end stay".
+  -- 'Table': "Compiling numbers records and fills the pool in text order"; 'Numbers of refusal': "on success only bytes past the table's end stay".
   pub written : (text : List ℕ) (tree : Object) (little : Bool) (out : List ℕ)
       → DerivesConstraint text tree → length (tableOf little tree) ≤ length out
       → compileAnswer text little out .out ≡ tableOf little tree ++ drop (length (tableOf little tree)) out
@@ -85,6 +85,8 @@ pub record Demand2 : Type 0 where
   pub least-refused : (text : List ℕ) (little : Bool) (out : List ℕ) (x : Refusal)
       → Least x (ConstraintFaults.faults text) → (r : Refusal) × (compileAnswer text little out .answer ≡ Compile.refused r) × Alike x r
   pub short-refused : (text : List ℕ) (little : Bool) (out : List ℕ) (r : Refusal) → TooShort text little out r → compileAnswer text little out .answer ≡ Compile.refused r
+  -- Compiling never answers 10, "pool above 16,384". That no text needs it is `pool-fits` in crates/constraint/proofs/TreeReading.antt: each byte of the pool is a byte of its own of the text.
+  pub never-ten : (text : List ℕ) (little : Bool) (out : List ℕ) (r : Refusal) → compileAnswer text little out .answer ≡ Compile.refused r → numberOf (r .cause) ≢ 10
   -- 'Meaning': "An object admits a block whose type, if written, is its own and whose members satisfy each attribute". Under an object of a checked table a data text is valid exactly where the
   -- productions of 'Data text' derive a datum that the object admits.
   pub valid : (table : List ℕ) (root : ℕ) (form : List ℕ) (o : Object)

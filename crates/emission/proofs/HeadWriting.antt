@@ -26,7 +26,7 @@ use Rattle.table.specs.Records.{Record, recordSize, encode}
 use Rattle.table.specs.Answers.{recordOf}
 use Rattle.table.specs.declared.records.Entry.{Entry}
 use Rattle.flatten.specs.Flatten.{placeFor, make}
-use Rattle.emission.specs.Answers.{PartFits, PartPut, placeOf, linkBelow, spot, firstLink, objectRow, ObjectPut, NameKept, attributeRow, closedAttribute, CloseIs, CloseRoom}
+use Rattle.emission.specs.Answers.{PartFits, PartPut, placeOf, linkBelow, spot, Room, firstLink, objectRow, ObjectPut, NameKept, attributeRow, closedAttribute, CloseIs, CloseRoom}
 use Rattle.emission.specs.declared.spots.Spot.{Spot}
 use Rattle.emission.specs.declared.spots.AttributeRead.the-variants.{Refused, Last, More}
 use Rattle.emission.proofs.WritingSteps.{place-part}
@@ -47,21 +47,26 @@ part-row : (s : List ℕ) (start end pool : ℕ) → Within s start end → (pla
 part-row s start end pool w = (place-part s start end pool w, sym (part-length s start end (w .inside)))
 
 -- what an object begins with
-module _ {s : List ℕ} {p : Spot} {ts te cs ce place : ℕ} (h : TypedPast s (p .next) (p .pool) (p .place) ts te cs ce place) where
+module _ {s : List ℕ} {p : Spot} {ts te cs ce place : ℕ} (room : Room s p) (h : TypedPast s (p .next) (p .place) ts te cs ce place) where
+  type-lies : Within s ts te
+  type-lies = omega arith
+
+  code-lies : Within s cs ce
+  code-lies = omega arith
+
   module _ {bs bs1 : List ℕ} {middle : ℕ} (t : PartPut s ts te (p .pool) bs bs1 middle) where
     pub code-fits : PartFits s cs ce middle
     code-fits =
-        let b = h .bytes in
-        let n = part-length s ts te (h .type .inside) in
+        let n = part-length s ts te (type-lies .inside) in
         let m = t .behind in
-        record { lies = h .code; room = omega arith }
+        record { lies = code-lies; room = omega arith }
 
     pub object-put : {little any : Bool} {rs rs' bs2 : List ℕ} {first pool : ℕ} {e : Entry} → first ≡ firstLink any (p .next) → recordOf e ≡ make 1 0 (placeOf ts te (p .pool)) (te - ts) (placeOf cs ce (p .pool + (te - ts))) (ce - cs) first
         → rs' ≡ sets rs (recordSize * p .next) (encode little (recordOf e)) → PartPut s cs ce middle bs1 bs2 pool → ObjectPut (part s ts te) (part s cs ce) little p place any rs bs rs' bs2 (spot place (p .next + 1) pool)
     object-put {little} {any} {rs} {rs'} {bs2} {first} {pool} {e} f r w k =
-        let a = part-row s ts te (p .pool) (h .type) in
+        let a = part-row s ts te (p .pool) type-lies in
         let m : p .pool + (te - ts) ≡ p .pool + length (part s ts te) = ap (λ (x : ℕ). p .pool + x) (a .1) in
-        let b = part-row s cs ce (p .pool + (te - ts)) (h .code) in
+        let b = part-row s cs ce (p .pool + (te - ts)) code-lies in
         let c : placeOf cs ce (p .pool + (te - ts)) ≡ placeFor (part s cs ce) (p .pool + length (part s ts te)) = b .0 ∙ ap (placeFor (part s cs ce)) m in
         let row : recordOf e ≡ objectRow (part s ts te) (part s cs ce) (p .pool) (firstLink any (p .next)) = r ∙ λ i. make 1 0 (a .0 i) (a .1 i) (c i) (b .1 i) (f i) in
         let z : pool ≡ p .pool + length (part s ts te) + length (part s cs ce) = k .behind ∙ ap (λ (x : ℕ). x + length (part s cs ce)) (t .behind) in
@@ -81,11 +86,11 @@ name-kept {p = p} {top = top} {place} {names = names} ea eb e k = record {
 }
 
 -- an attribute's record
-pub attribute-put : (p : Spot) (s : List ℕ) (start end : ℕ) (little : Bool) (flag last next value n : ℕ) (rs rs' : List ℕ) (e : Entry) → PartFits s start end (p .pool) → value ≡ linkBelow (p .next + 1) last → n ≡ next
+pub attribute-put : (p : Spot) (s : List ℕ) (start end : ℕ) (little : Bool) (flag last next value n : ℕ) (rs rs' : List ℕ) (e : Entry) → Within s start end → value ≡ linkBelow (p .next + 1) last → n ≡ next
     → recordOf e ≡ make 2 flag (placeOf start end (p .pool)) (end - start) value n 0 → rs' ≡ sets rs (recordSize * p .next) (encode little (recordOf e))
     → rs' ≡ sets rs (recordSize * p .next) (encode little (attributeRow flag (part s start end) (p .pool) (linkBelow (p .next + 1) last) next))
 attribute-put p s start end little flag last next value n rs rs' e h v m r w =
-    let a = part-row s start end (p .pool) (h .lies) in
+    let a = part-row s start end (p .pool) h in
     w ∙ ap (λ (x : Record). sets rs (recordSize * p .next) (encode little x)) (r ∙ λ i. make 2 flag (a .0 i) (a .1 i) (v i) (m i) 0)
 
 -- the `}` of an attribute, and what follows it

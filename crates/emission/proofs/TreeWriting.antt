@@ -6,6 +6,8 @@ use Prim.Native.Nat.{ℕ, _+_, _*_, _≤_}
 use native.Mathlib.Omega.{arith}
 use lib.ListN.{length}
 use lib.Seq.{sets}
+use Rattle.lexis.specs.Runs.{part}
+use Rattle.lexis.specs.Order.{Sub}
 use Rattle.lexis.proofs.Stores.{sets-sets, sets-behind}
 use Rattle.lexis.proofs.Parts.{sub-length}
 use Rattle.refusals.specs.Reading.{Reading, refused, got}
@@ -123,17 +125,18 @@ module _ {A : Type 0} (table : A → ℕ → List Record) (pool : A → List ℕ
       let z : _≡_ {A = ℕ} 0 1 = cc in
       absurd (omega arith)
 
+-- a pool of at most as many bytes as stand before a place has, with bytes taken from the text between that place and another, at most as many as stand before the other
+pub pool-below : (s : List ℕ) (pool from p : ℕ) (w : List ℕ) → pool ≤ from → from ≤ p → p ≤ length s → Sub w (part s from p) → pool + length w ≤ p
+pool-below s pool from p w h l k sub = let a = sub-length sub in let b = part-length s from p k in omega arith
+
 -- where a tree was read there is room behind it
 pub tree-room : {s : List ℕ} {p q : Spot} {ns : List ℕ} {records : ℕ} {Proper : Type 0} {bs : List ℕ} (table : List Record) → Room s p → TreeRead s (p .next) (p .place) ns records Proper bs (q .place) → length table ≡ records
     → q ≡ spot (q .place) (p .next + length table) (p .pool + length bs) → Room s q
 tree-room {s} {p} {q} {bs = bs} table room h l e =
     let n : q .next ≡ p .next + length table = ap (λ (w : Spot). w .next) e in
     let m : q .pool ≡ p .pool + length bs = ap (λ (w : Spot). w .pool) e in
-    let k = sub-length (h .pool) in
-    let j = part-length s (p .place) (q .place) (h .most) in
+    let b = pool-below s (p .pool) (p .place) (q .place) bs (room .bytes) (omega (arith, h .least)) (h .most) (h .pool) in
     let r = h .room (room .records) in
-    let a = room .bytes in
-    let b = h .least in
     record { inside = h .most; short = room .short; records = omega arith; bytes = omega arith }
 
 -- the link to a value is the number of its first record, 0 where it has none

@@ -2,7 +2,7 @@
 use mathlib.Core.Path.{_≡_}
 use mathlib.Core.Bool.{Bool, cond}
 use mathlib.Core.List.{List, [], _∷_, _++_}
-use Prim.Native.Nat.{ℕ, _+_, _-_, _*_, _≤_, _<_}
+use Prim.Native.Nat.{ℕ, _+_, _-_, _*_, _^_, _≤_, _<_}
 use lib.Dec.{eqb, ltb}
 use lib.ListN.{length}
 use lib.Seq.{sets}
@@ -78,7 +78,7 @@ written table pool little p rs bs (got a q) = record {
   bytes = sets bs (p .pool) (pool a);
 }
 
--- where a tree is read: a place of a text that is not too long, with room for records; each byte of the pool comes from a byte before the place
+-- where a tree is read: a place of a text that is not too long, the next record's number, and the bytes in the pool, at most as many as stand before the place
 pub record Room (s : List ℕ) (p : Spot) : Type 0 where
   pub inside : p .place ≤ length s
   pub short : length s ≤ textLimit
@@ -127,7 +127,7 @@ pub record TextsPut (s : List ℕ) (little : Bool) (p : Spot) (scratch : List �
 
 -- a leaf, as the value of an attribute
 abbrev pub leafValue : List ℕ → Spot → Reading Value
-leafValue s p = andThen (Leaves.leaf s (p .next) (p .pool) (p .place)) (λ l at. got (leaf l) at)
+leafValue s p = andThen (Leaves.leaf s (p .next) (p .place)) (λ l at. got (leaf l) at)
 
 -- the number of an object's first attribute, 0 where any may follow
 abbrev pub firstLink : Bool → ℕ → ℕ
@@ -187,14 +187,14 @@ closedAttribute s little p flag w q rs bs (got t at) = record {
 pub record CloseIs (s : List ℕ) (little : Bool) (p : Spot) (flag : ℕ) (w : List ℕ) (q : Spot) (rs rs' : List ℕ) (r : AttributeRead) : Type 0 where
   pub is : (bs : List ℕ) → attributeWrote r rs' bs ≡ closedAttribute s little p flag w q rs bs (expect s closeBrace (q .place))
 
--- where an attribute is closed: behind its value
+-- where an attribute is closed: behind its value, whose bytes stand in the pool behind those of its name
 pub record CloseRoom (s : List ℕ) (p : Spot) (start end : ℕ) (q : Spot) : Type 0 where
-  pub part : PartFits s start end (p .pool)
+  pub lies : Within s start end
+  pub bytes : p .pool + (end - start) ≤ q .pool
   pub room : Room s q
   pub order : p .next < q .next
 
 -- a part of the text whose place in the pool and length a record can hold
 pub record RowRoom (start end pool : ℕ) : Type 0 where
   pub order : start ≤ end
-  pub short : end ≤ textLimit
-  pub room : pool + (end - start) ≤ poolLimit
+  pub room : pool + (end - start) < 2 ^ 32

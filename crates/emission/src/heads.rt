@@ -13,16 +13,15 @@ use refusals::steps::expect;
 use table::records::Entry;
 ghost use mathlib.Core.Path.{_≡_};
 ghost use Prim.Native.Nat.{_+_, _*_, _-_, _≤_, _<_};
-ghost use lib.ListN.{length};
 ghost use lib.Seq.{sets};
 ghost use Rattle.lexis.specs.Runs.{part};
-ghost use Rattle.refusals.specs.Limits.{textLimit, recordLimit};
-ghost use Rattle.items.specs.Spans.{withItem};
+ghost use Rattle.refusals.specs.Limits.{recordLimit};
+ghost use Rattle.items.specs.Spans.{withItem, Within};
 ghost use Rattle.constraint.specs.Answers.{TypedPast};
 ghost use Rattle.table.specs.Records.{recordSize, encode};
 ghost use Rattle.table.specs.Answers.{recordOf};
 ghost use Rattle.flatten.specs.Flatten.{make};
-ghost use Rattle.emission.specs.Answers.{PartFits, placeOf, firstLink, ObjectPut, NameRoom, NameKept, attributeRow, CloseRoom, CloseIs, RowRoom, linkBelow};
+ghost use Rattle.emission.specs.Answers.{placeOf, firstLink, ObjectPut, NameRoom, NameKept, attributeRow, CloseRoom, CloseIs, Room, RowRoom, linkBelow};
 
 // The kinds of objects and of attributes.
 const OBJECT_KIND: u8 = 1;
@@ -80,8 +79,8 @@ pub fn open_object(
     records: &mut [u8; 49152],
     bytes: &mut [u8; 16384],
 ) -> Spot
-    requires { ⌜ TypedPast (now s) (p .next) (p .pool) (p .place) «type_start» «type_end» «code_start» «code_end» place ⌝ }
-    requires { ⌜ length (now s) ≤ textLimit ⌝ }
+    requires { ⌜ Room (now s) p ⌝ }
+    requires { ⌜ TypedPast (now s) (p .next) (p .place) «type_start» «type_end» «code_start» «code_end» place ⌝ }
     ensures { λ r. ⌜ ObjectPut (part (now (s .entry)) «type_start» «type_end») (part (now (s .entry)) «code_start» «code_end») little p place any (now (records .entry)) (now (bytes .entry)) (now (records .exit)) (now (bytes .exit)) r ⌝ }
 {
     let first = first_link(any, p.next);
@@ -157,8 +156,9 @@ fn put_attribute(
     end: usize,
     next: usize,
 )
-    requires { ⌜ PartFits (now s) «name_start» «name_end» (p .pool) ⌝ }
-    requires { ⌜ (length (now s) ≤ textLimit) × (p .next < recordLimit) × (next ≤ recordLimit) ⌝ }
+    requires { ⌜ Within (now s) «name_start» «name_end» ⌝ }
+    requires { ⌜ RowRoom «name_start» «name_end» (p .pool) ⌝ }
+    requires { ⌜ (p .next < recordLimit) × (next ≤ recordLimit) ⌝ }
     ensures { λ _. ⌜ now (records .exit) ≡ sets (now (records .entry)) (recordSize * p .next) (encode little (attributeRow flag (part (now (s .entry)) «name_start» «name_end») (p .pool) (linkBelow (p .next + 1) end) next)) ⌝ }
 {
     let value = link_below(p.next + 1, end);

@@ -1,7 +1,6 @@
 // Bytes copied, and parts of the text in the pool.
 ghost use mathlib.Core.Path.{_≡_};
-ghost use Prim.Native.Nat.{_^_, _≤_, _<_};
-ghost use Rattle.refusals.specs.Limits.{poolLimit};
+ghost use Prim.Native.Nat.{_^_, _<_};
 ghost use Rattle.emission.specs.Answers.{CopyFits, PartFits, PartPut, placeOf};
 
 // Copies a part of some bytes to a place of others; the place behind it there.
@@ -37,7 +36,7 @@ pub fn narrow(n: usize) -> u32
 
 // The place in the pool of a part of the text, 0 where it has no byte.
 pub fn place_of(start: usize, end: usize, at: usize) -> u32
-    requires { ⌜ at ≤ poolLimit ⌝ }
+    requires { ⌜ at < 2 ^ 32 ⌝ }
     ensures { λ r. ⌜ r ≡ placeOf start end at ⌝ }
 {
     if start < end {

@@ -5,7 +5,6 @@ use Prim.Native.Nat.{ℕ, _+_}
 use lib.ListN.{replicate, length}
 use Rattle.lexis.specs.Text.{bytes}
 use Rattle.items.proofs.Computes.{itemsCompute}
-use Rattle.constraint.specs.Objects.{count}
 use Rattle.faults.specs.Faults.{faultsIn, and, andThen, noting, wanted}
 use Rattle.faults.specs.LeafFaults.{sound, scanLiteral, scanUpTo, scanAbove, scanSpread, scanFrom, scanEnds, scanInterval, scanValue, scanItems, scanStrings, scanSecond, scanBooleans, scanPattern, scanLeaf}
 use Rattle.faults.specs.ConstraintFaults.{scanOpening, scanBounds, scanExistence, scanType, scanCode, scanName, scanContent, scanAttribute, scanAttributes, scanBody, scanObject, faults}
@@ -15,9 +14,9 @@ unfoldable scansCompute : Unit {0}
 unfolding itemsCompute faultsIn and andThen noting wanted sound scanLiteral scanUpTo scanAbove scanSpread scanFrom scanEnds scanInterval scanValue scanItems scanStrings scanSecond scanBooleans scanPattern scanLeaf scanOpening scanBounds scanExistence scanType scanCode scanName scanContent scanAttribute scanAttributes scanBody scanObject faults
 scansCompute = tt
 
--- the faults of an object whose record has a number, with so many bytes in the pool
-abbrev told-from : ℕ → ℕ → List ℕ → List ℕ
-told-from next pool s = told (faultsIn (scanObject s (length s + 1) 1 (count next pool) 0))
+-- the faults of an object whose record has a number
+abbrev told-from : ℕ → List ℕ → List ℕ
+told-from next s = told (faultsIn (scanObject s (length s + 1) 1 next 0))
 
 -- so many objects, one in the other, around a text
 abbrev around : List (List ℕ) → List ℕ → List ℕ
@@ -110,20 +109,15 @@ pub past-levels : told (faults (around (replicate 18 []) (bytes "007"))) ≡ 3 �
 unfolding scansCompute
 past-levels = refl
 
--- past record 2,048 and with a pool that is full
-pub past-counts : told-from 2_046 16_380 (bytes "A[at1] matches {bc matches {1, 2} d matches {\"e\"} f matches {True, True}}") ≡ 10 ∷ 16 ∷ 8 ∷ 28 ∷ 10 ∷ 34 ∷ 10 ∷ 45 ∷ 10 ∷ 50 ∷ 9 ∷ 67 ∷ []
+-- past record 2,048
+pub past-counts : told-from 2_045 (bytes "A[at1] matches {bc matches {1, 2} d matches {\"e\"} f matches {True, True}}") ≡ 8 ∷ 31 ∷ 9 ∷ 67 ∷ []
 unfolding scansCompute
 past-counts = refl
 
--- a full pool at a type, a code and a name
-pub past-pool : told-from 5 16_384 (bytes "A[at1] matches {b matches {007}}") ≡ 10 ∷ 0 ∷ 10 ∷ 1 ∷ 10 ∷ 16 ∷ 5 ∷ 27 ∷ []
-unfolding scansCompute
-past-pool = refl
-
 -- each token that may start record 2,048, and a fault behind it; two Booleans are one record
-pub past-records : told-from 2_048 0 (bytes "A matches {b matches {007}}") ++ told-from 2_047 0 (bytes "A matches {b matches {007}}") ++ told-from 2_046 0 (bytes "A matches {a matches {True, True}}")
-    ++ told-from 2_046 0 (bytes "A matches {a matches {yyyy-mm-dd} a matches {*}}") ++ told-from 2_046 0 (bytes "A matches {a matches {\"b\", \"b\"}}") ++ told-from 2_046 0 (bytes "A matches {a matches {|1|, 1}}")
-    ++ told-from 2_046 0 (bytes "A matches {a matches {B matches {b matches {007}}}}") ++ told-from 2_045 0 (bytes "A matches {a matches {True, False} b matches {*}}")
+pub past-records : told-from 2_048 (bytes "A matches {b matches {007}}") ++ told-from 2_047 (bytes "A matches {b matches {007}}") ++ told-from 2_046 (bytes "A matches {a matches {True, True}}")
+    ++ told-from 2_046 (bytes "A matches {a matches {yyyy-mm-dd} a matches {*}}") ++ told-from 2_046 (bytes "A matches {a matches {\"b\", \"b\"}}") ++ told-from 2_046 (bytes "A matches {a matches {|1|, 1}}")
+    ++ told-from 2_046 (bytes "A matches {a matches {B matches {b matches {007}}}}") ++ told-from 2_045 (bytes "A matches {a matches {True, False} b matches {*}}")
     ≡ 8 ∷ 0 ∷ 5 ∷ 22 ∷ 8 ∷ 11 ∷ 5 ∷ 22 ∷ 8 ∷ 22 ∷ 9 ∷ 28 ∷ 8 ∷ 22 ∷ 9 ∷ 34 ∷ 8 ∷ 22 ∷ 9 ∷ 27 ∷ 8 ∷ 22 ∷ 9 ∷ 27 ∷ 8 ∷ 22 ∷ 5 ∷ 44 ∷ 8 ∷ 35 ∷ []
 unfolding scansCompute
 past-records = refl

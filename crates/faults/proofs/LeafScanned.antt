@@ -2,11 +2,11 @@
 use mathlib.Core.Path.{_≡_, refl, sym, ap, _∙_, subst}
 use mathlib.Core.Bool.{Bool, true, false, cond, not, _&&_, _||_}
 use mathlib.Core.Option.{Option, none, some, Option·map}
-use mathlib.Core.List.{List, [], _∷_, _++_}
+use mathlib.Core.List.{List, [], _∷_}
 use Prim.Native.Nat.{ℕ, zero, suc, _≤_, _<_, _+_}
 use native.Mathlib.Omega.{arith}
 use lib.Dec.{eqb, leb, ltb, lit<, lit≤}
-use lib.ListN.{length, length-append}
+use lib.ListN.{length}
 use borrow.Author.Tests.{eqb-true, eq-eqb, ne-eqb, leb-true}
 use Rattle.lexis.specs.Bytes.{within}
 use Rattle.lexis.specs.Runs.{listed}
@@ -16,25 +16,24 @@ use Rattle.lexis.specs.declared.Token.{Token}
 use Rattle.lexis.proofs.Cases.{and-left, either}
 use Rattle.lexis.proofs.Places.{Found, token-found}
 use Rattle.values.specs.Integers.{Pair, pair, inside, around}
-use Rattle.refusals.specs.Limits.{recordLimit, poolLimit, stringLimit, itemLimit}
+use Rattle.refusals.specs.Limits.{recordLimit, stringLimit, itemLimit}
 use Rattle.refusals.specs.Reading.{Reading, refused, got, refuse, unless}
 use Rattle.refusals.specs.Reading
 use Rattle.refusals.specs.declared.Cause.{Cause}
-use Rattle.refusals.specs.declared.Cause.the-variants.{TooLong, Impossible, OutOfRange, EmptyInterval, TooManyItems, TooManyRecords, Overlap, PoolTooLarge}
+use Rattle.refusals.specs.declared.Cause.the-variants.{TooLong, Impossible, OutOfRange, EmptyInterval, TooManyItems, TooManyRecords, Overlap}
 use Rattle.refusals.specs.declared.Refusal.{Refusal}
 use Rattle.refusals.specs.Refusals.{refusal, numberOf}
 use Rattle.refusals.specs.Steps.{syntaxCause, syntaxFault, expect}
 use Rattle.refusals.proofs.Tokens.{strict-of}
 use Rattle.meaning.specs.Constraints.{Text, Leaf, booleans, integers, dates}
 use Rattle.meaning.specs.Constraints
-use Rattle.meaning.specs.Counting.{leafRecords, leafPool, textPool}
+use Rattle.meaning.specs.Counting.{leafRecords}
 use Rattle.intervals.specs.Intervals.{Ends, ends, undecided, kindBy, least, most, after, valueOf, possible, literal, upTo, above, withLiteral, between, empty, closed, Interval, interval}
 use Rattle.intervals.specs.Intervals
 use Rattle.items.specs.Ranges.{Start, start, overlaps, Ranges, range, ranges}
 use Rattle.items.specs.Ranges
 use Rattle.items.specs.Strings.{startString, strings, goOnStrings}
 use Rattle.items.specs.Leaves.{isBoolean, booleanFlag, secondBoolean, booleanList, rangeLeaf, patternFlag, leaf}
-use Rattle.constraint.specs.Objects.{Count, count}
 use Rattle.faults.specs.Faults.{Scan, ended, passed, faultsIn, and, andThen, noting, syntax, wanted}
 use Rattle.faults.specs.LeafFaults.{scanToken, unknown, scanLiteral, scanUpTo, scanAbove, outside, scanSpread, scanFrom, scanEnds, isEmpty, scanInterval, point, scanValue, sound, overlapping, keep, scanItem, scanMore, scanItems, firstLiteral, listKind, scanString, scanStrings, scanSecond, scanBooleans, scanPattern, isPattern, scanLeaf}
 use Rattle.faults.specs.LeafFaults
@@ -146,7 +145,7 @@ module _ (s : List ℕ) where
   sound-within from low (passed (f ∷ fs) x p) (withinPassed a b l m) = withinPassed a b l m
 
   -- an item, given where its own faults lie, and what is behind it
-  item-within : (from n : ℕ) (c : Count) (seen : List Pair) (t : Token) (own : Scan (Option Pair)) (more : Option Pair → ℕ → Scan Count) → Found s from t → t .start < t .end
+  item-within : (from n c : ℕ) (seen : List Pair) (t : Token) (own : Scan (Option Pair)) (more : Option Pair → ℕ → Scan ℕ) → Found s from t → t .start < t .end
       → Within s from (t .end) own
       → ((x : Option Pair) (p : ℕ) → t .end ≤ p → p ≤ length s → Within s p p (more x p))
       → Within s from (t .end) (scanItem t n c seen own more)
@@ -158,7 +157,7 @@ module _ (s : List ℕ) where
       within-noting s from p (overlapping x seen) Overlap (t .start) _ (f .start) (omega arith) (omega arith) (lit≤ tt)
       (within-weaken s p p from p (more x p) (omega (arith, f .start)) (omega arith) (b x p l m)))))
 
-  more-within : (from : ℕ) (c : Count) (go : ℕ → Scan Count) → from ≤ length s → ((p : ℕ) → from ≤ p → p ≤ length s → Within s p p (go p)) → Within s from from (scanMore s go c from)
+  more-within : (from c : ℕ) (go : ℕ → Scan ℕ) → from ≤ length s → ((p : ℕ) → from ≤ p → p ≤ length s → Within s p p (go p)) → Within s from from (scanMore s go c from)
   more-within from c go h b =
       let t = tokenAt s from in
       let f = token-found s from h in
@@ -166,15 +165,15 @@ module _ (s : List ℕ) where
       (λ e. within-weaken s (t .end) (t .end) from from _ (omega (arith, f .start, f .order)) (omega (arith, f .start, f .order)) (b (t .end) (omega (arith, f .start, f .order)) (f .inside)))
       (λ e. within-passed s from from c from (omega arith) h)
 
-  items-within : (kind fuel n : ℕ) (c : Count) (seen : List Pair) (from : ℕ) → 1 < kind → from ≤ length s → length s < from + fuel → Within s from from (scanItems s kind fuel n c seen from)
+  items-within : (kind fuel n c : ℕ) (seen : List Pair) (from : ℕ) → 1 < kind → from ≤ length s → length s < from + fuel → Within s from from (scanItems s kind fuel n c seen from)
   unfolding scanItems
   items-within kind zero n c seen from k h q = absurd (omega arith)
   items-within kind (suc fuel) n c seen from k h q =
       let t = tokenAt s from in
       let f = token-found s from h in
-      let down : (w : Scan Count) → Within s from (t .end) w → Within s from from w = λ w x. within-weaken s from (t .end) from from w (omega arith) (omega (arith, f .start, f .order)) x in
-      let rest : t .start < t .end → (x : Option Pair) (p : ℕ) → t .end ≤ p → p ≤ length s → Within s p p (scanMore s (scanItems s kind fuel (n + 1) (count (c .next + 1) (c .pool)) (keep x seen)) (count (c .next + 1) (c .pool)) p) =
-      λ m x p l j. more-within p _ _ j (λ y a b. items-within kind fuel (n + 1) (count (c .next + 1) (c .pool)) (keep x seen) y k b (omega (arith, f .start)))
+      let down : (w : Scan ℕ) → Within s from (t .end) w → Within s from from w = λ w x. within-weaken s from (t .end) from from w (omega arith) (omega (arith, f .start, f .order)) x in
+      let rest : t .start < t .end → (x : Option Pair) (p : ℕ) → t .end ≤ p → p ≤ length s → Within s p p (scanMore s (scanItems s kind fuel (n + 1) (c + 1) (keep x seen)) (c + 1) p) =
+      λ m x p l j. more-within p _ _ j (λ y a b. items-within kind fuel (n + 1) (c + 1) (keep x seen) y k b (omega (arith, f .start)))
       in
       within-cond s from from (eqb (t .sort) bar) _ _
       (λ e. let m = strict-of bar (lit< tt) t s from f (eqb-true _ _ e) in
@@ -185,7 +184,7 @@ module _ (s : List ℕ) where
       down _ (item-within from n c seen t (scanValue s t) _ f m (value-within from h m) (rest m)))
       (λ g. syntax-within s from from t f))
 
-  strings-within : (fuel n : ℕ) (c : Count) (seen : List (List ℕ)) (from : ℕ) → from ≤ length s → length s < from + fuel → Within s from from (scanStrings s fuel n c seen from)
+  strings-within : (fuel n c : ℕ) (seen : List (List ℕ)) (from : ℕ) → from ≤ length s → length s < from + fuel → Within s from from (scanStrings s fuel n c seen from)
   unfolding scanStrings numberOf
   strings-within zero n c seen from h q = absurd (omega arith)
   strings-within (suc fuel) n c seen from h q =
@@ -196,9 +195,9 @@ module _ (s : List ℕ) where
       (λ e. let m = strict-of string (lit< tt) t s from f (eqb-true _ _ e) in
       within-weaken s from (t .end) from from _ (omega arith) (omega (arith, f .start))
       (within-note s from t _ TooLong _ f m (lit≤ tt) (within-note s from t _ TooManyItems _ f m (lit≤ tt) (within-note s from t _ TooManyRecords _ f m (lit≤ tt)
-      (within-note s from t _ Overlap _ f m (lit≤ tt) (within-note s from t _ PoolTooLarge _ f m (lit≤ tt)
+      (within-note s from t _ Overlap _ f m (lit≤ tt)
       (within-weaken s (t .end) (t .end) from (t .end) _ (omega (arith, f .start)) (omega arith)
-      (more-within (t .end) _ _ (f .inside) (λ y a b. strings-within fuel (n + 1) (count (c .next + 1) (c .pool + length w)) (cond (ltb stringLimit (length w)) seen (w ∷ seen)) y b (omega (arith, f .start)))))))))))
+      (more-within (t .end) _ _ (f .inside) (λ y a b. strings-within fuel (n + 1) (c + 1) (cond (ltb stringLimit (length w)) seen (w ∷ seen)) y b (omega (arith, f .start))))))))))
       (λ e. syntax-within s from from t f)
 
   -- sorts from 2 on have a byte
@@ -214,18 +213,18 @@ module _ (s : List ℕ) where
       (λ a. let z = leb-true 31 (t .sort) (and-left (leb 31 (t .sort)) (leb (t .sort) 35) a) in omega arith)
       (λ a. let z = leb-true 41 (t .sort) (and-left (leb 41 (t .sort)) (leb (t .sort) 44) a) in omega arith)
 
-  second-within : (c : Count) (t : Token) (from : ℕ) → from ≤ length s → Within s from from (scanSecond s c t from)
+  second-within : (c : ℕ) (t : Token) (from : ℕ) → from ≤ length s → Within s from from (scanSecond s c t from)
   unfolding scanSecond numberOf
   second-within c t from h =
       let u = tokenAt s from in
       let f = token-found s from h in
       within-cond s from from (isBoolean u) _ _
-      (λ e. let m = sort-strict from u f (boolean-sort u e) in within-weaken s from (u .end) from from _ (omega arith) (omega (arith, f .start)) (noted-within from u (eqb (booleanFlag u) (booleanFlag t)) Overlap (count (c .next + 1) (c .pool)) f m (lit≤ tt)))
+      (λ e. let m = sort-strict from u f (boolean-sort u e) in within-weaken s from (u .end) from from _ (omega arith) (omega (arith, f .start)) (noted-within from u (eqb (booleanFlag u) (booleanFlag t)) Overlap (c + 1) f m (lit≤ tt)))
       (λ e. syntax-within s from from u f)
 
   -- behind the first Boolean
-  booleans-rest : (c : Count) (t : Token) (from : ℕ) → from ≤ length s
-      → Within s from from (cond (eqb (tokenAt s from .sort) comma) (scanSecond s c t (tokenAt s from .end)) (passed [] (count (c .next + 1) (c .pool)) from))
+  booleans-rest : (c : ℕ) (t : Token) (from : ℕ) → from ≤ length s
+      → Within s from from (cond (eqb (tokenAt s from .sort) comma) (scanSecond s c t (tokenAt s from .end)) (passed [] (c + 1) from))
   booleans-rest c t from h =
       let u = tokenAt s from in
       let f = token-found s from h in
@@ -233,7 +232,7 @@ module _ (s : List ℕ) where
       (λ e. within-weaken s (u .end) (u .end) from from _ (omega (arith, f .start, f .order)) (omega (arith, f .start, f .order)) (second-within c t (u .end) (f .inside)))
       (λ e. within-passed s from from _ from (omega arith) h)
 
-  booleans-within : (c : Count) (from : ℕ) → from ≤ length s → isBoolean (tokenAt s from) ≡ true → Within s from from (scanBooleans s c (tokenAt s from))
+  booleans-within : (c from : ℕ) → from ≤ length s → isBoolean (tokenAt s from) ≡ true → Within s from from (scanBooleans s c (tokenAt s from))
   unfolding scanBooleans numberOf
   booleans-within c from h e =
       let t = tokenAt s from in
@@ -246,7 +245,7 @@ module _ (s : List ℕ) where
   list-strict : (from : ℕ) → 1 < listKind s from
   list-strict from = either (λ (k : ℕ). 1 < k) (eqb (tokenAt s from .sort) bar && eqb (firstLiteral s (tokenAt s from .end) .sort) date) (lit< tt) (lit< tt)
 
-  pub leaf-within : (c : Count) (from : ℕ) → from ≤ length s → Within s from from (scanLeaf s c from)
+  pub leaf-within : (c from : ℕ) → from ≤ length s → Within s from from (scanLeaf s c from)
   unfolding scanLeaf scanPattern numberOf
   leaf-within c from h =
       let t = tokenAt s from in
@@ -255,7 +254,7 @@ module _ (s : List ℕ) where
       (λ e. within-cond s from from (eqb (t .sort) integer || eqb (t .sort) bar) _ _ (λ g. items-within (listKind s from) (length s + 1) 1 c [] from (list-strict from) h (omega arith))
       (λ g. within-cond s from from (eqb (t .sort) string) _ _ (λ x. strings-within (length s + 1) 1 c [] from h (omega arith))
       (λ x. within-cond s from from (isPattern t) _ _
-      (λ y. let m = sort-strict from t f (pattern-sort t y) in within-weaken s from (t .end) from from _ (omega arith) (omega (arith, f .start)) (noted-within from t (eqb (c .next) recordLimit) TooManyRecords (count (c .next + 1) (c .pool)) f m (lit≤ tt)))
+      (λ y. let m = sort-strict from t f (pattern-sort t y) in within-weaken s from (t .end) from from _ (omega arith) (omega (arith, f .start)) (noted-within from t (eqb c recordLimit) TooManyRecords (c + 1) f m (lit≤ tt)))
       (λ y. syntax-within s from from t f))))
 
 -- a literal's reading and its scan
@@ -431,15 +430,15 @@ module _ (s : List ℕ) where
       let P : Interval → ℕ → Type 0 = λ i p. i .kind ≡ kind in
       then-gives P (λ (e : Ends) p. e .kind ≡ kind) (between s asked from) _ (ends-kind asked kind from k q) (λ e p x. any-gives P (expect s bar p) _ (λ t r. unless-gives P (empty e) EmptyInterval (t .start) _ (λ z. got-gives P (record { kind = e .kind; pair = closed e }) r x)))
 
--- the counts behind a list, and behind a leaf
-abbrev behindItems : Count → Ranges → Count
-behindItems c r = count (c .next + length (r .items)) (c .pool)
+-- the next record's number behind a list, and behind a leaf
+abbrev behindItems : ℕ → Ranges → ℕ
+behindItems c r = c + length (r .items)
 
-abbrev behindTexts : Count → List Text → Count
-behindTexts c l = count (c .next + length l) (c .pool + length (textPool l))
+abbrev behindTexts : ℕ → List Text → ℕ
+behindTexts c l = c + length l
 
-abbrev pub behindLeaf : Count → Leaf → Count
-behindLeaf c l = count (c .next + leafRecords l) (c .pool + length (leafPool l))
+abbrev pub behindLeaf : ℕ → Leaf → ℕ
+behindLeaf c l = c + leafRecords l
 
 kind-strict : {kind : ℕ} → Kind kind → 1 < kind
 kind-strict isInteger = lit< tt
@@ -458,13 +457,13 @@ abbrev kindIn : Reading Interval → ℕ
 kindIn (refused x) = 0
 kindIn (got i p) = i .kind
 
-impossible-first : (p q : ℕ) (go : Option Pair → ℕ → Scan Count) → All (Later (refusal Impossible p)) (faultsIn (go none q))
+impossible-first : (p q : ℕ) (go : Option Pair → ℕ → Scan ℕ) → All (Later (refusal Impossible p)) (faultsIn (go none q))
     → First (refusal Impossible p) (faultsIn (andThen (sound (noting true Impossible p (passed [] none q))) go))
 unfolding and andThen noting sound
 impossible-first p q go l = first-and (refusal Impossible p) (refusal Impossible p ∷ []) (go none q) (firstOf allNone) l
 
 -- an item's first token
-start-agree : {f : Ranges → Count} (b d : Bool) (t : Token) (r : Reading Start) (g : Start → ℕ → Reading Ranges) (v w : Scan Count)
+start-agree : {f : Ranges → ℕ} (b d : Bool) (t : Token) (r : Reading Start) (g : Start → ℕ → Reading Ranges) (v w : Scan ℕ)
     → (b ≡ true → Agree f (g (record { place = t .start; single = false; value = 0 }) (t .end)) v)
     → (d ≡ true → Agree f (Reading.andThen r g) w)
     → Agree f (Reading.andThen (cond b (got (record { place = t .start; single = false; value = 0 }) (t .end)) (cond d r (syntaxFault t))) g) (cond b v (cond d w (syntax t)))
@@ -472,7 +471,7 @@ start-agree true d t r g v w h k = h refl
 start-agree false true t r g v w h k = k refl
 start-agree {f} false false t r g v w h k = agree-syntax f t
 
-module _ (s : List ℕ) (n : ℕ) (c : Count) (seen : List Pair) (t : Token) (more : Option Pair → ℕ → Scan Count) (k : t .start < t .end)
+module _ (s : List ℕ) (n c : ℕ) (seen : List Pair) (t : Token) (more : Option Pair → ℕ → Scan ℕ) (k : t .start < t .end)
     (behind : (x : Option Pair) (p : ℕ) → t .end ≤ p → p ≤ length s → Within s p p (more x p)) where
   -- what is behind an item's first token comes after it, but for a fault of that token
   rest-later : (cause : Cause) (own : Scan (Option Pair)) → numberOf cause ≤ 9 → Within s (t .end) (t .end) own
@@ -484,9 +483,9 @@ module _ (s : List ℕ) (n : ℕ) (c : Count) (seen : List Pair) (t : Token) (mo
 
   records-later : (own : Scan (Option Pair)) → Within s (t .end) (t .end) own
       → All (Later (refusal TooManyItems (t .start)))
-      (faultsIn (noting (eqb (c .next) recordLimit) TooManyRecords (t .start) (andThen (sound own) (λ x p. noting (overlapping x seen) Overlap (t .start) (more x p)))))
+      (faultsIn (noting (eqb c recordLimit) TooManyRecords (t .start) (andThen (sound own) (λ x p. noting (overlapping x seen) Overlap (t .start) (more x p)))))
   unfolding numberOf
-  records-later own b = later-noting (refusal TooManyItems (t .start)) (eqb (c .next) recordLimit) TooManyRecords (t .start) _ (samePlace refl (lit≤ tt)) (rest-later TooManyItems own (lit≤ tt) b)
+  records-later own b = later-noting (refusal TooManyItems (t .start)) (eqb c recordLimit) TooManyRecords (t .start) _ (samePlace refl (lit≤ tt)) (rest-later TooManyItems own (lit≤ tt) b)
 
   -- a 17th item
   full-agree : (own : Scan (Option Pair)) → n ≡ itemLimit + 1 → Within s (t .end) (t .end) own → Agree (behindItems c) (refuse TooManyItems (t .start)) (scanItem t n c seen own more)
@@ -497,11 +496,11 @@ module _ (s : List ℕ) (n : ℕ) (c : Count) (seen : List Pair) (t : Token) (mo
       → Agree (λ (i : Interval). some (i .pair)) r own
       → Within s (t .end) (t .end) own
       → ((i : Interval) (p : ℕ) → r ≡ got i p → t .end ≤ p → p ≤ length s → Agree (behindItems c) (go i p) (more (some (i .pair)) p))
-      → Agree (behindItems c) (unless (eqb (c .next) recordLimit) TooManyRecords (t .start) (Reading.andThen r (λ i q. unless (overlaps (i .pair) seen) Overlap (t .start) (go i q)))) (scanItem t n c seen own more)
+      → Agree (behindItems c) (unless (eqb c recordLimit) TooManyRecords (t .start) (Reading.andThen r (λ i q. unless (overlaps (i .pair) seen) Overlap (t .start) (go i q)))) (scanItem t n c seen own more)
   unfolding numberOf
   item-agree r own go e a b d =
       unmade-agree (eqb n (itemLimit + 1)) TooManyItems (t .start) _ _ e
-      (agree-noting (eqb (c .next) recordLimit) TooManyRecords (t .start) _ _
+      (agree-noting (eqb c recordLimit) TooManyRecords (t .start) _ _
       (λ z. agree-sound s (t .end) (t .end) r _ own _ a b
       (λ p l m. within-unmade s p p Overlap (t .start) (more none p) (behind none p l m))
       (λ i p x l m. agree-noting (overlaps (i .pair) seen) Overlap (t .start) (go i p) (more (some (i .pair)) p) (λ y. d i p x l m)
@@ -517,7 +516,7 @@ module _ (s : List ℕ) (n : ℕ) (c : Count) (seen : List Pair) (t : Token) (mo
   value-agree g none h a =
       let x = refusal Impossible (t .start) in
       bothRefuse (first-noting x (eqb n (itemLimit + 1)) TooManyItems (t .start) _ (samePlace refl (lit≤ tt))
-      (first-noting x (eqb (c .next) recordLimit) TooManyRecords (t .start) _ (samePlace refl (lit≤ tt))
+      (first-noting x (eqb c recordLimit) TooManyRecords (t .start) _ (samePlace refl (lit≤ tt))
       (impossible-first (t .start) (t .end) _ (later-noting x false Overlap (t .start) (more none (t .end)) (samePlace refl (lit≤ tt)) (later-within s x (t .end) (t .end) (more none (t .end)) k (behind none (t .end) (omega arith) h))))))
   value-agree g (some v) h a = subst (λ w. Agree (behindItems c) (g (record { place = t .start; single = true; value = v }) (t .end)) (scanItem t n c seen w more)) (sym (and-none (passed [] (some (point v)) (t .end)))) (a v)
 
@@ -527,23 +526,23 @@ module _ (s : List ℕ) where
   value-literal from e = rw e refl
 
   -- what is behind an item lies behind it
-  items-rest : (kind fuel n : ℕ) (c : Count) (seen : List Pair) (from : ℕ) → 1 < kind → from ≤ length s → length s < from + suc fuel → tokenAt s from .start < tokenAt s from .end
+  items-rest : (kind fuel n c : ℕ) (seen : List Pair) (from : ℕ) → 1 < kind → from ≤ length s → length s < from + suc fuel → tokenAt s from .start < tokenAt s from .end
       → (x : Option Pair) (p : ℕ) → tokenAt s from .end ≤ p → p ≤ length s → Within s p p (scanMore s (scanItems s kind fuel n c (keep x seen)) c p)
   items-rest kind fuel n c seen from k h q m x p l j =
       let f = token-found s from h in
       more-within s p _ _ j (λ y u v. items-within s kind fuel n c (keep x seen) y k v (omega (arith, f .start)))
 
-  items-agree : (kind : ℕ) → Kind kind → (left fuel n asked : ℕ) (c : Count) (seen : List Pair) (from : ℕ) → left + n ≡ itemLimit + 1 → from ≤ length s → length s < from + fuel
+  items-agree : (kind : ℕ) → Kind kind → (left fuel n asked c : ℕ) (seen : List Pair) (from : ℕ) → left + n ≡ itemLimit + 1 → from ≤ length s → length s < from + fuel
       → (tokenAt s from .sort ≡ bar → kindBy asked (firstLiteral s (tokenAt s from .end)) ≡ kind)
       → (eqb (tokenAt s from .sort) integer && not (eqb asked date)) ≡ (eqb (tokenAt s from .sort) integer && not (eqb kind date))
-      → Agree (behindItems c) (ranges s left asked (c .next) seen from) (scanItems s kind fuel n c seen from)
+      → Agree (behindItems c) (ranges s left asked c seen from) (scanItems s kind fuel n c seen from)
   unfolding ranges start scanItems scanValue
   items-agree kind k zero zero n asked c seen from z h q a b = absurd (omega arith)
   items-agree kind k (suc left) zero n asked c seen from z h q a b = absurd (omega arith)
   items-agree kind k zero (suc fuel) n asked c seen from z h q a b =
       let t = tokenAt s from in
       let f = token-found s from h in
-      let next = count (c .next + 1) (c .pool) in
+      let next = c + 1 in
       let rest = items-rest kind fuel (n + 1) next seen from (kind-strict k) h q in
       rw b
       (start-agree (eqb (t .sort) bar) (eqb (t .sort) integer && not (eqb kind date)) t _ _ _ _
@@ -557,17 +556,17 @@ module _ (s : List ℕ) where
   items-agree kind k (suc left) (suc fuel) n asked c seen from z h q a b =
       let t = tokenAt s from in
       let f = token-found s from h in
-      let next = count (c .next + 1) (c .pool) in
+      let next = c + 1 in
       let rest = items-rest kind fuel (n + 1) next seen from (kind-strict k) h q in
       let early : eqb n 17 ≡ false = ne-eqb n 17 (λ x. omega arith) in
       let on : t .start < t .end → (i : Interval) (p : ℕ) → kind ≡ i .kind → t .end ≤ p → p ≤ length s
-      → Agree (behindItems c) (Ranges.goOn s (c .next) i (ranges s left (i .kind) (c .next + 1) (i .pair ∷ seen)) p) (scanMore s (scanItems s kind fuel (n + 1) next (i .pair ∷ seen)) next p) =
+      → Agree (behindItems c) (Ranges.goOn s c i (ranges s left (i .kind) (c + 1) (i .pair ∷ seen)) p) (scanMore s (scanItems s kind fuel (n + 1) next (i .pair ∷ seen)) next p) =
       λ m i p x l j. let u = tokenAt s p in
       let g = token-found s p j in
       agree-cond (eqb (u .sort) comma) _ _ _ _
-      (λ e. agree-map (ranges s left (i .kind) (c .next + 1) (i .pair ∷ seen) (u .end)) (λ r. record { kind = r .kind; items = range (c .next) (i .pair) ∷ r .items }) _
-      (λ r. ap (λ d. count d (c .pool)) (omega arith))
-      (subst (λ d. Agree (behindItems next) (ranges s left d (c .next + 1) (i .pair ∷ seen) (u .end)) (scanItems s kind fuel (n + 1) next (i .pair ∷ seen) (u .end))) x
+      (λ e. agree-map (ranges s left (i .kind) (c + 1) (i .pair ∷ seen) (u .end)) (λ r. record { kind = r .kind; items = range c (i .pair) ∷ r .items }) _
+      (λ r. omega arith)
+      (subst (λ d. Agree (behindItems next) (ranges s left d (c + 1) (i .pair ∷ seen) (u .end)) (scanItems s kind fuel (n + 1) next (i .pair ∷ seen) (u .end))) x
       (items-agree kind k left fuel (n + 1) kind next (i .pair ∷ seen) (u .end) (omega arith) (g .inside) (omega (arith, f .start, g .start, g .order)) (λ y. kind-by k (firstLiteral s (tokenAt s (u .end) .end))) refl)))
       (λ e. agree-passed (behindItems c) _ _ p refl)
       in
@@ -587,22 +586,13 @@ module _ (s : List ℕ) where
       (within-passed s (t .end) (t .end) _ (t .end) (omega arith) (f .inside))
       (λ j p x l w. on m j p (sym (kind-value k (eqb (t .sort) integer) e) ∙ ap kindIn x) l w)))))
 
--- counts: of a record without bytes, of no record, and of a list as a leaf
-one-count : (c : Count) → count (c .next + 1) (c .pool) ≡ count (c .next + 1) (c .pool + 0)
-one-count c = ap (λ n. count (c .next + 1) n) (omega arith)
-
-pub none-count : (c : Count) → count (c .next + 0) (c .pool + 0) ≡ c
-none-count c =
-    let a : c .next + 0 ≡ c .next = omega arith in
-    let b : c .pool + 0 ≡ c .pool = omega arith in
-    λ i. record { next = a i; pool = b i }
-
-range-count : (c : Count) (r : Ranges) → behindLeaf c (rangeLeaf r) ≡ behindItems c r
+-- the number behind a list as a leaf
+range-count : (c : ℕ) (r : Ranges) → behindLeaf c (rangeLeaf r) ≡ behindItems c r
 range-count c r = cases (eqb (r .kind) date)
   where
     cases : (b : Bool) → behindLeaf c (cond b (dates (r .items)) (integers (r .items))) ≡ behindItems c r
-    cases true = ap (λ n. count (c .next + length (r .items)) n) (omega arith)
-    cases false = ap (λ n. count (c .next + length (r .items)) n) (omega arith)
+    cases true = refl
+    cases false = refl
 
 -- the kind of a list, as its first item shows it
 list-kind : (s : List ℕ) (from : ℕ) → Kind (listKind s from)
@@ -620,32 +610,24 @@ list-value false a h = refl
 bar-integer : bar ≡ integer → ⊥
 bar-integer e = omega arith
 
-text-count : (c : Count) (w : List ℕ) (n : ℕ) (l : List Text) → behindTexts c (record { number = n; text = w } ∷ l) ≡ behindTexts (count (c .next + 1) (c .pool + length w)) l
-text-count c w n l =
-    let a : c .next + suc (length l) ≡ c .next + 1 + length l = omega arith in
-    let b : c .pool + length (w ++ textPool l) ≡ c .pool + length w + length (textPool l) = rw length-append (omega arith) in
-    λ i. record { next = a i; pool = b i }
-
 -- a string's token, and what follows it
-string-start : {f : List Text → Count} (b : Bool) (t : Token) (a : Token → ℕ → Reading Token) (g : Token → ℕ → Reading (List Text)) (v : Scan Count)
+string-start : {f : List Text → ℕ} (b : Bool) (t : Token) (a : Token → ℕ → Reading Token) (g : Token → ℕ → Reading (List Text)) (v : Scan ℕ)
     → (b ≡ true → Agree f (Reading.andThen (a t (t .end)) g) v)
     → Agree f (Reading.andThen (Reading.andThen (cond b (got t (t .end)) (syntaxFault t)) a) g) (cond b v (syntax t))
 string-start true t a g v h = h refl
 string-start {f} false t a g v h = agree-syntax f t
 
-unless-then : {f : List Text → Count} (b : Bool) (t : Token) (g : Token → ℕ → Reading (List Text)) (v : Scan Count) → Agree f (unless b TooLong (t .start) (g t (t .end))) v
+unless-then : {f : List Text → ℕ} (b : Bool) (t : Token) (g : Token → ℕ → Reading (List Text)) (v : Scan ℕ) → Agree f (unless b TooLong (t .start) (g t (t .end))) v
     → Agree f (Reading.andThen (unless b TooLong (t .start) (got t (t .end))) g) v
 unless-then true t g v h = h
 unless-then false t g v h = h
 
-module _ (s : List ℕ) (n : ℕ) (c : Count) (seen : List (List ℕ)) (t : Token) (more : Scan Count) (behind : (cause : Cause) → All (Later (refusal cause (t .start))) (faultsIn more)) where
+module _ (s : List ℕ) (n c : ℕ) (seen : List (List ℕ)) (t : Token) (more : Scan ℕ) (behind : (cause : Cause) → All (Later (refusal cause (t .start))) (faultsIn more)) where
   string-later : (cause : Cause) → numberOf cause ≤ 8
-      → All (Later (refusal cause (t .start))) (faultsIn (noting (eqb (c .next) recordLimit) TooManyRecords (t .start) (noting (listed (inner s t) seen) Overlap (t .start)
-      (noting (ltb poolLimit (c .pool + length (inner s t))) PoolTooLarge (t .start) more))))
+      → All (Later (refusal cause (t .start))) (faultsIn (noting (eqb c recordLimit) TooManyRecords (t .start) (noting (listed (inner s t) seen) Overlap (t .start) more)))
   unfolding numberOf
   string-later cause j =
-      later-noting (refusal cause (t .start)) _ TooManyRecords (t .start) _ (samePlace refl j) (later-noting (refusal cause (t .start)) _ Overlap (t .start) _ (samePlace refl (omega arith))
-      (later-noting (refusal cause (t .start)) _ PoolTooLarge (t .start) more (samePlace refl (omega arith)) (behind cause)))
+      later-noting (refusal cause (t .start)) _ TooManyRecords (t .start) _ (samePlace refl j) (later-noting (refusal cause (t .start)) _ Overlap (t .start) more (samePlace refl (omega arith)) (behind cause))
 
   -- a 17th string
   full-string : n ≡ itemLimit + 1 → Agree (behindTexts c) (unless (ltb stringLimit (length (inner s t))) TooLong (t .start) (refuse TooManyItems (t .start))) (scanString s t n c seen more)
@@ -657,18 +639,15 @@ module _ (s : List ℕ) (n : ℕ) (c : Count) (seen : List (List ℕ)) (t : Toke
 
   -- a string before the 17th
   string-agree : (r : Reading (List Text)) → eqb n (itemLimit + 1) ≡ false → (ltb stringLimit (length (inner s t)) ≡ false → Agree (behindTexts c) r more)
-      → Agree (behindTexts c) (unless (ltb stringLimit (length (inner s t))) TooLong (t .start) (unless (eqb (c .next) recordLimit) TooManyRecords (t .start)
-      (unless (listed (inner s t) seen) Overlap (t .start) (unless (ltb poolLimit (c .pool + length (inner s t))) PoolTooLarge (t .start) r)))) (scanString s t n c seen more)
+      → Agree (behindTexts c) (unless (ltb stringLimit (length (inner s t))) TooLong (t .start) (unless (eqb c recordLimit) TooManyRecords (t .start)
+      (unless (listed (inner s t) seen) Overlap (t .start) r))) (scanString s t n c seen more)
   unfolding numberOf
   string-agree r e a =
       agree-noting (ltb stringLimit (length (inner s t))) TooLong (t .start) _ _
       (λ x. unmade-agree (eqb n (itemLimit + 1)) TooManyItems (t .start) _ _ e
-      (agree-noting (eqb (c .next) recordLimit) TooManyRecords (t .start) _ _
-      (λ y. agree-noting (listed (inner s t) seen) Overlap (t .start) _ _
-      (λ z. agree-noting (ltb poolLimit (c .pool + length (inner s t))) PoolTooLarge (t .start) r more (λ v. a x) (behind PoolTooLarge))
-      (later-noting (refusal Overlap (t .start)) _ PoolTooLarge (t .start) more (samePlace refl (lit≤ tt)) (behind Overlap)))
-      (later-noting (refusal TooManyRecords (t .start)) _ Overlap (t .start) _ (samePlace refl (lit≤ tt))
-      (later-noting (refusal TooManyRecords (t .start)) _ PoolTooLarge (t .start) more (samePlace refl (lit≤ tt)) (behind TooManyRecords)))))
+      (agree-noting (eqb c recordLimit) TooManyRecords (t .start) _ _
+      (λ y. agree-noting (listed (inner s t) seen) Overlap (t .start) r more (λ z. a x) (behind Overlap))
+      (later-noting (refusal TooManyRecords (t .start)) _ Overlap (t .start) more (samePlace refl (lit≤ tt)) (behind TooManyRecords))))
       (later-noting (refusal TooLong (t .start)) _ TooManyItems (t .start) _ (samePlace refl (lit≤ tt)) (string-later TooLong (lit≤ tt)))
 
 kept : {A : Type 0} (b : Bool) (x y : A) → b ≡ false → cond b x y ≡ y
@@ -677,15 +656,15 @@ kept false x y e = refl
 
 module _ (s : List ℕ) where
   -- what is behind a string comes after it
-  strings-later : (fuel n : ℕ) (c : Count) (seen : List (List ℕ)) (from : ℕ) → from ≤ length s → length s < from + suc fuel → tokenAt s from .start < tokenAt s from .end
+  strings-later : (fuel n c : ℕ) (seen : List (List ℕ)) (from : ℕ) → from ≤ length s → length s < from + suc fuel → tokenAt s from .start < tokenAt s from .end
       → (cause : Cause) → All (Later (refusal cause (tokenAt s from .start))) (faultsIn (scanMore s (scanStrings s fuel n c seen) c (tokenAt s from .end)))
   strings-later fuel n c seen from h q m cause =
       let t = tokenAt s from in
       let f = token-found s from h in
       later-within s (refusal cause (t .start)) (t .end) (t .end) _ m (more-within s (t .end) _ _ (f .inside) (λ y a d. strings-within s fuel n c seen y d (omega (arith, f .start))))
 
-  strings-agree : (left fuel n : ℕ) (c : Count) (seen : List (List ℕ)) (from : ℕ) → left + n ≡ itemLimit + 1 → from ≤ length s → length s < from + fuel
-      → Agree (behindTexts c) (strings s left (c .next) (c .pool) seen from) (scanStrings s fuel n c seen from)
+  strings-agree : (left fuel n c : ℕ) (seen : List (List ℕ)) (from : ℕ) → left + n ≡ itemLimit + 1 → from ≤ length s → length s < from + fuel
+      → Agree (behindTexts c) (strings s left c seen from) (scanStrings s fuel n c seen from)
   unfolding strings startString expect scanStrings
   strings-agree zero zero n c seen from z h q = absurd (omega arith)
   strings-agree (suc left) zero n c seen from z h q = absurd (omega arith)
@@ -694,55 +673,55 @@ module _ (s : List ℕ) where
       let f = token-found s from h in
       let w = inner s t in
       string-start (eqb (t .sort) string) t _ _ _ (λ e. unless-then (ltb stringLimit (length w)) t _ _
-      (full-string s n c seen t _ (strings-later fuel (n + 1) (count (c .next + 1) (c .pool + length w)) (cond (ltb stringLimit (length w)) seen (w ∷ seen)) from h q (strict-of string (lit< tt) t s from f (eqb-true _ _ e)))
+      (full-string s n c seen t _ (strings-later fuel (n + 1) (c + 1) (cond (ltb stringLimit (length w)) seen (w ∷ seen)) from h q (strict-of string (lit< tt) t s from f (eqb-true _ _ e)))
       (omega arith)))
   strings-agree (suc left) (suc fuel) n c seen from z h q =
       let t = tokenAt s from in
       let f = token-found s from h in
       let w = inner s t in
-      let next = count (c .next + 1) (c .pool + length w) in
+      let next = c + 1 in
       let u = tokenAt s (t .end) in
       let g = token-found s (t .end) (f .inside) in
       string-start (eqb (t .sort) string) t _ _ _ (λ e. let m = strict-of string (lit< tt) t s from f (eqb-true _ _ e) in
       unless-then (ltb stringLimit (length w)) t _ _
       (string-agree s n c seen t _ (strings-later fuel (n + 1) next (cond (ltb stringLimit (length w)) seen (w ∷ seen)) from h q m) _ (ne-eqb n 17 (λ x. omega arith)) (λ x.
-      subst (λ v. Agree (behindTexts c) (goOnStrings s (record { number = c .next; text = w }) (strings s left (c .next + 1) (c .pool + length w) (w ∷ seen)) (t .end)) (scanMore s (scanStrings s fuel (n + 1) next v) next (t .end)))
+      subst (λ v. Agree (behindTexts c) (goOnStrings s (record { number = c; text = w }) (strings s left (c + 1) (w ∷ seen)) (t .end)) (scanMore s (scanStrings s fuel (n + 1) next v) next (t .end)))
       (sym (kept (ltb stringLimit (length w)) seen (w ∷ seen) x))
       (agree-cond (eqb (u .sort) comma) _ _ _ _
-      (λ d. agree-map (strings s left (c .next + 1) (c .pool + length w) (w ∷ seen) (u .end)) (λ l. record { number = c .next; text = w } ∷ l) _ (λ l. text-count c w (c .next) l)
+      (λ d. agree-map (strings s left (c + 1) (w ∷ seen) (u .end)) (λ l. record { number = c; text = w } ∷ l) _ (λ l. omega arith)
       (strings-agree left fuel (n + 1) next (w ∷ seen) (u .end) (omega arith) (g .inside) (omega (arith, f .start, g .start, g .order))))
-      (λ d. agree-passed (behindTexts c) _ _ (t .end) (sym (text-count c w (c .next) [] ∙ none-count next)))))))
+      (λ d. agree-passed (behindTexts c) _ _ (t .end) refl)))))
 
-  boolean-list-agree : (c : Count) (from : ℕ) → from ≤ length s → isBoolean (tokenAt s from) ≡ true
-      → Agree (behindLeaf c) (unless (eqb (c .next) recordLimit) TooManyRecords (tokenAt s from .start) (booleanList s (c .next) (tokenAt s from))) (scanBooleans s c (tokenAt s from))
+  boolean-list-agree : (c from : ℕ) → from ≤ length s → isBoolean (tokenAt s from) ≡ true
+      → Agree (behindLeaf c) (unless (eqb c recordLimit) TooManyRecords (tokenAt s from .start) (booleanList s c (tokenAt s from))) (scanBooleans s c (tokenAt s from))
   unfolding booleanList secondBoolean scanBooleans scanSecond
   boolean-list-agree c from h e =
       let t = tokenAt s from in
       let f = token-found s from h in
       let u = tokenAt s (t .end) in
       let v = tokenAt s (u .end) in
-      agree-noting (eqb (c .next) recordLimit) TooManyRecords (t .start) _ _
+      agree-noting (eqb c recordLimit) TooManyRecords (t .start) _ _
       (λ z. agree-cond (eqb (u .sort) comma) _ _ _ _
       (λ a. agree-cond (isBoolean v) _ _ _ _
-      (λ b. agree-noting (eqb (booleanFlag v) (booleanFlag t)) Overlap (v .start) _ _ (λ y. agree-passed (behindLeaf c) (booleans (c .next) 3) _ (v .end) (one-count c)) (later-none _ (v .end)))
+      (λ b. agree-noting (eqb (booleanFlag v) (booleanFlag t)) Overlap (v .start) _ _ (λ y. agree-passed (behindLeaf c) (booleans c 3) _ (v .end) refl) (later-none _ (v .end)))
       (λ b. agree-syntax (behindLeaf c) v))
-      (λ a. agree-passed (behindLeaf c) (booleans (c .next) (booleanFlag t)) _ (t .end) (one-count c)))
+      (λ a. agree-passed (behindLeaf c) (booleans c (booleanFlag t)) _ (t .end) refl))
       (later-within s (refusal TooManyRecords (t .start)) (t .end) (t .end) _ (sort-strict s from t f (boolean-sort s t e)) (booleans-rest s c t (t .end) (f .inside)))
 
-  pub leaf-agree : (c : Count) (from : ℕ) → from ≤ length s → Agree (behindLeaf c) (leaf s (c .next) (c .pool) from) (scanLeaf s c from)
+  pub leaf-agree : (c from : ℕ) → from ≤ length s → Agree (behindLeaf c) (leaf s c from) (scanLeaf s c from)
   unfolding leaf scanLeaf scanPattern
   leaf-agree c from h =
       let t = tokenAt s from in
       let f = token-found s from h in
       agree-cond (isBoolean t) _ _ _ _ (λ e. boolean-list-agree c from h e)
       (λ e. agree-cond (eqb (t .sort) integer || eqb (t .sort) bar) _ _ _ _
-      (λ g. agree-map (ranges s itemLimit undecided (c .next) [] from) rangeLeaf _ (λ r. range-count c r)
+      (λ g. agree-map (ranges s itemLimit undecided c [] from) rangeLeaf _ (λ r. range-count c r)
       (items-agree s (listKind s from) (list-kind s from) itemLimit (length s + 1) 1 undecided c [] from refl h (omega arith)
       (λ x. list-bar (eqb (t .sort) bar) (eqb (firstLiteral s (t .end) .sort) date) (eq-eqb _ _ x))
       (list-value (eqb (t .sort) bar && eqb (firstLiteral s (t .end) .sort) date) (eqb (t .sort) integer) (λ x. let y = eqb-true _ _ (and-left (eqb (t .sort) bar) (eqb (firstLiteral s (t .end) .sort) date) x) in ne-eqb (t .sort) integer (λ v. absurd {0} (bar-integer (sym y ∙ v)))))))
       (λ g. agree-cond (eqb (t .sort) string) _ _ _ _
-      (λ x. agree-map (strings s itemLimit (c .next) (c .pool) [] from) Constraints.strings _ (λ l. refl) (strings-agree itemLimit (length s + 1) 1 c [] from refl h (omega arith)))
+      (λ x. agree-map (strings s itemLimit c [] from) Constraints.strings _ (λ l. refl) (strings-agree itemLimit (length s + 1) 1 c [] from refl h (omega arith)))
       (λ x. agree-or (within (datePattern + 1) (datePattern + 5) (t .sort)) (within (timePattern + 1) (timePattern + 4) (t .sort)) _ _ _ _ _
-      (λ y. agree-noting (eqb (c .next) recordLimit) TooManyRecords (t .start) _ _ (λ z. agree-passed (behindLeaf c) (Constraints.datePattern (c .next) (patternFlag datePattern t)) _ (t .end) (one-count c)) (later-none _ (t .end)))
-      (λ y. agree-noting (eqb (c .next) recordLimit) TooManyRecords (t .start) _ _ (λ z. agree-passed (behindLeaf c) (Constraints.timePattern (c .next) (patternFlag timePattern t)) _ (t .end) (one-count c)) (later-none _ (t .end)))
+      (λ y. agree-noting (eqb c recordLimit) TooManyRecords (t .start) _ _ (λ z. agree-passed (behindLeaf c) (Constraints.datePattern c (patternFlag datePattern t)) _ (t .end) refl) (later-none _ (t .end)))
+      (λ y. agree-noting (eqb c recordLimit) TooManyRecords (t .start) _ _ (λ z. agree-passed (behindLeaf c) (Constraints.timePattern c (patternFlag timePattern t)) _ (t .end) refl) (later-none _ (t .end)))
       (λ y z. agree-syntax (behindLeaf c) t))))

@@ -1,9 +1,9 @@
 -- All faults of a leaf. Document 01, 'Numbers of refusal': 2 "first token that can't follow, or unreadable", at the token; 4 "string too long", at the token; 5 "number or date impossible; `+/-`
 -- result outside", at the "literal (d for `+/-`)"; 6 "empty interval", at the "closing bar"; 7 "17th item", at "its first token"; 8 "record 2,048 needed", at the "token that starts it";
--- 9 "overlapping or equal item", at the "later item's first token"; 10 "pool above 16,384", at the token. "Names, items, levels and records count from their first token; but an item with a fault
+-- 9 "overlapping or equal item", at the "later item's first token". "Names, items, levels and records count from their first token; but an item with a fault
 -- of its own, syntax too, overlaps nothing".
--- The scan goes on past a literal that is impossible, whose value is then not known, so that its interval is never found empty, and past the 17th item. Its value is how far the records and the
--- pool have come. Assumes nothing.
+-- The scan goes on past a literal that is impossible, whose value is then not known, so that its interval is never found empty, and past the 17th item. The value of the scan of a leaf,
+-- and of a list, is the number of the next record. Assumes nothing.
 use mathlib.Core.Bool.{Bool, true, false, cond, not, _&&_, _||_}
 use mathlib.Core.Option.{Option, none, some, Option·map}
 use mathlib.Core.List.{List, [], _∷_}
@@ -16,13 +16,12 @@ use Rattle.lexis.specs.Spelling.{bar, dots, less, greater, atMost, atLeast, plu
 use Rattle.lexis.specs.Tokens.{tokenAt, integer, date, string, spelling, inner}
 use Rattle.lexis.specs.declared.Token.{Token}
 use Rattle.values.specs.Integers.{Pair, pair, inside, around}
-use Rattle.refusals.specs.Limits.{recordLimit, poolLimit, stringLimit, itemLimit}
-use Rattle.refusals.specs.declared.Cause.the-variants.{EndsEarly, TooLong, Impossible, OutOfRange, EmptyInterval, TooManyItems, TooManyRecords, Overlap, PoolTooLarge}
+use Rattle.refusals.specs.Limits.{recordLimit, stringLimit, itemLimit}
+use Rattle.refusals.specs.declared.Cause.the-variants.{EndsEarly, TooLong, Impossible, OutOfRange, EmptyInterval, TooManyItems, TooManyRecords, Overlap}
 use Rattle.refusals.specs.Refusals.{refusal}
 use Rattle.intervals.specs.Intervals.{Ends, ends, least, most, after, valueOf, empty, closed}
 use Rattle.items.specs.Ranges.{overlaps}
 use Rattle.items.specs.Leaves.{isBoolean, booleanFlag}
-use Rattle.constraint.specs.Objects.{Count, count}
 use Rattle.faults.specs.Faults.{Scan, ended, passed, andThen, noting, syntax, wanted}
 
 -- a token of the sort asked for
@@ -133,27 +132,26 @@ keep none seen = seen
 keep (some x) seen = x ∷ seen
 
 -- the n-th item, whose first token is t: it counts from there, with its own faults, and `seen` are those before it
-abbrev pub scanItem : Token → ℕ → Count → List Pair → Scan (Option Pair) → (Option Pair → ℕ → Scan Count) → Scan Count
-scanItem t n c seen own more =
+abbrev pub scanItem : Token → ℕ → ℕ → List Pair → Scan (Option Pair) → (Option Pair → ℕ → Scan ℕ) → Scan ℕ
+scanItem t n next seen own more =
     noting (eqb n (itemLimit + 1)) TooManyItems (t .start)
-    (noting (eqb (c .next) recordLimit) TooManyRecords (t .start)
+    (noting (eqb next recordLimit) TooManyRecords (t .start)
     (andThen (sound own) (λ x p.
     noting (overlapping x seen) Overlap (t .start)
     (more x p))))
 
 -- behind an item: a comma and more items, or the list's end
-abbrev pub scanMore : List ℕ → (ℕ → Scan Count) → Count → ℕ → Scan Count
-scanMore s more c from = let t = tokenAt s from in cond (eqb (t .sort) comma) (more (t .end)) (passed [] c from)
+abbrev pub scanMore : List ℕ → (ℕ → Scan ℕ) → ℕ → ℕ → Scan ℕ
+scanMore s more next from = let t = tokenAt s from in cond (eqb (t .sort) comma) (more (t .end)) (passed [] next from)
 
 -- the integer items or date intervals from a place on, the first of which is the n-th; `fuel` bounds how many, and its end, told behind the text's end, is no fault of any text
-unfoldable pub scanItems : List ℕ → ℕ → ℕ → ℕ → Count → List Pair → ℕ → Scan Count
-scanItems s kind zero n c seen from = ended (refusal EndsEarly (length s + 1) ∷ [])
-scanItems s kind (suc fuel) n c seen from =
+unfoldable pub scanItems : List ℕ → ℕ → ℕ → ℕ → ℕ → List Pair → ℕ → Scan ℕ
+scanItems s kind zero n next seen from = ended (refusal EndsEarly (length s + 1) ∷ [])
+scanItems s kind (suc fuel) n next seen from =
     let t = tokenAt s from in
-    let behind = count (c .next + 1) (c .pool) in
-    let more : Option Pair → ℕ → Scan Count = λ x p. scanMore s (scanItems s kind fuel (n + 1) behind (keep x seen)) behind p in
-    cond (eqb (t .sort) bar) (scanItem t n c seen (scanInterval s kind (t .end)) more)
-    (cond (eqb (t .sort) integer && not (eqb kind date)) (scanItem t n c seen (scanValue s t) more)
+    let more : Option Pair → ℕ → Scan ℕ = λ x p. scanMore s (scanItems s kind fuel (n + 1) (next + 1) (keep x seen)) (next + 1) p in
+    cond (eqb (t .sort) bar) (scanItem t n next seen (scanInterval s kind (t .end)) more)
+    (cond (eqb (t .sort) integer && not (eqb kind date)) (scanItem t n next seen (scanValue s t) more)
     (syntax t))
 
 -- the first literal from behind a bar on: behind the mark of an open or missing end, where one stands there
@@ -167,52 +165,50 @@ abbrev pub listKind : List ℕ → ℕ → ℕ
 listKind s from = let t = tokenAt s from in cond (eqb (t .sort) bar && eqb (firstLiteral s (t .end) .sort) date) date integer
 
 -- the n-th string, the token t, which counts from there; `seen` are those before it that are not too long
-abbrev pub scanString : List ℕ → Token → ℕ → Count → List (List ℕ) → Scan Count → Scan Count
-scanString s t n c seen more =
+abbrev pub scanString : List ℕ → Token → ℕ → ℕ → List (List ℕ) → Scan ℕ → Scan ℕ
+scanString s t n next seen more =
     let w = inner s t in
     noting (ltb stringLimit (length w)) TooLong (t .start)
     (noting (eqb n (itemLimit + 1)) TooManyItems (t .start)
-    (noting (eqb (c .next) recordLimit) TooManyRecords (t .start)
+    (noting (eqb next recordLimit) TooManyRecords (t .start)
     (noting (listed w seen) Overlap (t .start)
-    (noting (ltb poolLimit (c .pool + length w)) PoolTooLarge (t .start)
-    more))))
+    more)))
 
 -- the strings from a place on, the first of which is the n-th; `fuel` is as above
-unfoldable pub scanStrings : List ℕ → ℕ → ℕ → Count → List (List ℕ) → ℕ → Scan Count
-scanStrings s zero n c seen from = ended (refusal EndsEarly (length s + 1) ∷ [])
-scanStrings s (suc fuel) n c seen from =
+unfoldable pub scanStrings : List ℕ → ℕ → ℕ → ℕ → List (List ℕ) → ℕ → Scan ℕ
+scanStrings s zero n next seen from = ended (refusal EndsEarly (length s + 1) ∷ [])
+scanStrings s (suc fuel) n next seen from =
     let t = tokenAt s from in
     let w = inner s t in
-    let behind = count (c .next + 1) (c .pool + length w) in
     let kept = cond (ltb stringLimit (length w)) seen (w ∷ seen) in
-    cond (eqb (t .sort) string) (scanString s t n c seen (scanMore s (scanStrings s fuel (n + 1) behind kept) behind (t .end))) (syntax t)
+    cond (eqb (t .sort) string) (scanString s t n next seen (scanMore s (scanStrings s fuel (n + 1) (next + 1) kept) (next + 1) (t .end))) (syntax t)
 
 -- the second Boolean, behind a comma; one record holds both
-unfoldable pub scanSecond : List ℕ → Count → Token → ℕ → Scan Count
-scanSecond s c t from =
+unfoldable pub scanSecond : List ℕ → ℕ → Token → ℕ → Scan ℕ
+scanSecond s next t from =
     let u = tokenAt s from in
-    cond (isBoolean u) (noting (eqb (booleanFlag u) (booleanFlag t)) Overlap (u .start) (passed [] (count (c .next + 1) (c .pool)) (u .end))) (syntax u)
+    cond (isBoolean u) (noting (eqb (booleanFlag u) (booleanFlag t)) Overlap (u .start) (passed [] (next + 1) (u .end))) (syntax u)
 
 -- Booleans, the first of which is the token t
-unfoldable pub scanBooleans : List ℕ → Count → Token → Scan Count
-scanBooleans s c t =
+unfoldable pub scanBooleans : List ℕ → ℕ → Token → Scan ℕ
+scanBooleans s next t =
     let u = tokenAt s (t .end) in
-    noting (eqb (c .next) recordLimit) TooManyRecords (t .start)
-    (cond (eqb (u .sort) comma) (scanSecond s c t (u .end)) (passed [] (count (c .next + 1) (c .pool)) (t .end)))
+    noting (eqb next recordLimit) TooManyRecords (t .start)
+    (cond (eqb (u .sort) comma) (scanSecond s next t (u .end)) (passed [] (next + 1) (t .end)))
 
 -- a pattern
-unfoldable pub scanPattern : Count → Token → Scan Count
-scanPattern c t = noting (eqb (c .next) recordLimit) TooManyRecords (t .start) (passed [] (count (c .next + 1) (c .pool)) (t .end))
+unfoldable pub scanPattern : ℕ → Token → Scan ℕ
+scanPattern next t = noting (eqb next recordLimit) TooManyRecords (t .start) (passed [] (next + 1) (t .end))
 
 abbrev pub isPattern : Token → Bool
 isPattern t = within (datePattern + 1) (datePattern + 5) (t .sort) || within (timePattern + 1) (timePattern + 4) (t .sort)
 
 -- a leaf from a place on
-unfoldable pub scanLeaf : List ℕ → Count → ℕ → Scan Count
-scanLeaf s c from =
+unfoldable pub scanLeaf : List ℕ → ℕ → ℕ → Scan ℕ
+scanLeaf s next from =
     let t = tokenAt s from in
-    cond (isBoolean t) (scanBooleans s c t)
-    (cond (eqb (t .sort) integer || eqb (t .sort) bar) (scanItems s (listKind s from) (length s + 1) 1 c [] from)
-    (cond (eqb (t .sort) string) (scanStrings s (length s + 1) 1 c [] from)
-    (cond (isPattern t) (scanPattern c t)
+    cond (isBoolean t) (scanBooleans s next t)
+    (cond (eqb (t .sort) integer || eqb (t .sort) bar) (scanItems s (listKind s from) (length s + 1) 1 next [] from)
+    (cond (eqb (t .sort) string) (scanStrings s (length s + 1) 1 next [] from)
+    (cond (isPattern t) (scanPattern next t)
     (syntax t))))

@@ -16,9 +16,9 @@ use Rattle.lexis.specs.Tokens.{tokenAt, textEnd, typeName, name, code, integer,
 use Rattle.lexis.specs.declared.Token.{Token}
 use Rattle.lexis.proofs.Cases.{and-left, and-right}
 use Rattle.lexis.proofs.Places.{Found, token-found}
-use Rattle.refusals.specs.Limits.{textLimit, levelLimit, recordLimit, poolLimit, nameLimit, codeLimit}
+use Rattle.refusals.specs.Limits.{textLimit, levelLimit, recordLimit, nameLimit, codeLimit}
 use Rattle.refusals.specs.Reading.{Reading, refused, got, refuse, andThen}
-use Rattle.refusals.specs.declared.Cause.the-variants.{TextTooLong, TooDeep, TooLong, TooManyRecords, RepeatedName, PoolTooLarge, EndsEarly}
+use Rattle.refusals.specs.declared.Cause.the-variants.{TextTooLong, TooDeep, TooLong, TooManyRecords, RepeatedName, EndsEarly}
 use Rattle.refusals.specs.declared.Refusal.{Refusal}
 use Rattle.refusals.specs.Steps.{syntaxCause, expect}
 use Rattle.refusals.proofs.Readings.{Holds}
@@ -27,12 +27,12 @@ use Rattle.meaning.specs.Constraints.{Object, object, Attributes, noMore, attri
 use Rattle.items.specs.Leaves
 use Rattle.items.proofs.LeafReading.{LeafRead, leaf-holds}
 use Rattle.constraint.specs.Existence.{opening, isNought, isOne, fromNought, fromOne, bounds, existenceFrom}
-use Rattle.constraint.specs.Objects.{Count, count, objectType, objectCode, attributeName, value, Attribute, attributeFrom, past, attributes, body, objectBy, objectFrom}
+use Rattle.constraint.specs.Objects.{objectType, objectCode, attributeName, value, Attribute, attributeFrom, past, attributes, body, objectBy, objectFrom}
 use Rattle.constraint.specs.Texts.{constraintOf}
 use Rattle.constraint.proofs.TreeReading.{ObjectRead, object-holds}
 use Rattle.grammar.specs.DataGrammar.{Distinct, noName, newName}
 use Rattle.grammar.specs.LeafGrammar.{Next, next}
-use Rattle.grammar.specs.ConstraintGrammar.{Opens, opens, Digit, digit, DerivesBounds, DerivesExistence, unwritten, written, DerivesCode, uncoded, coded, attributeNames, objectLevels, attributeLevels, valueLevels, behindName, behindAttribute, Fits, DerivesObject, anObject, DerivesBody, anyMembers, DerivesAttributes, lastOne, oneMore, DerivesAttribute, anAttribute, DerivesValue, anything, oneObject, oneLeaf, DerivesConstraint, wholeText}
+use Rattle.grammar.specs.ConstraintGrammar.{Opens, opens, Digit, digit, DerivesBounds, DerivesExistence, unwritten, written, DerivesCode, uncoded, coded, attributeNames, objectLevels, attributeLevels, valueLevels, behindAttribute, Fits, DerivesObject, anObject, DerivesBody, anyMembers, DerivesAttributes, lastOne, oneMore, DerivesAttribute, anAttribute, DerivesValue, anything, oneObject, oneLeaf, DerivesConstraint, wholeText}
 use Rattle.grammar.specs.ConstraintGrammar
 use Rattle.grammar.proofs.Leaves.{same-eq}
 use Rattle.grammar.proofs.Given.{Gives, got-gives, refuse-gives, cond-gives, unless-gives, then-gives, given, gives-map}
@@ -43,26 +43,26 @@ use Rattle.grammar.proofs.Derived.{not-listed, listed-not, other, head-
 data OpenGiven (s : List ℕ) (from : ℕ) : Token → ℕ → Type 0 where
   openGiven : {b : Token} → Opens s from b → OpenGiven s from b (b .end)
 
-data NameGiven (s : List ℕ) (sort : ℕ) (c : Count) (from : ℕ) : Token → ℕ → Type 0 where
+data NameGiven (s : List ℕ) (sort : ℕ) (c from : ℕ) : Token → ℕ → Type 0 where
   nameGiven : {t : Token} → Next s from sort t → Fits c (spelling s t) → NameGiven s sort c from t (t .end)
 
-data NewGiven (s : List ℕ) (seen : List (List ℕ)) (c : Count) (from : ℕ) : Token → ℕ → Type 0 where
+data NewGiven (s : List ℕ) (seen : List (List ℕ)) (c from : ℕ) : Token → ℕ → Type 0 where
   newGiven : {t : Token} → Next s from name t → Fits c (spelling s t) → ¬ List·Memᴰ (spelling s t) seen → NewGiven s seen c from t (t .end)
 
-data ObjectGiven (s : List ℕ) (levels : ℕ) (c : Count) (from : ℕ) : Object → ℕ → Type 0 where
+data ObjectGiven (s : List ℕ) (levels : ℕ) (c from : ℕ) : Object → ℕ → Type 0 where
   objectGiven : {o : Object} {p : ℕ} → DerivesObject s c from o p → objectLevels o ≤ levels → ObjectGiven s levels c from o p
 
-data ValueGiven (s : List ℕ) (levels : ℕ) (c : Count) (from : ℕ) : Value → ℕ → Type 0 where
+data ValueGiven (s : List ℕ) (levels : ℕ) (c from : ℕ) : Value → ℕ → Type 0 where
   valueGiven : {v : Value} {p : ℕ} → DerivesValue s c from v p → valueLevels v ≤ levels → ValueGiven s levels c from v p
 
-data AttributeGiven (s : List ℕ) (levels : ℕ) (seen : List (List ℕ)) (c : Count) (from : ℕ) : Attribute → ℕ → Type 0 where
+data AttributeGiven (s : List ℕ) (levels : ℕ) (seen : List (List ℕ)) (c from : ℕ) : Attribute → ℕ → Type 0 where
   attributeGiven : {a : Attribute} {p : ℕ}
       → DerivesAttribute s c from (a .existence) (a .name) (a .value) p
       → ¬ List·Memᴰ (a .name) seen
       → valueLevels (a .value) ≤ levels
       → AttributeGiven s levels seen c from a p
 
-data AttributesGiven (s : List ℕ) (levels : ℕ) (seen : List (List ℕ)) (c : Count) (from : ℕ) : Attributes → ℕ → Type 0 where
+data AttributesGiven (s : List ℕ) (levels : ℕ) (seen : List (List ℕ)) (c from : ℕ) : Attributes → ℕ → Type 0 where
   attributesGiven : {xs : Attributes} {p : ℕ} {z : Token}
       → DerivesAttributes s c from xs p
       → Next s p closeBrace z
@@ -70,7 +70,7 @@ data AttributesGiven (s : List ℕ) (levels : ℕ) (seen : List (List ℕ)) (c :
       → attributeLevels xs ≤ levels
       → AttributesGiven s levels seen c from xs (z .end)
 
-data BodyGiven (s : List ℕ) (levels : ℕ) (c : Count) (from : ℕ) : Attributes → ℕ → Type 0 where
+data BodyGiven (s : List ℕ) (levels : ℕ) (c from : ℕ) : Attributes → ℕ → Type 0 where
   bodyGiven : {xs : Attributes} {p : ℕ} → DerivesBody s c from xs p → Distinct [] (attributeNames xs) → attributeLevels xs ≤ levels → BodyGiven s levels c from xs p
 
 module _ (s : List ℕ) where
@@ -126,83 +126,80 @@ module _ (s : List ℕ) where
       made : {x b z : Token} {k p q r : ℕ} → Next s from existence x → OpenGiven s (x .end) b p → DerivesBounds s p k q → Took s closeBrace q z r → DerivesExistence s from k r
       made n (openGiven o) d (took z) = written n o d z
 
-  code-gives : (pool from : ℕ) → Gives (DerivesCode s pool from) (objectCode s pool from)
+  code-gives : (from : ℕ) → Gives (DerivesCode s from) (objectCode s from)
   unfolding objectCode
-  code-gives pool from =
+  code-gives from =
       let t = tokenAt s from in
-      let P = DerivesCode s pool from in
+      let P = DerivesCode s from in
       cond-gives P (eqb (t .sort) code) _ _
       (λ e. unless-gives P (ltb codeLimit (length (inner s t))) TooLong (t .start) _ (λ a.
-      unless-gives P (ltb poolLimit (pool + length (inner s t))) PoolTooLarge (t .start) _ (λ b.
-      got-gives P (inner s t) (t .end) (coded (next (eqb-true _ _ e)) (ltb-false _ _ a) (ltb-false _ _ b)))))
+      got-gives P (inner s t) (t .end) (coded (next (eqb-true _ _ e)) (ltb-false _ _ a))))
       (λ e. got-gives P [] from uncoded)
 
-  type-gives : (levels : ℕ) (c : Count) (from : ℕ) → Gives (NameGiven s typeName c from) (objectType s levels c from)
+  type-gives : (levels : ℕ) (c from : ℕ) → Gives (NameGiven s typeName c from) (objectType s levels c from)
   unfolding objectType
   type-gives levels c from =
       let P = NameGiven s typeName c from in
       then-gives P (Took s typeName from) (expect s typeName from) _ (expect-gives s typeName from) (λ t p x.
       unless-gives P (eqb levels 0) TooDeep (t .start) _ (λ a.
       unless-gives P (ltb nameLimit (length (spelling s t))) TooLong (t .start) _ (λ b.
-      unless-gives P (eqb (c .next) recordLimit) TooManyRecords (t .start) _ (λ d.
-      unless-gives P (ltb poolLimit (c .pool + length (spelling s t))) PoolTooLarge (t .start) _ (λ e.
-      got-gives P t p (made x (record { short = ltb-false _ _ b; room = eqb-false _ _ d; pool = ltb-false _ _ e })))))))
+      unless-gives P (eqb c recordLimit) TooManyRecords (t .start) _ (λ d.
+      got-gives P t p (made x (record { short = ltb-false _ _ b; room = eqb-false _ _ d }))))))
     where
       made : {t : Token} {p : ℕ} → Took s typeName from t p → Fits c (spelling s t) → NameGiven s typeName c from t p
       made (took n) f = nameGiven n f
 
-  name-gives : (seen : List (List ℕ)) (c : Count) (from : ℕ) → Gives (NewGiven s seen c from) (attributeName s seen c from)
+  name-gives : (seen : List (List ℕ)) (c from : ℕ) → Gives (NewGiven s seen c from) (attributeName s seen c from)
   unfolding attributeName
   name-gives seen c from =
       let P = NewGiven s seen c from in
       then-gives P (Took s name from) (expect s name from) _ (expect-gives s name from) (λ t p x.
       unless-gives P (ltb nameLimit (length (spelling s t))) TooLong (t .start) _ (λ b.
-      unless-gives P (eqb (c .next) recordLimit) TooManyRecords (t .start) _ (λ d.
+      unless-gives P (eqb c recordLimit) TooManyRecords (t .start) _ (λ d.
       unless-gives P (listed (spelling s t) seen) RepeatedName (t .start) _ (λ m.
-      unless-gives P (ltb poolLimit (c .pool + length (spelling s t))) PoolTooLarge (t .start) _ (λ e.
-      got-gives P t p (made x (record { short = ltb-false _ _ b; room = eqb-false _ _ d; pool = ltb-false _ _ e }) (listed-not _ _ m)))))))
+      got-gives P t p (made x (record { short = ltb-false _ _ b; room = eqb-false _ _ d }) (listed-not _ _ m))))))
     where
       made : {t : Token} {p : ℕ} → Took s name from t p → Fits c (spelling s t) → ¬ List·Memᴰ (spelling s t) seen → NewGiven s seen c from t p
       made (took n) f m = newGiven n f m
 
 -- the parts put together
-attribute-made : {s : List ℕ} {levels from e p q r x : ℕ} {seen : List (List ℕ)} {c : Count} {t b z : Token} {v : Value}
+attribute-made : {s : List ℕ} {levels from e p q r x : ℕ} {seen : List (List ℕ)} {c : ℕ} {t b z : Token} {v : Value}
     → NewGiven s seen c from t p
     → DerivesExistence s p e q
     → OpenGiven s q b r
-    → ValueGiven s levels (behindName c (spelling s t)) r v x
+    → ValueGiven s levels (c + 1) r v x
     → {y : ℕ}
     → Took s closeBrace x z y
     → AttributeGiven s levels seen c from (record { existence = e; name = spelling s t; value = v }) y
 attribute-made (newGiven n f m) d (openGiven o) (valueGiven w l) (took z) = attributeGiven (anAttribute n f d o w z) m l
 
-last-made : {s : List ℕ} {levels from p : ℕ} {seen : List (List ℕ)} {c : Count} {a : Attribute} {z : Token} → AttributeGiven s levels seen c from a p → Next s p closeBrace z
-    → AttributesGiven s levels seen c from (attribute (c .next) (a .existence) (a .name) (a .value) noMore) (z .end)
+last-made : {s : List ℕ} {levels from p : ℕ} {seen : List (List ℕ)} {c : ℕ} {a : Attribute} {z : Token} → AttributeGiven s levels seen c from a p → Next s p closeBrace z
+    → AttributesGiven s levels seen c from (attribute c (a .existence) (a .name) (a .value) noMore) (z .end)
 unfolding attributeNames attributeLevels
 last-made (attributeGiven d m l) n = attributesGiven (lastOne d) n (newName m noName) (omega arith)
 
-more-made : {s : List ℕ} {levels from p q : ℕ} {seen : List (List ℕ)} {c : Count} {a : Attribute} {xs : Attributes}
+more-made : {s : List ℕ} {levels from p q : ℕ} {seen : List (List ℕ)} {c : ℕ} {a : Attribute} {xs : Attributes}
     → AttributeGiven s levels seen c from a p
     → AttributesGiven s levels (a .name ∷ seen) (past c a) p xs q
-    → AttributesGiven s levels seen c from (attribute (c .next) (a .existence) (a .name) (a .value) xs) q
+    → AttributesGiven s levels seen c from (attribute c (a .existence) (a .name) (a .value) xs) q
 unfolding attributeNames attributeLevels
 more-made (attributeGiven d m l) (attributesGiven ds n x k) = attributesGiven (oneMore d ds) n (newName m x) (omega arith)
 
-nested-made : {s : List ℕ} {levels from p : ℕ} {c : Count} {o : Object} → ObjectGiven s levels c from o p → ValueGiven s levels c from (nested o) p
+nested-made : {s : List ℕ} {levels from p : ℕ} {c : ℕ} {o : Object} → ObjectGiven s levels c from o p → ValueGiven s levels c from (nested o) p
 unfolding valueLevels
 nested-made (objectGiven d l) = valueGiven (oneObject d) l
 
-object-made : {s : List ℕ} {levels from p q r x : ℕ} {c : Count} {t b : Token} {k : List ℕ} {xs : Attributes}
+object-made : {s : List ℕ} {levels from p q r x : ℕ} {c : ℕ} {t b : Token} {k : List ℕ} {xs : Attributes}
     → NameGiven s typeName c from t p
-    → DerivesCode s (c .pool + length (spelling s t)) p k q
+    → DerivesCode s p k q
     → OpenGiven s q b r
-    → BodyGiven s levels (count (c .next + 1) (c .pool + length (spelling s t) + length k)) r xs x
-    → ObjectGiven s (suc levels) c from (object (c .next) (spelling s t) k xs) x
+    → BodyGiven s levels (c + 1) r xs x
+    → ObjectGiven s (suc levels) c from (object c (spelling s t) k xs) x
 unfolding objectLevels
 object-made (nameGiven n f) d (openGiven o) (bodyGiven b m l) = objectGiven (anObject n f d o b m) (omega arith)
 
-module _ (s : List ℕ) (levels : ℕ) (below : (c : Count) (from : ℕ) → Gives (ObjectGiven s levels c from) (objectFrom s levels c from)) where
-  value-gives : (c : Count) (from : ℕ) → Gives (ValueGiven s levels c from) (value s (objectFrom s levels) c from)
+module _ (s : List ℕ) (levels : ℕ) (below : (c from : ℕ) → Gives (ObjectGiven s levels c from) (objectFrom s levels c from)) where
+  value-gives : (c from : ℕ) → Gives (ValueGiven s levels c from) (value s (objectFrom s levels) c from)
   unfolding valueLevels
   value-gives c from =
       let t = tokenAt s from in
@@ -210,24 +207,24 @@ module _ (s : List ℕ) (levels : ℕ) (below : (c : Count) (from : ℕ) → Giv
       cond-gives P (eqb (t .sort) star) _ _ (λ e. got-gives P any (t .end) (valueGiven (anything (next (eqb-true _ _ e))) (omega arith)))
       (λ e. cond-gives P (eqb (t .sort) typeName) _ _
       (λ f. then-gives P (ObjectGiven s levels c from) (objectFrom s levels c from) _ (below c from) (λ o p x. got-gives P (nested o) p (nested-made x)))
-      (λ f. leaf-case (Leaves.leaf s (c .next) (c .pool) from) refl))
+      (λ f. leaf-case (Leaves.leaf s c from) refl))
     where
-      leaf-case : (r : Reading Leaf) → Leaves.leaf s (c .next) (c .pool) from ≡ r → Gives (ValueGiven s levels c from) (andThen r (λ l p. got (leaf l) p))
+      leaf-case : (r : Reading Leaf) → Leaves.leaf s c from ≡ r → Gives (ValueGiven s levels c from) (andThen r (λ l p. got (leaf l) p))
       leaf-case (refused x) e = refuse-gives (ValueGiven s levels c from) (x .cause) (x .place)
-      leaf-case (got l p) e = got-gives (ValueGiven s levels c from) (leaf l) p (valueGiven (oneLeaf (leaf-derives s (c .next) (c .pool) from l p e)) (omega arith))
+      leaf-case (got l p) e = got-gives (ValueGiven s levels c from) (leaf l) p (valueGiven (oneLeaf (leaf-derives s c from l p e)) (omega arith))
 
-  attribute-gives : (seen : List (List ℕ)) (c : Count) (from : ℕ) → Gives (AttributeGiven s levels seen c from) (attributeFrom s (objectFrom s levels) seen c from)
+  attribute-gives : (seen : List (List ℕ)) (c from : ℕ) → Gives (AttributeGiven s levels seen c from) (attributeFrom s (objectFrom s levels) seen c from)
   unfolding attributeFrom
   attribute-gives seen c from =
       let P = AttributeGiven s levels seen c from in
       then-gives P (NewGiven s seen c from) (attributeName s seen c from) _ (name-gives s seen c from) (λ t p a.
       then-gives P (DerivesExistence s p) (existenceFrom s p) _ (existence-gives s p) (λ e q b.
       then-gives P (OpenGiven s q) (opening s q) _ (opening-gives s q) (λ u r d.
-      then-gives P (ValueGiven s levels (behindName c (spelling s t)) r) (value s (objectFrom s levels) (behindName c (spelling s t)) r) _ (value-gives (behindName c (spelling s t)) r) (λ v x f.
+      then-gives P (ValueGiven s levels (c + 1) r) (value s (objectFrom s levels) (c + 1) r) _ (value-gives (c + 1) r) (λ v x f.
       then-gives P (Took s closeBrace x) (expect s closeBrace x) _ (expect-gives s closeBrace x) (λ z y g.
       got-gives P (record { existence = e; name = spelling s t; value = v }) y (attribute-made a b d f g))))))
 
-  attributes-gives : (fuel : ℕ) (seen : List (List ℕ)) (c : Count) (from : ℕ) → Gives (AttributesGiven s levels seen c from) (attributes s (objectFrom s levels) fuel seen c from)
+  attributes-gives : (fuel : ℕ) (seen : List (List ℕ)) (c from : ℕ) → Gives (AttributesGiven s levels seen c from) (attributes s (objectFrom s levels) fuel seen c from)
   unfolding attributes
   attributes-gives zero seen c from = refuse-gives (AttributesGiven s levels seen c from) EndsEarly (length s + 1)
   attributes-gives (suc fuel) seen c from =
@@ -235,11 +232,11 @@ module _ (s : List ℕ) (levels : ℕ) (below : (c : Count) (from : ℕ) → Giv
       let down = objectFrom s levels in
       then-gives P (AttributeGiven s levels seen c from) (attributeFrom s down seen c from) _ (attribute-gives seen c from) (λ a p x.
       cond-gives P (eqb (tokenAt s p .sort) closeBrace) _ _
-      (λ e. got-gives P (attribute (c .next) (a .existence) (a .name) (a .value) noMore) (tokenAt s p .end) (last-made x (next (eqb-true _ _ e))))
+      (λ e. got-gives P (attribute c (a .existence) (a .name) (a .value) noMore) (tokenAt s p .end) (last-made x (next (eqb-true _ _ e))))
       (λ e. then-gives P (AttributesGiven s levels (a .name ∷ seen) (past c a) p) (attributes s down fuel (a .name ∷ seen) (past c a) p) _ (attributes-gives fuel (a .name ∷ seen) (past c a) p) (λ xs q y.
-      got-gives P (attribute (c .next) (a .existence) (a .name) (a .value) xs) q (more-made x y))))
+      got-gives P (attribute c (a .existence) (a .name) (a .value) xs) q (more-made x y))))
 
-  body-gives : (c : Count) (from : ℕ) → Gives (BodyGiven s levels c from) (body s (objectFrom s levels) c from)
+  body-gives : (c from : ℕ) → Gives (BodyGiven s levels c from) (body s (objectFrom s levels) c from)
   unfolding attributeNames attributeLevels
   body-gives c from =
       let t = tokenAt s from in
@@ -254,19 +251,17 @@ module _ (s : List ℕ) (levels : ℕ) (below : (c : Count) (from : ℕ) → Giv
       made : {xs : Attributes} {p : ℕ} → AttributesGiven s levels [] c from xs p → BodyGiven s levels c from xs p
       made (attributesGiven d n m l) = bodyGiven (ConstraintGrammar.members d n) m l
 
-  object-step : (c : Count) (from : ℕ) → Gives (ObjectGiven s (suc levels) c from) (objectBy s (suc levels) (objectFrom s levels) c from)
+  object-step : (c from : ℕ) → Gives (ObjectGiven s (suc levels) c from) (objectBy s (suc levels) (objectFrom s levels) c from)
   object-step c from =
       let P = ObjectGiven s (suc levels) c from in
       then-gives P (NameGiven s typeName c from) (objectType s (suc levels) c from) _ (type-gives s (suc levels) c from) (λ t p a.
-      let m = c .pool + length (spelling s t) in
-      then-gives P (DerivesCode s m p) (objectCode s m p) _ (code-gives s m p) (λ k q b.
+      then-gives P (DerivesCode s p) (objectCode s p) _ (code-gives s p) (λ k q b.
       then-gives P (OpenGiven s q) (opening s q) _ (opening-gives s q) (λ u r d.
-      let n = count (c .next + 1) (m + length k) in
-      then-gives P (BodyGiven s levels n r) (body s (objectFrom s levels) n r) _ (body-gives n r) (λ xs x f.
-      got-gives P (object (c .next) (spelling s t) k xs) x (object-made a b d f)))))
+      then-gives P (BodyGiven s levels (c + 1) r) (body s (objectFrom s levels) (c + 1) r) _ (body-gives (c + 1) r) (λ xs x f.
+      got-gives P (object c (spelling s t) k xs) x (object-made a b d f)))))
 
 -- without a level left nothing is given
-no-level : (s : List ℕ) (c : Count) (from : ℕ) (P : Object → ℕ → Type 0) (go : Token → ℕ → Reading Object) → Gives P (andThen (objectType s 0 c from) go)
+no-level : (s : List ℕ) (c from : ℕ) (P : Object → ℕ → Type 0) (go : Token → ℕ → Reading Object) → Gives P (andThen (objectType s 0 c from) go)
 unfolding objectType
 no-level s c from P go = cases (expect s typeName from)
   where
@@ -274,7 +269,7 @@ no-level s c from P go = cases (expect s typeName from)
     cases (refused x) = refuse-gives P (x .cause) (x .place)
     cases (got t p) = refuse-gives P TooDeep (t .start)
 
-object-gives : (s : List ℕ) (levels : ℕ) (c : Count) (from : ℕ) → Gives (ObjectGiven s levels c from) (objectFrom s levels c from)
+object-gives : (s : List ℕ) (levels : ℕ) (c from : ℕ) → Gives (ObjectGiven s levels c from) (objectFrom s levels c from)
 unfolding objectFrom
 object-gives s zero c from = no-level s c from (ObjectGiven s 0 c from) _
 object-gives s (suc levels) c from = object-step s levels (λ d f. object-gives s levels d f) c from
@@ -286,11 +281,11 @@ text-gives : (s : List ℕ) → Gives (Derived s) (constraintOf s)
 unfolding constraintOf
 text-gives s =
     unless-gives (Derived s) (ltb textLimit (length s)) TextTooLong textLimit _ (λ l.
-    then-gives (Derived s) (ObjectGiven s levelLimit (count 1 0) 0) (objectFrom s levelLimit (count 1 0) 0) _ (object-gives s levelLimit (count 1 0) 0) (λ o p x.
+    then-gives (Derived s) (ObjectGiven s levelLimit 1 0) (objectFrom s levelLimit 1 0) _ (object-gives s levelLimit 1 0) (λ o p x.
     then-gives (Derived s) (Took s textEnd p) (expect s textEnd p) _ (expect-gives s textEnd p) (λ t q y.
     got-gives (Derived s) o q (made (ltb-false _ _ l) x y))))
   where
-    made : {o : Object} {p q : ℕ} {t : Token} → length s ≤ textLimit → ObjectGiven s levelLimit (count 1 0) 0 o p → Took s textEnd p t q → DerivesConstraint s o
+    made : {o : Object} {p q : ℕ} {t : Token} → length s ≤ textLimit → ObjectGiven s levelLimit 1 0 o p → Took s textEnd p t q → DerivesConstraint s o
     made l (objectGiven d k) (took n) = wholeText l d n k
 
 -- the other way round: a part that is derived is read
@@ -318,24 +313,24 @@ unfolding existenceFrom
 existence-got unwritten (opens (next f) n) = rw (other f existence)
 existence-got (written (next x) o d z) n = rw (other x existence, opening-got o, bounds-got d z, expect-got z)
 
-code-got : {s : List ℕ} {pool from p : ℕ} {k : List ℕ} {b : Token} → DerivesCode s pool from k p → Opens s p b → objectCode s pool from ≡ got k p
+code-got : {s : List ℕ} {from p : ℕ} {k : List ℕ} {b : Token} → DerivesCode s from k p → Opens s p b → objectCode s from ≡ got k p
 unfolding objectCode
 code-got uncoded (opens (next f) n) = rw (other f code)
-code-got {s} {pool} {from} (coded (next e) l m) n =
+code-got {s} {from} (coded (next e) l) n =
     let t = tokenAt s from in
-    rw (other e code, le-ltb codeLimit (length (inner s t)) l, le-ltb poolLimit (pool + length (inner s t)) m)
+    rw (other e code, le-ltb codeLimit (length (inner s t)) l)
 
-type-got : (s : List ℕ) (levels : ℕ) (c : Count) (from : ℕ) (t : Token) → Next s from typeName t → Fits c (spelling s t) → objectType s (suc levels) c from ≡ got t (t .end)
+type-got : (s : List ℕ) (levels : ℕ) (c from : ℕ) (t : Token) → Next s from typeName t → Fits c (spelling s t) → objectType s (suc levels) c from ≡ got t (t .end)
 unfolding objectType
 type-got s levels c from t n f =
     let e : eqb (suc levels) 0 ≡ false = ne-eqb (suc levels) 0 (λ z. omega arith) in
-    rw (expect-got n, e, le-ltb nameLimit (length (spelling s t)) (f .short), ne-eqb (c .next) recordLimit (f .room), le-ltb poolLimit (c .pool + length (spelling s t)) (f .pool))
+    rw (expect-got n, e, le-ltb nameLimit (length (spelling s t)) (f .short), ne-eqb c recordLimit (f .room))
 
-name-got : (s : List ℕ) (seen : List (List ℕ)) (c : Count) (from : ℕ) (t : Token) → Next s from name t → Fits c (spelling s t) → ¬ List·Memᴰ (spelling s t) seen
+name-got : (s : List ℕ) (seen : List (List ℕ)) (c from : ℕ) (t : Token) → Next s from name t → Fits c (spelling s t) → ¬ List·Memᴰ (spelling s t) seen
     → attributeName s seen c from ≡ got t (t .end)
 unfolding attributeName
 name-got s seen c from t n f m =
-    rw (expect-got n, le-ltb nameLimit (length (spelling s t)) (f .short), ne-eqb (c .next) recordLimit (f .room), not-listed (spelling s t) seen m, le-ltb poolLimit (c .pool + length (spelling s t)) (f .pool))
+    rw (expect-got n, le-ltb nameLimit (length (spelling s t)) (f .short), ne-eqb c recordLimit (f .room), not-listed (spelling s t) seen m)
 
 -- derived tokens lie in the text
 next-found : {s : List ℕ} {from sort : ℕ} {t : Token} → Next s from sort t → from ≤ length s → Found s from t
@@ -375,26 +370,26 @@ existence-found (written x o d z) h =
     let j = next-found z (i .1) in
     (omega (arith, f .start, f .order, g .0, i .0, j .start, j .order), j .inside)
 
-code-found : {s : List ℕ} {pool from p : ℕ} {k : List ℕ} → DerivesCode s pool from k p → from ≤ length s → p ≤ length s
+code-found : {s : List ℕ} {from p : ℕ} {k : List ℕ} → DerivesCode s from k p → from ≤ length s → p ≤ length s
 code-found uncoded h = h
-code-found (coded n l m) h = next-found n h .inside
+code-found (coded n l) h = next-found n h .inside
 
 -- a value that is read, with the place behind it
-record ValueGot (s : List ℕ) (levels : ℕ) (c : Count) (from : ℕ) (v : Value) (p : ℕ) : Type 0 where
+record ValueGot (s : List ℕ) (levels : ℕ) (c from : ℕ) (v : Value) (p : ℕ) : Type 0 where
   is : value s (objectFrom s levels) c from ≡ got v p
   low : from ≤ p
   high : p ≤ length s
 
 -- a leaf starts with no `*` and no TYPE
-leaf-refused : (s : List ℕ) (number pool from k : ℕ) → tokenAt s from .sort ≡ k
+leaf-refused : (s : List ℕ) (number from k : ℕ) → tokenAt s from .sort ≡ k
     → (eqb k trueWord || eqb k falseWord) ≡ false
     → (eqb k integer || eqb k bar) ≡ false
     → eqb k string ≡ false
     → within 31 35 k ≡ false
     → within 41 44 k ≡ false
-    → Leaves.leaf s number pool from ≡ refuse (syntaxCause (tokenAt s from)) (tokenAt s from .start)
+    → Leaves.leaf s number from ≡ refuse (syntaxCause (tokenAt s from)) (tokenAt s from .start)
 unfolding Leaves.leaf
-leaf-refused s number pool from k e a b c d f =
+leaf-refused s number from k e a b c d f =
     let x : (eqb (tokenAt s from .sort) trueWord || eqb (tokenAt s from .sort) falseWord) ≡ false = ap (λ z. eqb z trueWord || eqb z falseWord) e ∙ a in
     let y : (eqb (tokenAt s from .sort) integer || eqb (tokenAt s from .sort) bar) ≡ false = ap (λ z. eqb z integer || eqb z bar) e ∙ b in
     let u : eqb (tokenAt s from .sort) string ≡ false = other e string ∙ c in
@@ -405,53 +400,53 @@ leaf-refused s number pool from k e a b c d f =
 refused-got : {A : Type 0} {x : Refusal} {a : A} {p : ℕ} → refused x ≡ got a p → ⊥
 refused-got {A} {x} {a} {p} e = let z : _≡_ {A = ℕ} 0 1 = cc in omega arith
 
-leaf-start : (s : List ℕ) (number pool from : ℕ) (l : Leaf) (p : ℕ) → Leaves.leaf s number pool from ≡ got l p
+leaf-start : (s : List ℕ) (number from : ℕ) (l : Leaf) (p : ℕ) → Leaves.leaf s number from ≡ got l p
     → (eqb (tokenAt s from .sort) star ≡ false) × (eqb (tokenAt s from .sort) typeName ≡ false)
-leaf-start s number pool from l p e = (
-  ne-eqb _ _ (λ k. refused-got (sym (leaf-refused s number pool from star k refl refl refl refl refl) ∙ e)),
-  ne-eqb _ _ (λ k. refused-got (sym (leaf-refused s number pool from typeName k refl refl refl refl refl) ∙ e)),
+leaf-start s number from l p e = (
+  ne-eqb _ _ (λ k. refused-got (sym (leaf-refused s number from star k refl refl refl refl refl) ∙ e)),
+  ne-eqb _ _ (λ k. refused-got (sym (leaf-refused s number from typeName k refl refl refl refl refl) ∙ e)),
 )
 
-star-value : (s : List ℕ) (levels : ℕ) (c : Count) (from : ℕ) (t : Token) → Next s from star t → from ≤ length s → ValueGot s levels c from any (t .end)
+star-value : (s : List ℕ) (levels : ℕ) (c from : ℕ) (t : Token) → Next s from star t → from ≤ length s → ValueGot s levels c from any (t .end)
 star-value s levels c from t (next e) h =
     let f = token-found s from h in
     record { is = rw (other e star); low = omega (arith, f .start, f .order); high = f .inside }
 
-leaf-value : (s : List ℕ) (levels : ℕ) (c : Count) (from : ℕ) (l : Leaf) (p : ℕ) → Leaves.leaf s (c .next) (c .pool) from ≡ got l p → from ≤ length s → ValueGot s levels c from (leaf l) p
+leaf-value : (s : List ℕ) (levels : ℕ) (c from : ℕ) (l : Leaf) (p : ℕ) → Leaves.leaf s c from ≡ got l p → from ≤ length s → ValueGot s levels c from (leaf l) p
 unfolding Holds
 leaf-value s levels c from l p e h =
-    let x = leaf-start s (c .next) (c .pool) from l p e in
-    let y : LeafRead s (c .next) from l p = rw e at (leaf-holds s (c .next) (c .pool) from h) in
+    let x = leaf-start s c from l p e in
+    let y : LeafRead s c from l p = rw e at (leaf-holds s c from h) in
     record { is = rw (x .0, x .1, e); low = omega (arith, y .least); high = y .most }
 
-object-starts : {s : List ℕ} {c : Count} {from p : ℕ} {o : Object} → DerivesObject s c from o p → tokenAt s from .sort ≡ typeName
+object-starts : {s : List ℕ} {c from p : ℕ} {o : Object} → DerivesObject s c from o p → tokenAt s from .sort ≡ typeName
 object-starts (anObject (next e) f d o b m) = e
 
-nested-value : (s : List ℕ) (levels : ℕ) (c : Count) (from : ℕ) (o : Object) (p : ℕ) → tokenAt s from .sort ≡ typeName → objectFrom s levels c from ≡ got o p → from ≤ length s
+nested-value : (s : List ℕ) (levels : ℕ) (c from : ℕ) (o : Object) (p : ℕ) → tokenAt s from .sort ≡ typeName → objectFrom s levels c from ≡ got o p → from ≤ length s
     → ValueGot s levels c from (nested o) p
 unfolding Holds
 nested-value s levels c from o p t e h =
-    let y : ObjectRead s (c .next) from o p = rw e at (object-holds s levels c from h) in
+    let y : ObjectRead s c from o p = rw e at (object-holds s levels c from h) in
     record { is = rw (other t star, other t typeName, e); low = omega (arith, y .least); high = y .most }
 
 -- an attribute that is read, with the place behind it
-record AttributeGot (s : List ℕ) (levels : ℕ) (seen : List (List ℕ)) (c : Count) (from e : ℕ) (w : List ℕ) (v : Value) (p : ℕ) : Type 0 where
+record AttributeGot (s : List ℕ) (levels : ℕ) (seen : List (List ℕ)) (c from e : ℕ) (w : List ℕ) (v : Value) (p : ℕ) : Type 0 where
   is : attributeFrom s (objectFrom s levels) seen c from ≡ got (record { existence = e; name = w; value = v }) p
   low : from < p
   high : p ≤ length s
 
-attribute-got : (s : List ℕ) (levels : ℕ) (seen : List (List ℕ)) (c : Count) (from e : ℕ) (w : List ℕ) (v : Value) (p : ℕ)
+attribute-got : (s : List ℕ) (levels : ℕ) (seen : List (List ℕ)) (c from e : ℕ) (w : List ℕ) (v : Value) (p : ℕ)
     → DerivesAttribute s c from e w v p
     → ¬ List·Memᴰ w seen
     → from ≤ length s
-    → ((d : Count) (f q : ℕ) (z : Token) → DerivesValue s d f v q → Next s q closeBrace z → f ≤ length s → ValueGot s levels d f v q)
+    → ((d f q : ℕ) (z : Token) → DerivesValue s d f v q → Next s q closeBrace z → f ≤ length s → ValueGot s levels d f v q)
     → AttributeGot s levels seen c from e w v p
 unfolding attributeFrom
 attribute-got s levels seen c from e w v p (anAttribute {p = q} {q = r} {t = t} {b = b} {z = z} n f d o x y) m h go =
     let i = next-found n h in
     let j = existence-found d (i .inside) in
     let k = open-found o (j .1) in
-    let u = go (behindName c (spelling s t)) (b .end) r z x y (k .1) in
+    let u = go (c + 1) (b .end) r z x y (k .1) in
     let g = next-found y (u .high) in
     let l : t .start < t .end = named n h in
     record {
@@ -464,61 +459,60 @@ attribute-got s levels seen c from e w v p (anAttribute {p = q} {q = r} {t = t} 
     named (next a) b = strict-of name (lit< tt) (tokenAt s from) s from (token-found s from b) a
 
 -- attributes: the last one, and one with more behind it
-last-got : (s : List ℕ) (levels fuel : ℕ) (seen : List (List ℕ)) (c : Count) (from e : ℕ) (w : List ℕ) (v : Value) (p : ℕ) (z : Token)
+last-got : (s : List ℕ) (levels fuel : ℕ) (seen : List (List ℕ)) (c from e : ℕ) (w : List ℕ) (v : Value) (p : ℕ) (z : Token)
     → attributeFrom s (objectFrom s levels) seen c from ≡ got (record { existence = e; name = w; value = v }) p
     → Next s p closeBrace z
-    → attributes s (objectFrom s levels) (suc fuel) seen c from ≡ got (attribute (c .next) e w v noMore) (z .end)
+    → attributes s (objectFrom s levels) (suc fuel) seen c from ≡ got (attribute c e w v noMore) (z .end)
 unfolding attributes
 last-got s levels fuel seen c from e w v p z h (next x) = rw (h, other x closeBrace)
 
-more-got : (s : List ℕ) (levels fuel : ℕ) (seen : List (List ℕ)) (c : Count) (from e : ℕ) (w : List ℕ) (v : Value) (p q : ℕ) (xs : Attributes)
+more-got : (s : List ℕ) (levels fuel : ℕ) (seen : List (List ℕ)) (c from e : ℕ) (w : List ℕ) (v : Value) (p q : ℕ) (xs : Attributes)
     → attributeFrom s (objectFrom s levels) seen c from ≡ got (record { existence = e; name = w; value = v }) p
     → tokenAt s p .sort ≡ name
-    → attributes s (objectFrom s levels) fuel (w ∷ seen) (behindAttribute c w v) p ≡ got xs q
-    → attributes s (objectFrom s levels) (suc fuel) seen c from ≡ got (attribute (c .next) e w v xs) q
+    → attributes s (objectFrom s levels) fuel (w ∷ seen) (behindAttribute c v) p ≡ got xs q
+    → attributes s (objectFrom s levels) (suc fuel) seen c from ≡ got (attribute c e w v xs) q
 unfolding attributes
 more-got s levels fuel seen c from e w v p q xs h n k = rw (h, other n closeBrace, k)
 
-attribute-starts : {s : List ℕ} {c : Count} {from e p : ℕ} {w : List ℕ} {v : Value} → DerivesAttribute s c from e w v p → tokenAt s from .sort ≡ name
+attribute-starts : {s : List ℕ} {c from e p : ℕ} {w : List ℕ} {v : Value} → DerivesAttribute s c from e w v p → tokenAt s from .sort ≡ name
 attribute-starts (anAttribute (next e) f d o x y) = e
 
-starts-name : {s : List ℕ} {c : Count} {from p : ℕ} {xs : Attributes} → DerivesAttributes s c from xs p → tokenAt s from .sort ≡ name
+starts-name : {s : List ℕ} {c from p : ℕ} {xs : Attributes} → DerivesAttributes s c from xs p → tokenAt s from .sort ≡ name
 starts-name (lastOne d) = attribute-starts d
 starts-name (oneMore d ds) = attribute-starts d
 
-no-attribute : {s : List ℕ} {c : Count} {from p : ℕ} → ¬ DerivesAttributes s c from noMore p
+no-attribute : {s : List ℕ} {c from p : ℕ} → ¬ DerivesAttributes s c from noMore p
 no-attribute = elim [ ]
 
 -- what stands between an object's braces, given its attributes
-body-got : (s : List ℕ) (levels : ℕ) (c : Count) (from : ℕ) (xs : Attributes) (p : ℕ)
+body-got : (s : List ℕ) (levels : ℕ) (c from : ℕ) (xs : Attributes) (p : ℕ)
     → DerivesBody s c from xs p
     → ((q : ℕ) (z : Token) → DerivesAttributes s c from xs q → Next s q closeBrace z → attributes s (objectFrom s levels) (length s + 1) [] c from ≡ got xs (z .end))
     → body s (objectFrom s levels) c from ≡ got xs p
 body-got s levels c from xs p (anyMembers (next e) z) go = rw (other e star, expect-got z)
 body-got s levels c from xs p (ConstraintGrammar.members {p = q} {z = z} ds n) go = rw (other (starts-name ds) star) (go q z ds n)
 
-by-got : (s : List ℕ) (levels : ℕ) (c : Count) (from p q : ℕ) (t b : Token) (k : List ℕ) (xs : Attributes)
+by-got : (s : List ℕ) (levels : ℕ) (c from p q : ℕ) (t b : Token) (k : List ℕ) (xs : Attributes)
     → Next s from typeName t
     → Fits c (spelling s t)
-    → DerivesCode s (c .pool + length (spelling s t)) (t .end) k p
+    → DerivesCode s (t .end) k p
     → Opens s p b
-    → body s (objectFrom s levels) (count (c .next + 1) (c .pool + length (spelling s t) + length k)) (b .end) ≡ got xs q
-    → objectFrom s (suc levels) c from ≡ got (object (c .next) (spelling s t) k xs) q
+    → body s (objectFrom s levels) (c + 1) (b .end) ≡ got xs q
+    → objectFrom s (suc levels) c from ≡ got (object c (spelling s t) k xs) q
 unfolding objectFrom
 by-got s levels c from p q t b k xs n f d o h = rw (type-got s levels c from t n f, code-got d o, opening-got o, h)
 
 mutual
   unfolding objectLevels attributeNames
 
-  object-got : (o : Object) (s : List ℕ) (c : Count) (from p : ℕ) → DerivesObject s c from o p → (levels : ℕ) → objectLevels o ≤ levels → from ≤ length s → objectFrom s levels c from ≡ got o p
+  object-got : (o : Object) (s : List ℕ) (c from p : ℕ) → DerivesObject s c from o p → (levels : ℕ) → objectLevels o ≤ levels → from ≤ length s → objectFrom s levels c from ≡ got o p
   object-got (object m ty k xs) s c from p d zero l h = absurd (omega arith)
   object-got (object m ty k xs) s c from p (anObject {p = q} {t = t} {b = b} n f d o y u) (suc levels) l h =
       let g = open-found o (code-found d (next-found n h .inside)) in
-      let e = count (c .next + 1) (c .pool + length (spelling s t) + length k) in
       by-got s levels c from q p t b k xs n f d o
-      (body-got s levels e (b .end) xs p y (λ r z ds w. attributes-got xs s e (b .end) r ds levels (length s + 1) [] z w u (omega arith) (g .1) (omega arith)))
+      (body-got s levels (c + 1) (b .end) xs p y (λ r z ds w. attributes-got xs s (c + 1) (b .end) r ds levels (length s + 1) [] z w u (omega arith) (g .1) (omega arith)))
 
-  attributes-got : (xs : Attributes) (s : List ℕ) (c : Count) (from p : ℕ) → DerivesAttributes s c from xs p → (levels fuel : ℕ) (seen : List (List ℕ)) (z : Token)
+  attributes-got : (xs : Attributes) (s : List ℕ) (c from p : ℕ) → DerivesAttributes s c from xs p → (levels fuel : ℕ) (seen : List (List ℕ)) (z : Token)
       → Next s p closeBrace z
       → Distinct seen (attributeNames xs)
       → attributeLevels xs ≤ levels
@@ -533,16 +527,16 @@ mutual
   attributes-got (attribute m e w v more) s c from p (oneMore {p = q} d ds) levels (suc fuel) seen z n u l h k =
       let a = attribute-got s levels seen c from e w v q d (head-new u) h (λ x f r g y j i. value-got v s x f r y levels g j (omega arith) i) in
       more-got s levels fuel seen c from e w v q (z .end) more (a .is) (starts-name ds)
-      (attributes-got more s (behindAttribute c w v) q p ds levels fuel (w ∷ seen) z n (tail-new u) (omega arith) (a .high) (omega (arith, a .low)))
+      (attributes-got more s (behindAttribute c v) q p ds levels fuel (w ∷ seen) z n (tail-new u) (omega arith) (a .high) (omega (arith, a .low)))
 
-  value-got : (v : Value) (s : List ℕ) (c : Count) (from p : ℕ) → DerivesValue s c from v p → (levels : ℕ) (z : Token) → Next s p closeBrace z → valueLevels v ≤ levels → from ≤ length s → ValueGot s levels c from v p
+  value-got : (v : Value) (s : List ℕ) (c from p : ℕ) → DerivesValue s c from v p → (levels : ℕ) (z : Token) → Next s p closeBrace z → valueLevels v ≤ levels → from ≤ length s → ValueGot s levels c from v p
   value-got any s c from p (anything {t = t} n) levels z w l h = star-value s levels c from t n h
   value-got (nested o) s c from p (oneObject d) levels z w l h = nested-value s levels c from o p (object-starts d) (object-got o s c from p d levels l h) h
-  value-got (leaf x) s c from p (oneLeaf d) levels z w l h = leaf-value s levels c from x p (leaf-got s (c .next) (c .pool) from x p z d w) h
+  value-got (leaf x) s c from p (oneLeaf d) levels z w l h = leaf-value s levels c from x p (leaf-got s c from x p z d w) h
 
 text-got : (s : List ℕ) (o : Object) → DerivesConstraint s o → (p : ℕ) × (constraintOf s ≡ got o p)
 unfolding constraintOf
-text-got s o (wholeText {p = p} {e = e} l d n k) = (e .end, rw (le-ltb textLimit (length s) l, object-got o s (count 1 0) 0 p d levelLimit k (omega arith), expect-got n))
+text-got s o (wholeText {p = p} {e = e} l d n k) = (e .end, rw (le-ltb textLimit (length s) l, object-got o s 1 0 p d levelLimit k (omega arith), expect-got n))
 
 -- a constraint text is read to a tree exactly where the grammar derives it
 pub read-derives : (s : List ℕ) (o : Object) → ((p : ℕ) × (constraintOf s ≡ got o p)) ↔ DerivesConstraint s o

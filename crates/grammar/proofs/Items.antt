@@ -16,9 +16,9 @@ use Rattle.lexis.specs.Tokens.{tokenAt, integer, date, string, spelling, inner}
 use Rattle.lexis.specs.declared.Token.{Token}
 use Rattle.lexis.proofs.Cases.{and-left, and-right, by-cond}
 use Rattle.values.specs.Integers.{Pair, pair, inside, around}
-use Rattle.refusals.specs.Limits.{recordLimit, poolLimit, stringLimit, itemLimit}
+use Rattle.refusals.specs.Limits.{recordLimit, stringLimit, itemLimit}
 use Rattle.refusals.specs.Reading.{Reading, got}
-use Rattle.refusals.specs.declared.Cause.the-variants.{Impossible, OutOfRange, EmptyInterval, TooLong, TooManyItems, TooManyRecords, Overlap, PoolTooLarge}
+use Rattle.refusals.specs.declared.Cause.the-variants.{Impossible, OutOfRange, EmptyInterval, TooLong, TooManyItems, TooManyRecords, Overlap}
 use Rattle.refusals.specs.Steps.{syntaxCause, expect}
 use Rattle.meaning.specs.Constraints.{Range, Text, Leaf, booleans, datePattern, timePattern}
 use Rattle.meaning.specs.Constraints
@@ -76,8 +76,8 @@ data ItemGiven (s : List ℕ) (kind from : ℕ) : Interval → ℕ → Type 0 wh
 data RangesGiven (s : List ℕ) (left kind n : ℕ) (seen : List Pair) (from : ℕ) : Ranges → ℕ → Type 0 where
   rangesGiven : {r : Ranges} {p : ℕ} → Suits kind (r .kind) → DerivesItems s (r .kind) n from (r .items) p → length (r .items) ≤ left → Apart seen (r .items) → RangesGiven s left kind n seen from r p
 
-data StringsGiven (s : List ℕ) (left n pool : ℕ) (seen : List (List ℕ)) (from : ℕ) : List Text → ℕ → Type 0 where
-  stringsGiven : {l : List Text} {p : ℕ} → DerivesStrings s n pool from l p → length l ≤ left → Distinct seen (textsOf l) → StringsGiven s left n pool seen from l p
+data StringsGiven (s : List ℕ) (left n : ℕ) (seen : List (List ℕ)) (from : ℕ) : List Text → ℕ → Type 0 where
+  stringsGiven : {l : List Text} {p : ℕ} → DerivesStrings s n from l p → length l ≤ left → Distinct seen (textsOf l) → StringsGiven s left n seen from l p
 
 data StringGiven (s : List ℕ) (from : ℕ) : Token → ℕ → Type 0 where
   stringGiven : {t : Token} → Next s from string t → length (inner s t) ≤ stringLimit → StringGiven s from t (t .end)
@@ -294,31 +294,30 @@ module _ (s : List ℕ) where
       made : {t : Token} {p : ℕ} → Took s string from t p → length (inner s t) ≤ stringLimit → StringGiven s from t p
       made (took n) l = stringGiven n l
 
-  strings-gives : (left n pool : ℕ) (seen : List (List ℕ)) (from : ℕ) → Gives (StringsGiven s left n pool seen from) (strings s left n pool seen from)
+  strings-gives : (left n : ℕ) (seen : List (List ℕ)) (from : ℕ) → Gives (StringsGiven s left n seen from) (strings s left n seen from)
   unfolding strings textsOf
-  strings-gives zero n pool seen from =
-      let P = StringsGiven s 0 n pool seen from in
+  strings-gives zero n seen from =
+      let P = StringsGiven s 0 n seen from in
       then-gives P (StringGiven s from) (startString s from) _ (string-gives from) (λ t p x. refuse-gives P TooManyItems (t .start))
-  strings-gives (suc left) n pool seen from =
-      let P = StringsGiven s (suc left) n pool seen from in
+  strings-gives (suc left) n seen from =
+      let P = StringsGiven s (suc left) n seen from in
       then-gives P (StringGiven s from) (startString s from) _ (string-gives from) (λ t p x.
       unless-gives P (eqb n recordLimit) TooManyRecords (t .start) _ (λ a.
       unless-gives P (listed (inner s t) seen) Overlap (t .start) _ (λ b.
-      unless-gives P (ltb poolLimit (pool + length (inner s t))) PoolTooLarge (t .start) _ (λ c.
       cond-gives P (eqb (tokenAt s p .sort) comma) _ _
-      (λ e. then-gives P (StringsGiven s left (n + 1) (pool + length (inner s t)) (inner s t ∷ seen) (tokenAt s p .end)) (strings s left (n + 1) (pool + length (inner s t)) (inner s t ∷ seen) (tokenAt s p .end)) _
-      (strings-gives left (n + 1) (pool + length (inner s t)) (inner s t ∷ seen) (tokenAt s p .end))
-      (λ l r u. got-gives P (record { number = n; text = inner s t } ∷ l) r (more x (eqb-false _ _ a) (listed-not _ _ b) (ltb-false _ _ c) (next (eqb-true _ _ e)) u)))
-      (λ e. got-gives P (record { number = n; text = inner s t } ∷ []) p (last x (eqb-false _ _ a) (listed-not _ _ b) (ltb-false _ _ c)))))))
+      (λ e. then-gives P (StringsGiven s left (n + 1) (inner s t ∷ seen) (tokenAt s p .end)) (strings s left (n + 1) (inner s t ∷ seen) (tokenAt s p .end)) _
+      (strings-gives left (n + 1) (inner s t ∷ seen) (tokenAt s p .end))
+      (λ l r u. got-gives P (record { number = n; text = inner s t } ∷ l) r (more x (eqb-false _ _ a) (listed-not _ _ b) (next (eqb-true _ _ e)) u)))
+      (λ e. got-gives P (record { number = n; text = inner s t } ∷ []) p (last x (eqb-false _ _ a) (listed-not _ _ b))))))
     where
-      last : {t : Token} {p : ℕ} → StringGiven s from t p → n ≢ recordLimit → ¬ List·Memᴰ (inner s t) seen → pool + length (inner s t) ≤ poolLimit
-          → StringsGiven s (suc left) n pool seen from (record { number = n; text = inner s t } ∷ []) p
-      last (stringGiven m l) a b c = stringsGiven (lastString m l a c) (omega arith) (newName b noName)
+      last : {t : Token} {p : ℕ} → StringGiven s from t p → n ≢ recordLimit → ¬ List·Memᴰ (inner s t) seen
+          → StringsGiven s (suc left) n seen from (record { number = n; text = inner s t } ∷ []) p
+      last (stringGiven m l) a b = stringsGiven (lastString m l a) (omega arith) (newName b noName)
 
-      more : {t d : Token} {p r : ℕ} {l : List Text} → StringGiven s from t p → n ≢ recordLimit → ¬ List·Memᴰ (inner s t) seen → pool + length (inner s t) ≤ poolLimit → Next s p comma d
-          → StringsGiven s left (n + 1) (pool + length (inner s t)) (inner s t ∷ seen) (d .end) l r
-          → StringsGiven s (suc left) n pool seen from (record { number = n; text = inner s t } ∷ l) r
-      more (stringGiven m l) a b c e (stringsGiven f g h) = stringsGiven (moreStrings m l a c e f) (omega arith) (newName b h)
+      more : {t d : Token} {p r : ℕ} {l : List Text} → StringGiven s from t p → n ≢ recordLimit → ¬ List·Memᴰ (inner s t) seen → Next s p comma d
+          → StringsGiven s left (n + 1) (inner s t ∷ seen) (d .end) l r
+          → StringsGiven s (suc left) n seen from (record { number = n; text = inner s t } ∷ l) r
+      more (stringGiven m l) a b e (stringsGiven f g h) = stringsGiven (moreStrings m l a e f) (omega arith) (newName b h)
 
   boolean-of : (from : ℕ) → isBoolean (tokenAt s from) ≡ true → Boolean s from (booleanFlag (tokenAt s from)) (tokenAt s from)
   boolean-of from h =
@@ -326,13 +325,13 @@ module _ (s : List ℕ) where
       by-cond (λ (b : ℕ). Boolean s from b t) (eqb (t .sort) trueWord) (λ e. aTrue (next (eqb-true _ _ e)))
       (λ e. or-cases (eqb (t .sort) trueWord) (eqb (t .sort) falseWord) h (λ f. absurd (false-true (sym e ∙ f))) (λ f. aFalse (next (eqb-true _ _ f))))
 
-  leaf-gives : (n pool from : ℕ) → Gives (DerivesLeaf s n pool from) (leaf s n pool from)
+  leaf-gives : (n from : ℕ) → Gives (DerivesLeaf s n from) (leaf s n from)
   unfolding leaf booleanList secondBoolean
-  leaf-gives n pool from =
+  leaf-gives n from =
       let t = tokenAt s from in
       let u = tokenAt s (t .end) in
       let v = tokenAt s (u .end) in
-      let P = DerivesLeaf s n pool from in
+      let P = DerivesLeaf s n from in
       cond-gives P (isBoolean t) _ _
       (λ e. unless-gives P (eqb n recordLimit) TooManyRecords (t .start) _ (λ a.
       cond-gives P (eqb (u .sort) comma) _ _
@@ -344,7 +343,7 @@ module _ (s : List ℕ) where
       (λ e. cond-gives P (eqb (t .sort) integer || eqb (t .sort) bar) _ _
       (λ f. then-gives P (RangesGiven s itemLimit undecided n [] from) (ranges s itemLimit undecided n [] from) _ (ranges-gives itemLimit undecided n [] from unasked) (λ l p x. got-gives P (rangeLeaf l) p (items x)))
       (λ f. cond-gives P (eqb (t .sort) string) _ _
-      (λ g. then-gives P (StringsGiven s itemLimit n pool [] from) (strings s itemLimit n pool [] from) _ (strings-gives itemLimit n pool [] from) (λ l p x. got-gives P (Constraints.strings l) p (texts x)))
+      (λ g. then-gives P (StringsGiven s itemLimit n [] from) (strings s itemLimit n [] from) _ (strings-gives itemLimit n [] from) (λ l p x. got-gives P (Constraints.strings l) p (texts x)))
       (λ g. cond-gives P (within 31 35 (t .sort)) _ _
       (λ h. unless-gives P (eqb n recordLimit) TooManyRecords (t .start) _ (λ a.
       let x : 31 ≤ t .sort = leb-true _ _ (and-left (leb 31 (t .sort)) (leb (t .sort) 35) h) in
@@ -357,14 +356,14 @@ module _ (s : List ℕ) where
       got-gives P (timePattern n (t .sort - 40)) (t .end) (LeafGrammar.aTimePattern (eqb-false _ _ a) (omega arith) (omega arith) (next (omega arith)))))
       (λ i. refuse-gives P (syntaxCause t) (t .start))))))
     where
-      by-kind : (k : ℕ) (l : List Range) (p : ℕ) → Kind k → DerivesItems s k n from l p → length l ≤ itemLimit → Apart [] l → DerivesLeaf s n pool from (rangeLeaf (record { kind = k; items = l })) p
+      by-kind : (k : ℕ) (l : List Range) (p : ℕ) → Kind k → DerivesItems s k n from l p → length l ≤ itemLimit → Apart [] l → DerivesLeaf s n from (rangeLeaf (record { kind = k; items = l })) p
       by-kind k l p isInteger d a b = LeafGrammar.integerItems d a b
       by-kind k l p isDate d a b = LeafGrammar.dateItems d a b
 
-      items : {l : Ranges} {p : ℕ} → RangesGiven s itemLimit undecided n [] from l p → DerivesLeaf s n pool from (rangeLeaf l) p
+      items : {l : Ranges} {p : ℕ} → RangesGiven s itemLimit undecided n [] from l p → DerivesLeaf s n from (rangeLeaf l) p
       items {l} {p} (rangesGiven j d a b) = by-kind (l .kind) (l .items) p (suits-kind j) d a b
 
-      texts : {l : List Text} {p : ℕ} → StringsGiven s itemLimit n pool [] from l p → DerivesLeaf s n pool from (Constraints.strings l) p
+      texts : {l : List Text} {p : ℕ} → StringsGiven s itemLimit n [] from l p → DerivesLeaf s n from (Constraints.strings l) p
       texts (stringsGiven d a b) = LeafGrammar.stringItems d a b
 
 -- the other way round: what is derived is read
@@ -557,38 +556,36 @@ string-got : {s : List ℕ} {from : ℕ} (t : Token) → Next s from string t �
 unfolding startString
 string-got {s} t n l = rw (expect-got n, le-ltb stringLimit (length (inner s t)) l)
 
-last-string : (s : List ℕ) (left n pool : ℕ) (seen : List (List ℕ)) (from : ℕ) (t z : Token)
+last-string : (s : List ℕ) (left n : ℕ) (seen : List (List ℕ)) (from : ℕ) (t z : Token)
     → startString s from ≡ got t (t .end)
     → n ≢ recordLimit
     → ¬ List·Memᴰ (inner s t) seen
-    → pool + length (inner s t) ≤ poolLimit
     → Next s (t .end) closeBrace z
-    → strings s (suc left) n pool seen from ≡ got (record { number = n; text = inner s t } ∷ []) (t .end)
+    → strings s (suc left) n seen from ≡ got (record { number = n; text = inner s t } ∷ []) (t .end)
 unfolding strings
-last-string s left n pool seen from t z a b c d (next e) = rw (a, ne-eqb n recordLimit b, not-listed (inner s t) seen c, le-ltb poolLimit (pool + length (inner s t)) d, other e comma)
+last-string s left n seen from t z a b c (next e) = rw (a, ne-eqb n recordLimit b, not-listed (inner s t) seen c, other e comma)
 
-more-strings : (s : List ℕ) (left n pool : ℕ) (seen : List (List ℕ)) (from p : ℕ) (t m : Token) (l : List Text)
+more-strings : (s : List ℕ) (left n : ℕ) (seen : List (List ℕ)) (from p : ℕ) (t m : Token) (l : List Text)
     → startString s from ≡ got t (t .end)
     → n ≢ recordLimit
     → ¬ List·Memᴰ (inner s t) seen
-    → pool + length (inner s t) ≤ poolLimit
     → Next s (t .end) comma m
-    → strings s left (n + 1) (pool + length (inner s t)) (inner s t ∷ seen) (m .end) ≡ got l p
-    → strings s (suc left) n pool seen from ≡ got (record { number = n; text = inner s t } ∷ l) p
+    → strings s left (n + 1) (inner s t ∷ seen) (m .end) ≡ got l p
+    → strings s (suc left) n seen from ≡ got (record { number = n; text = inner s t } ∷ l) p
 unfolding strings
-more-strings s left n pool seen from p t m l a b c d (next e) h = rw (a, ne-eqb n recordLimit b, not-listed (inner s t) seen c, le-ltb poolLimit (pool + length (inner s t)) d, other e comma, h)
+more-strings s left n seen from p t m l a b c (next e) h = rw (a, ne-eqb n recordLimit b, not-listed (inner s t) seen c, other e comma, h)
 
-strings-got : {s : List ℕ} {n pool from p : ℕ} {l : List Text} → DerivesStrings s n pool from l p → (left : ℕ) (seen : List (List ℕ)) (z : Token)
+strings-got : {s : List ℕ} {n from p : ℕ} {l : List Text} → DerivesStrings s n from l p → (left : ℕ) (seen : List (List ℕ)) (z : Token)
     → length l ≤ left
     → Distinct seen (textsOf l)
     → Next s p closeBrace z
-    → strings s left n pool seen from ≡ got l p
+    → strings s left n seen from ≡ got l p
 unfolding textsOf
-strings-got (lastString m c d e) zero seen z a b w = absurd (omega arith)
-strings-got {s} {n} {pool} {from} (lastString {t = t} m c d e) (suc left) seen z a b w = last-string s left n pool seen from t z (string-got t m c) d (head-new b) e w
-strings-got (moreStrings m c d e f ds) zero seen z a b w = absurd (omega arith)
-strings-got {s} {n} {pool} {from} {p} (moreStrings {t = t} {c = u} {l = l} m c d e f ds) (suc left) seen z a b w =
-    more-strings s left n pool seen from p t u l (string-got t m c) d (head-new b) e f (strings-got ds left (inner s t ∷ seen) z (omega arith) (tail-new b) w)
+strings-got (lastString m c d) zero seen z a b w = absurd (omega arith)
+strings-got {s} {n} {from} (lastString {t = t} m c d) (suc left) seen z a b w = last-string s left n seen from t z (string-got t m c) d (head-new b) w
+strings-got (moreStrings m c d f ds) zero seen z a b w = absurd (omega arith)
+strings-got {s} {n} {from} {p} (moreStrings {t = t} {c = u} {l = l} m c d f ds) (suc left) seen z a b w =
+    more-strings s left n seen from p t u l (string-got t m c) d (head-new b) f (strings-got ds left (inner s t ∷ seen) z (omega arith) (tail-new b) w)
 
 -- the token with which a leaf of each sort starts
 item-starts : {s : List ℕ} {k from p : ℕ} {x : Pair} → DerivesItem s k from x p → (eqb (tokenAt s from .sort) integer || eqb (tokenAt s from .sort) bar) ≡ true
@@ -605,40 +602,40 @@ items-other a h =
     (λ e. let f = eqb-true a integer e in rw (other f trueWord, other f falseWord))
     (λ e. let f = eqb-true a bar e in rw (other f trueWord, other f falseWord))
 
-strings-start : {s : List ℕ} {n pool from p : ℕ} {l : List Text} → DerivesStrings s n pool from l p → tokenAt s from .sort ≡ string
-strings-start (lastString (next e) c d f) = e
-strings-start (moreStrings (next e) c d f g ds) = e
+strings-start : {s : List ℕ} {n from p : ℕ} {l : List Text} → DerivesStrings s n from l p → tokenAt s from .sort ≡ string
+strings-start (lastString (next e) c d) = e
+strings-start (moreStrings (next e) c d g ds) = e
 
-items-leaf : (s : List ℕ) (n pool from k : ℕ) (l : List Range) (p : ℕ) (z : Token) → Kind k → DerivesItems s k n from l p → length l ≤ itemLimit → Apart [] l → Next s p closeBrace z
-    → leaf s n pool from ≡ got (rangeLeaf (record { kind = k; items = l })) p
+items-leaf : (s : List ℕ) (n from k : ℕ) (l : List Range) (p : ℕ) (z : Token) → Kind k → DerivesItems s k n from l p → length l ≤ itemLimit → Apart [] l → Next s p closeBrace z
+    → leaf s n from ≡ got (rangeLeaf (record { kind = k; items = l })) p
 unfolding leaf
-items-leaf s n pool from k l p z q d a b w =
+items-leaf s n from k l p z q d a b w =
     let e = items-start d in
     rw (items-other (tokenAt s from .sort) e, e, ranges-got d itemLimit undecided [] z (newly q) a b w)
 
-strings-leaf : (s : List ℕ) (n pool from : ℕ) (l : List Text) (p : ℕ) (z : Token) → DerivesStrings s n pool from l p → length l ≤ itemLimit → Distinct [] (textsOf l) → Next s p closeBrace z
-    → leaf s n pool from ≡ got (Constraints.strings l) p
+strings-leaf : (s : List ℕ) (n from : ℕ) (l : List Text) (p : ℕ) (z : Token) → DerivesStrings s n from l p → length l ≤ itemLimit → Distinct [] (textsOf l) → Next s p closeBrace z
+    → leaf s n from ≡ got (Constraints.strings l) p
 unfolding leaf
-strings-leaf s n pool from l p z d a b w =
+strings-leaf s n from l p z d a b w =
     let e = strings-start d in
     rw (other e trueWord, other e falseWord, other e integer, other e bar, other e string, strings-got d itemLimit [] z a b w)
 
-one-boolean : (s : List ℕ) (n pool from b : ℕ) (t z : Token) → n ≢ recordLimit → Boolean s from b t → Next s (t .end) closeBrace z → leaf s n pool from ≡ got (booleans n b) (t .end)
+one-boolean : (s : List ℕ) (n from b : ℕ) (t z : Token) → n ≢ recordLimit → Boolean s from b t → Next s (t .end) closeBrace z → leaf s n from ≡ got (booleans n b) (t .end)
 unfolding leaf booleanList
-one-boolean s n pool from b t z a (aTrue (next e)) (next f) = rw (other e trueWord, ne-eqb n recordLimit a, other f comma)
-one-boolean s n pool from b t z a (aFalse (next e)) (next f) = rw (other e trueWord, other e falseWord, ne-eqb n recordLimit a, other f comma)
+one-boolean s n from b t z a (aTrue (next e)) (next f) = rw (other e trueWord, ne-eqb n recordLimit a, other f comma)
+one-boolean s n from b t z a (aFalse (next e)) (next f) = rw (other e trueWord, other e falseWord, ne-eqb n recordLimit a, other f comma)
 
-two-booleans : (s : List ℕ) (n pool from a b : ℕ) (t c u : Token) → n ≢ recordLimit → Boolean s from a t → Next s (t .end) comma c → Boolean s (c .end) b u → b ≢ a
-    → leaf s n pool from ≡ got (booleans n 3) (u .end)
+two-booleans : (s : List ℕ) (n from a b : ℕ) (t c u : Token) → n ≢ recordLimit → Boolean s from a t → Next s (t .end) comma c → Boolean s (c .end) b u → b ≢ a
+    → leaf s n from ≡ got (booleans n 3) (u .end)
 unfolding leaf booleanList secondBoolean
-two-booleans s n pool from a b t c u d (aTrue (next e)) (next f) (aTrue (next g)) h = absurd (h refl)
-two-booleans s n pool from a b t c u d (aTrue (next e)) (next f) (aFalse (next g)) h = rw (other e trueWord, ne-eqb n recordLimit d, other f comma, other g trueWord, other g falseWord)
-two-booleans s n pool from a b t c u d (aFalse (next e)) (next f) (aTrue (next g)) h = rw (other e trueWord, other e falseWord, ne-eqb n recordLimit d, other f comma, other g trueWord)
-two-booleans s n pool from a b t c u d (aFalse (next e)) (next f) (aFalse (next g)) h = absurd (h refl)
+two-booleans s n from a b t c u d (aTrue (next e)) (next f) (aTrue (next g)) h = absurd (h refl)
+two-booleans s n from a b t c u d (aTrue (next e)) (next f) (aFalse (next g)) h = rw (other e trueWord, ne-eqb n recordLimit d, other f comma, other g trueWord, other g falseWord)
+two-booleans s n from a b t c u d (aFalse (next e)) (next f) (aTrue (next g)) h = rw (other e trueWord, other e falseWord, ne-eqb n recordLimit d, other f comma, other g trueWord)
+two-booleans s n from a b t c u d (aFalse (next e)) (next f) (aFalse (next g)) h = absurd (h refl)
 
 -- a pattern's token is of no other sort
-module _ (s : List ℕ) (n pool from : ℕ) (r : n ≢ recordLimit) where
-  date-leaf : (f : ℕ) → 1 ≤ f → f ≤ 5 → tokenAt s from .sort ≡ 30 + f → leaf s n pool from ≡ got (datePattern n f) (tokenAt s from .end)
+module _ (s : List ℕ) (n from : ℕ) (r : n ≢ recordLimit) where
+  date-leaf : (f : ℕ) → 1 ≤ f → f ≤ 5 → tokenAt s from .sort ≡ 30 + f → leaf s n from ≡ got (datePattern n f) (tokenAt s from .end)
   unfolding leaf
   date-leaf f a b e =
       let k = tokenAt s from .sort in
@@ -655,7 +652,7 @@ module _ (s : List ℕ) (n pool from : ℕ) (r : n ≢ recordLimit) where
         v,
       )
 
-  time-leaf : (f : ℕ) → 1 ≤ f → f ≤ 4 → tokenAt s from .sort ≡ 40 + f → leaf s n pool from ≡ got (timePattern n f) (tokenAt s from .end)
+  time-leaf : (f : ℕ) → 1 ≤ f → f ≤ 4 → tokenAt s from .sort ≡ 40 + f → leaf s n from ≡ got (timePattern n f) (tokenAt s from .end)
   unfolding leaf
   time-leaf f a b e =
       let k = tokenAt s from .sort in
@@ -675,15 +672,15 @@ module _ (s : List ℕ) (n pool from : ℕ) (r : n ≢ recordLimit) where
       )
 
 -- a leaf that is derived before a `}` is read
-pub leaf-got : (s : List ℕ) (n pool from : ℕ) (l : Leaf) (p : ℕ) (z : Token) → DerivesLeaf s n pool from l p → Next s p closeBrace z → leaf s n pool from ≡ got l p
-leaf-got s n pool from l p z (LeafGrammar.oneBoolean {b = b} {t = t} a x) w = one-boolean s n pool from b t z a x w
-leaf-got s n pool from l p z (LeafGrammar.twoBooleans {a = a} {b = b} {t = t} {c = c} {u = u} d x m y h) w = two-booleans s n pool from a b t c u d x m y h
-leaf-got s n pool from l p z (LeafGrammar.integerItems {l = x} d a b) w = items-leaf s n pool from integer x p z isInteger d a b w
-leaf-got s n pool from l p z (LeafGrammar.dateItems {l = x} d a b) w = items-leaf s n pool from date x p z isDate d a b w
-leaf-got s n pool from l p z (LeafGrammar.stringItems {l = x} d a b) w = strings-leaf s n pool from x p z d a b w
-leaf-got s n pool from l p z (LeafGrammar.aDatePattern {f = f} r a b (next e)) w = date-leaf s n pool from r f a b e
-leaf-got s n pool from l p z (LeafGrammar.aTimePattern {f = f} r a b (next e)) w = time-leaf s n pool from r f a b e
+pub leaf-got : (s : List ℕ) (n from : ℕ) (l : Leaf) (p : ℕ) (z : Token) → DerivesLeaf s n from l p → Next s p closeBrace z → leaf s n from ≡ got l p
+leaf-got s n from l p z (LeafGrammar.oneBoolean {b = b} {t = t} a x) w = one-boolean s n from b t z a x w
+leaf-got s n from l p z (LeafGrammar.twoBooleans {a = a} {b = b} {t = t} {c = c} {u = u} d x m y h) w = two-booleans s n from a b t c u d x m y h
+leaf-got s n from l p z (LeafGrammar.integerItems {l = x} d a b) w = items-leaf s n from integer x p z isInteger d a b w
+leaf-got s n from l p z (LeafGrammar.dateItems {l = x} d a b) w = items-leaf s n from date x p z isDate d a b w
+leaf-got s n from l p z (LeafGrammar.stringItems {l = x} d a b) w = strings-leaf s n from x p z d a b w
+leaf-got s n from l p z (LeafGrammar.aDatePattern {f = f} r a b (next e)) w = date-leaf s n from r f a b e
+leaf-got s n from l p z (LeafGrammar.aTimePattern {f = f} r a b (next e)) w = time-leaf s n from r f a b e
 
 -- a leaf that is read is derived
-pub leaf-derives : (s : List ℕ) (n pool from : ℕ) (l : Leaf) (p : ℕ) → leaf s n pool from ≡ got l p → DerivesLeaf s n pool from l p
-leaf-derives s n pool from l p e = given (DerivesLeaf s n pool from) (leaf s n pool from) l p (leaf-gives s n pool from) e
+pub leaf-derives : (s : List ℕ) (n from : ℕ) (l : Leaf) (p : ℕ) → leaf s n from ≡ got l p → DerivesLeaf s n from l p
+leaf-derives s n from l p e = given (DerivesLeaf s n from) (leaf s n from) l p (leaf-gives s n from) e

@@ -22,7 +22,7 @@ use Rattle.refusals.specs.declared.Cause.the-variants.{TextTooLong}
 use Rattle.refusals.specs.Steps.{expect}
 use Rattle.refusals.proofs.Readings.{Holds}
 use Rattle.meaning.specs.Constraints.{Object}
-use Rattle.constraint.specs.Objects.{count, objectFrom}
+use Rattle.constraint.specs.Objects.{objectFrom}
 use Rattle.constraint.specs.Texts.{constraintOf}
 use Rattle.constraint.proofs.TreeReading.{ObjectRead, object-holds}
 use Rattle.grammar.specs.LeafGrammar.{next}
@@ -70,7 +70,7 @@ token-at-end s at =
 
 whole-gives : (s : List ℕ) → Gives (λ (o : Object) p. p ≡ length s) (constraintOf s)
 unfolding constraintOf Holds tokenAt
-whole-gives s = unless-gives P (ltb textLimit (length s)) TextTooLong textLimit _ (λ l. by-object (objectFrom s levelLimit (count 1 0) 0) refl)
+whole-gives s = unless-gives P (ltb textLimit (length s)) TextTooLong textLimit _ (λ l. by-object (objectFrom s levelLimit 1 0) refl)
   where
     P : Object → ℕ → Type 0
     P o p = p ≡ length s
@@ -81,10 +81,10 @@ whole-gives s = unless-gives P (ltb textLimit (length s)) TextTooLong textLimit 
         let b : tokenAt s p .end ≤ length s = token-found s p h .inside in
         omega arith
 
-    by-object : (r : Reading Object) → objectFrom s levelLimit (count 1 0) 0 ≡ r → Gives P (andThen r (λ o p. andThen (expect s textEnd p) (λ t q. got o q)))
+    by-object : (r : Reading Object) → objectFrom s levelLimit 1 0 ≡ r → Gives P (andThen r (λ o p. andThen (expect s textEnd p) (λ t q. got o q)))
     by-object (refused x) e = refuse-gives P (x .cause) (x .place)
     by-object (got o p) e =
-        let r : ObjectRead s 1 0 o p = rw e at (object-holds s levelLimit (count 1 0) 0 (omega arith)) in
+        let r : ObjectRead s 1 0 o p = rw e at (object-holds s levelLimit 1 0 (omega arith)) in
         then-gives P (Took s textEnd p) (expect s textEnd p) _ (expect-gives s textEnd p) (λ t q y. got-gives P o q (ends y (r .most)))
 
 -- a text that is read is read up to its end

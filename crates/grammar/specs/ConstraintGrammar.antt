@@ -1,7 +1,7 @@
 -- The grammar of constraint text, as productions. Document 01, 'Constraint text': "ASCII, at most 16,384 bytes"; "object: TYPE, optional [code], `matches {`, then `*` or one or more
 -- attributes, `}`. The text is one object"; "attribute: NAME, optional `existence matches {` `0`, `1`, `0..0`, `0..1` or `1..1` `}`, `matches {`, then `*`, one object or one leaf, `}`.
--- `0` is 0..0, `1` is 1..1; no existence means 1..1"; 'Table', lengths of types, names and codes, and "Compiling numbers records and fills the pool in text order"; 'Numbers of refusal':
--- no 17th level, no record 2,048, no attribute named twice, no pool above 16,384. Tokens are those of lexis. Assumes nothing.
+-- `0` is 0..0, `1` is 1..1; no existence means 1..1"; 'Table', lengths of types, names and codes, and "Compiling numbers records .. in text order"; 'Numbers of refusal':
+-- no 17th level, no record 2,048, no attribute named twice. Tokens are those of lexis. Assumes nothing.
 use mathlib.Core.Path.{_≡_}
 use mathlib.Core.Logic.{_≢_}
 use mathlib.Core.List.{List, [], _∷_}
@@ -11,10 +11,9 @@ use Rattle.lexis.specs.Text.{bytes}
 use Rattle.lexis.specs.Spelling.{matches, existence, openBrace, closeBrace, dots, star}
 use Rattle.lexis.specs.Tokens.{textEnd, typeName, name, code, integer, spelling, inner}
 use Rattle.lexis.specs.declared.Token.{Token}
-use Rattle.refusals.specs.Limits.{textLimit, levelLimit, recordLimit, poolLimit, nameLimit, codeLimit}
+use Rattle.refusals.specs.Limits.{textLimit, levelLimit, recordLimit, nameLimit, codeLimit}
 use Rattle.meaning.specs.Constraints.{Object, object, Attributes, noMore, attribute, Value, any, nested, leaf, Leaf, prohibited, optional, required}
-use Rattle.meaning.specs.Counting.{valueRecords, valuePool}
-use Rattle.constraint.specs.Objects.{Count, count}
+use Rattle.meaning.specs.Counting.{valueRecords}
 use Rattle.grammar.specs.DataGrammar.{Distinct}
 use Rattle.grammar.specs.LeafGrammar.{Next, DerivesLeaf}
 
@@ -40,9 +39,9 @@ pub data DerivesExistence (s : List ℕ) (from : ℕ) : ℕ → ℕ → Type 0 w
   written : {e p : ℕ} {x b z : Token} → Next s from existence x → Opens s (x .end) b → DerivesBounds s (b .end) e p → Next s p closeBrace z → DerivesExistence s from e (z .end)
 
 -- a code without its brackets, empty where there is none
-pub data DerivesCode (s : List ℕ) (pool from : ℕ) : List ℕ → ℕ → Type 0 where
-  uncoded : DerivesCode s pool from [] from
-  coded : {t : Token} → Next s from code t → length (inner s t) ≤ codeLimit → pool + length (inner s t) ≤ poolLimit → DerivesCode s pool from (inner s t) (t .end)
+pub data DerivesCode (s : List ℕ) (from : ℕ) : List ℕ → ℕ → Type 0 where
+  uncoded : DerivesCode s from [] from
+  coded : {t : Token} → Next s from code t → length (inner s t) ≤ codeLimit → DerivesCode s from (inner s t) (t .end)
 
 -- the names of attributes
 unfoldable pub attributeNames : Attributes → List (List ℕ)
@@ -63,61 +62,58 @@ unfoldable mutual
   valueLevels (nested o) = objectLevels o
   valueLevels (leaf l) = 0
 
--- the next record's number and the bytes in the pool: behind a TYPE or a NAME, and behind an attribute
-abbrev pub behindName : Count → List ℕ → Count
-behindName c w = count (c .next + 1) (c .pool + length w)
+-- the next record's number behind an attribute
+abbrev pub behindAttribute : ℕ → Value → ℕ
+behindAttribute n v = n + 1 + valueRecords v
 
-abbrev pub behindAttribute : Count → List ℕ → Value → Count
-behindAttribute c w v = count (c .next + 1 + valueRecords v) (c .pool + length w + length (valuePool v))
-
--- a TYPE or a NAME for which there is room: it is not too long, its record is not number 2,048, and the pool takes its bytes
-pub record Fits (c : Count) (w : List ℕ) : Type 0 where
+-- a TYPE or a NAME for which there is room: it is not too long, and its record, whose number is given, is not number 2,048
+pub record Fits (n : ℕ) (w : List ℕ) : Type 0 where
   pub short : length w ≤ nameLimit
-  pub room : c .next ≢ recordLimit
-  pub pool : c .pool + length w ≤ poolLimit
+  pub room : n ≢ recordLimit
 
+-- of each the first number is that of the next record, the second the place from which it is read
 mutual
   -- TYPE, optional code, `matches {`, body; no attribute is named twice
-  pub data DerivesObject (s : List ℕ) : Count → ℕ → Object → ℕ → Type 0 where
-    anObject : {c : Count} {from p q : ℕ} {t b : Token} {k : List ℕ} {xs : Attributes}
+  pub data DerivesObject (s : List ℕ) : ℕ → ℕ → Object → ℕ → Type 0 where
+    anObject : {n from p q : ℕ} {t b : Token} {k : List ℕ} {xs : Attributes}
         → Next s from typeName t
-        → Fits c (spelling s t)
-        → DerivesCode s (c .pool + length (spelling s t)) (t .end) k p
+        → Fits n (spelling s t)
+        → DerivesCode s (t .end) k p
         → Opens s p b
-        → DerivesBody s (count (c .next + 1) (c .pool + length (spelling s t) + length k)) (b .end) xs q
+        → DerivesBody s (n + 1) (b .end) xs q
         → Distinct [] (attributeNames xs)
-        → DerivesObject s c from (object (c .next) (spelling s t) k xs) q
+        → DerivesObject s n from (object n (spelling s t) k xs) q
 
   -- `*` or one or more attributes, and `}`
-  pub data DerivesBody (s : List ℕ) : Count → ℕ → Attributes → ℕ → Type 0 where
-    anyMembers : {c : Count} {from : ℕ} {t z : Token} → Next s from star t → Next s (t .end) closeBrace z → DerivesBody s c from noMore (z .end)
-    members : {c : Count} {from p : ℕ} {z : Token} {xs : Attributes} → DerivesAttributes s c from xs p → Next s p closeBrace z → DerivesBody s c from xs (z .end)
+  pub data DerivesBody (s : List ℕ) : ℕ → ℕ → Attributes → ℕ → Type 0 where
+    anyMembers : {n from : ℕ} {t z : Token} → Next s from star t → Next s (t .end) closeBrace z → DerivesBody s n from noMore (z .end)
+    members : {n from p : ℕ} {z : Token} {xs : Attributes} → DerivesAttributes s n from xs p → Next s p closeBrace z → DerivesBody s n from xs (z .end)
 
   -- one attribute or more
-  pub data DerivesAttributes (s : List ℕ) : Count → ℕ → Attributes → ℕ → Type 0 where
-    lastOne : {c : Count} {from e p : ℕ} {w : List ℕ} {v : Value} → DerivesAttribute s c from e w v p → DerivesAttributes s c from (attribute (c .next) e w v noMore) p
-    oneMore : {c : Count} {from e p q : ℕ} {w : List ℕ} {v : Value} {xs : Attributes}
-        → DerivesAttribute s c from e w v p
-        → DerivesAttributes s (behindAttribute c w v) p xs q
-        → DerivesAttributes s c from (attribute (c .next) e w v xs) q
+  pub data DerivesAttributes (s : List ℕ) : ℕ → ℕ → Attributes → ℕ → Type 0 where
+    lastOne : {n from e p : ℕ} {w : List ℕ} {v : Value} → DerivesAttribute s n from e w v p → DerivesAttributes s n from (attribute n e w v noMore) p
+    oneMore : {n from e p q : ℕ} {w : List ℕ} {v : Value} {xs : Attributes}
+        → DerivesAttribute s n from e w v p
+        → DerivesAttributes s (behindAttribute n v) p xs q
+        → DerivesAttributes s n from (attribute n e w v xs) q
 
   -- NAME, existence, `matches {`, value, `}`
-  pub data DerivesAttribute (s : List ℕ) : Count → ℕ → ℕ → List ℕ → Value → ℕ → Type 0 where
-    anAttribute : {c : Count} {from e p q : ℕ} {t b z : Token} {v : Value}
+  pub data DerivesAttribute (s : List ℕ) : ℕ → ℕ → ℕ → List ℕ → Value → ℕ → Type 0 where
+    anAttribute : {n from e p q : ℕ} {t b z : Token} {v : Value}
         → Next s from name t
-        → Fits c (spelling s t)
+        → Fits n (spelling s t)
         → DerivesExistence s (t .end) e p
         → Opens s p b
-        → DerivesValue s (behindName c (spelling s t)) (b .end) v q
+        → DerivesValue s (n + 1) (b .end) v q
         → Next s q closeBrace z
-        → DerivesAttribute s c from e (spelling s t) v (z .end)
+        → DerivesAttribute s n from e (spelling s t) v (z .end)
 
   -- `*`, one object or one leaf
-  pub data DerivesValue (s : List ℕ) : Count → ℕ → Value → ℕ → Type 0 where
-    anything : {c : Count} {from : ℕ} {t : Token} → Next s from star t → DerivesValue s c from any (t .end)
-    oneObject : {c : Count} {from p : ℕ} {o : Object} → DerivesObject s c from o p → DerivesValue s c from (nested o) p
-    oneLeaf : {c : Count} {from p : ℕ} {l : Leaf} → DerivesLeaf s (c .next) (c .pool) from l p → DerivesValue s c from (leaf l) p
+  pub data DerivesValue (s : List ℕ) : ℕ → ℕ → Value → ℕ → Type 0 where
+    anything : {n from : ℕ} {t : Token} → Next s from star t → DerivesValue s n from any (t .end)
+    oneObject : {n from p : ℕ} {o : Object} → DerivesObject s n from o p → DerivesValue s n from (nested o) p
+    oneLeaf : {n from p : ℕ} {l : Leaf} → DerivesLeaf s n from l p → DerivesValue s n from (leaf l) p
 
 -- a constraint text: one object of at most 16 levels, whose record is number 1, and the text's end behind it
 pub data DerivesConstraint (s : List ℕ) : Object → Type 0 where
-  wholeText : {o : Object} {p : ℕ} {e : Token} → length s ≤ textLimit → DerivesObject s (count 1 0) 0 o p → Next s p textEnd e → objectLevels o ≤ levelLimit → DerivesConstraint s o
+  wholeText : {o : Object} {p : ℕ} {e : Token} → length s ≤ textLimit → DerivesObject s 1 0 o p → Next s p textEnd e → objectLevels o ≤ levelLimit → DerivesConstraint s o

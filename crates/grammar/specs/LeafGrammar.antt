@@ -1,7 +1,7 @@
 -- The grammar of leaves, as productions. Document 01, 'Constraint text': "leaf: Booleans by comma (one or two); or items by comma, all integer, all string or all date interval; or one
 -- pattern. An integer item is a value or an interval: `|a|`, `|a..b|`, `|a..<b|`, `|>a..b|`, `|>a..<b|`, `|a+/-d|`, `|<a|`, `|>a|`, `|<=a|`, `|>=a|`. Date items are intervals only, the
 -- same without `+/-`. Date patterns .. Time patterns .."; "Intervals become closed pairs; an open end moves by one (one calendar day for dates); a missing end is the range's end";
--- 'Numbers of refusal': no `+/-` result outside, no empty interval, no 17th item, no record 2,048, no overlapping or equal item, no string too long, no pool above 16,384.
+-- 'Numbers of refusal': no `+/-` result outside, no empty interval, no 17th item, no record 2,048, no overlapping or equal item, no string too long.
 -- Assumes nothing.
 use mathlib.Core.Path.{_≡_}
 use mathlib.Core.Logic.{_≢_}
@@ -15,7 +15,7 @@ use Rattle.lexis.specs.Spelling
 use Rattle.lexis.specs.Tokens.{tokenAt, integer, date, string, spelling, inner}
 use Rattle.lexis.specs.declared.Token.{Token}
 use Rattle.values.specs.Integers.{Pair, pair, inside, around}
-use Rattle.refusals.specs.Limits.{recordLimit, poolLimit, stringLimit, itemLimit}
+use Rattle.refusals.specs.Limits.{recordLimit, stringLimit, itemLimit}
 use Rattle.meaning.specs.Constraints.{Range, Text, Leaf, booleans, integers, dates, datePattern, timePattern}
 use Rattle.meaning.specs.Constraints
 use Rattle.intervals.specs.Intervals.{Ends, ends, least, most, after, valueOf, empty, closed}
@@ -90,22 +90,20 @@ pub data Apart : List Pair → List Range → Type 0 where
   noItem : {before : List Pair} → Apart before []
   newItem : {before : List Pair} {n : ℕ} {x : Pair} {l : List Range} → ((y : Pair) → List·Memᴰ y before → ¬ Meet x y) → Apart (x ∷ before) l → Apart before (range n x ∷ l)
 
--- one string or more by comma, each with a record of its own and its bytes in the pool
-pub data DerivesStrings (s : List ℕ) : ℕ → ℕ → ℕ → List Text → ℕ → Type 0 where
-  lastString : {n pool from : ℕ} {t : Token}
+-- one string or more by comma, each with a record of its own
+pub data DerivesStrings (s : List ℕ) : ℕ → ℕ → List Text → ℕ → Type 0 where
+  lastString : {n from : ℕ} {t : Token}
       → Next s from string t
       → length (inner s t) ≤ stringLimit
       → n ≢ recordLimit
-      → pool + length (inner s t) ≤ poolLimit
-      → DerivesStrings s n pool from (record { number = n; text = inner s t } ∷ []) (t .end)
-  moreStrings : {n pool from p : ℕ} {t c : Token} {l : List Text}
+      → DerivesStrings s n from (record { number = n; text = inner s t } ∷ []) (t .end)
+  moreStrings : {n from p : ℕ} {t c : Token} {l : List Text}
       → Next s from string t
       → length (inner s t) ≤ stringLimit
       → n ≢ recordLimit
-      → pool + length (inner s t) ≤ poolLimit
       → Next s (t .end) comma c
-      → DerivesStrings s (n + 1) (pool + length (inner s t)) (c .end) l p
-      → DerivesStrings s n pool from (record { number = n; text = inner s t } ∷ l) p
+      → DerivesStrings s (n + 1) (c .end) l p
+      → DerivesStrings s n from (record { number = n; text = inner s t } ∷ l) p
 
 unfoldable pub textsOf : List Text → List (List ℕ)
 textsOf [] = []
@@ -116,12 +114,12 @@ pub data Boolean (s : List ℕ) (from : ℕ) : ℕ → Token → Type 0 where
   aTrue : {t : Token} → Next s from trueWord t → Boolean s from 1 t
   aFalse : {t : Token} → Next s from falseWord t → Boolean s from 2 t
 
--- a leaf, given the next record's number and the bytes in the pool
-pub data DerivesLeaf (s : List ℕ) (n pool from : ℕ) : Leaf → ℕ → Type 0 where
-  oneBoolean : {b : ℕ} {t : Token} → n ≢ recordLimit → Boolean s from b t → DerivesLeaf s n pool from (booleans n b) (t .end)
-  twoBooleans : {a b : ℕ} {t c u : Token} → n ≢ recordLimit → Boolean s from a t → Next s (t .end) comma c → Boolean s (c .end) b u → b ≢ a → DerivesLeaf s n pool from (booleans n 3) (u .end)
-  integerItems : {l : List Range} {p : ℕ} → DerivesItems s integer n from l p → length l ≤ itemLimit → Apart [] l → DerivesLeaf s n pool from (integers l) p
-  dateItems : {l : List Range} {p : ℕ} → DerivesItems s date n from l p → length l ≤ itemLimit → Apart [] l → DerivesLeaf s n pool from (dates l) p
-  stringItems : {l : List Text} {p : ℕ} → DerivesStrings s n pool from l p → length l ≤ itemLimit → Distinct [] (textsOf l) → DerivesLeaf s n pool from (Constraints.strings l) p
-  aDatePattern : {f : ℕ} {t : Token} → n ≢ recordLimit → 1 ≤ f → f ≤ 5 → Next s from (Spelling.datePattern + f) t → DerivesLeaf s n pool from (datePattern n f) (t .end)
-  aTimePattern : {f : ℕ} {t : Token} → n ≢ recordLimit → 1 ≤ f → f ≤ 4 → Next s from (Spelling.timePattern + f) t → DerivesLeaf s n pool from (timePattern n f) (t .end)
+-- a leaf, given the next record's number
+pub data DerivesLeaf (s : List ℕ) (n from : ℕ) : Leaf → ℕ → Type 0 where
+  oneBoolean : {b : ℕ} {t : Token} → n ≢ recordLimit → Boolean s from b t → DerivesLeaf s n from (booleans n b) (t .end)
+  twoBooleans : {a b : ℕ} {t c u : Token} → n ≢ recordLimit → Boolean s from a t → Next s (t .end) comma c → Boolean s (c .end) b u → b ≢ a → DerivesLeaf s n from (booleans n 3) (u .end)
+  integerItems : {l : List Range} {p : ℕ} → DerivesItems s integer n from l p → length l ≤ itemLimit → Apart [] l → DerivesLeaf s n from (integers l) p
+  dateItems : {l : List Range} {p : ℕ} → DerivesItems s date n from l p → length l ≤ itemLimit → Apart [] l → DerivesLeaf s n from (dates l) p
+  stringItems : {l : List Text} {p : ℕ} → DerivesStrings s n from l p → length l ≤ itemLimit → Distinct [] (textsOf l) → DerivesLeaf s n from (Constraints.strings l) p
+  aDatePattern : {f : ℕ} {t : Token} → n ≢ recordLimit → 1 ≤ f → f ≤ 5 → Next s from (Spelling.datePattern + f) t → DerivesLeaf s n from (datePattern n f) (t .end)
+  aTimePattern : {f : ℕ} {t : Token} → n ≢ recordLimit → 1 ≤ f → f ≤ 4 → Next s from (Spelling.timePattern + f) t → DerivesLeaf s n from (timePattern n f) (t .end)

@@ -1,4 +1,4 @@
--- Examples of leaves, each with what is read or with its refusal's number and place, given the next record's number and the bytes in the pool. The cases
+-- Examples of leaves, each with what is read or with its refusal's number and place, given the next record's number. The cases
 -- stand in the table. Assumes nothing.
 use mathlib.Core.Bool.{Bool, false, _&&_}
 use mathlib.Core.List.{List}
@@ -11,10 +11,10 @@ use Rattle.meaning.specs.Constraints.{Leaf}
 use Rattle.meaning.proofs.Trees.{leafList}
 use Rattle.items.specs.Leaves.{leaf}
 
--- a text, the next record's number, the bytes in the pool, and what is expected: a leaf and the place behind it, or a refusal
+-- a text, the next record's number, and what is expected: a leaf and the place behind it, or a refusal
 pub data Case : Type 0 where
-  reads : (text : List ℕ) (next pool : ℕ) (tree : Leaf) (place : ℕ) → Case
-  refuses : (text : List ℕ) (next pool number place : ℕ) → Case
+  reads : (text : List ℕ) (next : ℕ) (tree : Leaf) (place : ℕ) → Case
+  refuses : (text : List ℕ) (next number place : ℕ) → Case
 
 abbrev pub isLeaf : Reading Leaf → Leaf → ℕ → Bool
 isLeaf (refused r) l place = false
@@ -25,5 +25,5 @@ isRefusal (refused r) number place = eqb (numberOf (r .cause)) number && eqb (r 
 isRefusal (got x p) number place = false
 
 unfoldable pub right : Case → Bool
-right (reads s next pool l place) = isLeaf (leaf s next pool 0) l place
-right (refuses s next pool number place) = isRefusal (leaf s next pool 0) number place
+right (reads s next l place) = isLeaf (leaf s next 0) l place
+right (refuses s next number place) = isRefusal (leaf s next 0) number place

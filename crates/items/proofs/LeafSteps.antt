@@ -24,7 +24,7 @@ use Rattle.items.specs.Ranges.{Ranges, ranges}
 use Rattle.items.specs.Strings.{strings}
 use Rattle.items.specs.Leaves.{isBoolean, booleanFlag, secondBoolean, booleanList, leaf}
 use Rattle.items.specs.Answers.{rangeAt, textAt, itemsFrom, leafReading, LeafRoom, LeafPast, LeafIs}
-use Rattle.items.specs.Parts.{rangesReading, RangesPast, RangesIs, ListRoom, stringsReading, StringsPast, StringsIs, OneRecord, secondBy, booleansBy, EveryIs, OneIs, roomed, singleLeaf, rangesLeaf, RangeLeafIs, stringLeaf}
+use Rattle.items.specs.Parts.{rangesReading, RangesPast, RangesIs, ListRoom, stringsReading, StringsPast, StringsIs, OneRecord, secondBy, booleansBy, EveryIs, OneIs, roomed, singleLeaf, rangesLeaf, stringLeaf}
 use Rattle.items.specs.declared.ranges.RangesRead.{RangesRead}
 use Rattle.items.specs.declared.ranges.RangesRead.the-variants as rangesRead
 use Rattle.items.specs.declared.strings.StringsRead.{StringsRead}
@@ -129,9 +129,9 @@ module _ (s : List ℕ) (number : ℕ) (t : Token) (b : Bool) (h : b ≡ isBoole
 
 -- a list of integers or of dates
 module _ (s : List ℕ) (number at : ℕ) (scratch : List ℕ) (d : ListRoom s number at) (r : RangesRead) (e : RangesIs s number at scratch r) where
-  pub range-faulty : (x : Refusal) → r ≡ rangesRead.Faulty x → RangeLeafIs s number at scratch (leafRead.Faulty x)
+  pub range-faulty : (x : Refusal) → r ≡ rangesRead.Faulty x → LeafIs s number at (rangesLeaf s number at) scratch (leafRead.Faulty x)
   unfolding rangesLeaf
-  range-faulty x g = let h : ranges s itemLimit undecided number [] at ≡ refused x = sym (e .is) ∙ ap (rangesReading number scratch) g in record { is = rw h; past = λ pool. tt }
+  range-faulty x g = let h : ranges s itemLimit undecided number [] at ≡ refused x = sym (e .is) ∙ ap (rangesReading number scratch) g in record { is = rw h; past = tt }
 
   module _ (kind count p : ℕ) (g : r ≡ rangesRead.Ranges kind count p) where
     listed : ranges s itemLimit undecided number [] at ≡ got (record { kind = kind; items = itemsFrom (rangeAt scratch) number 0 count }) p
@@ -144,80 +144,80 @@ module _ (s : List ℕ) (number at : ℕ) (scratch : List ℕ) (d : ListRoom s n
     few : RangesPast s number (rangesRead.Ranges kind count p)
     few = rw g at (e .past)
 
-    pub range-dates : kind ≡ date → RangeLeafIs s number at scratch (leafRead.Dates count p)
+    pub range-dates : kind ≡ date → LeafIs s number at (rangesLeaf s number at) scratch (leafRead.Dates count p)
     unfolding rangesLeaf
     range-dates k =
         let l = lies in
         let f = few in
-        record { is = rw (listed, eq-eqb kind date k); past = λ pool. record { order = omega arith; inside = l .most; some = f .0; few = f .1; records = f .2 } }
+        record { is = rw (listed, eq-eqb kind date k); past = record { order = omega arith; inside = l .most; some = f .0; few = f .1; records = f .2 } }
 
-    pub range-integers : (kind ≡ date → ⊥) → RangeLeafIs s number at scratch (leafRead.Integers count p)
+    pub range-integers : (kind ≡ date → ⊥) → LeafIs s number at (rangesLeaf s number at) scratch (leafRead.Integers count p)
     unfolding rangesLeaf
     range-integers n =
         let l = lies in
         let f = few in
-        record { is = rw (listed, ne-eqb kind date n); past = λ pool. record { order = omega arith; inside = l .most; some = f .0; few = f .1; records = f .2 } }
+        record { is = rw (listed, ne-eqb kind date n); past = record { order = omega arith; inside = l .most; some = f .0; few = f .1; records = f .2 } }
 
 -- a list of strings
-module _ (s : List ℕ) (number pool at : ℕ) (scratch : List ℕ) (d : LeafRoom s number pool at) (r : StringsRead) (e : StringsIs s number pool at scratch r) where
-  pub strings-faulty : (x : Refusal) → r ≡ stringsRead.Faulty x → LeafIs s number pool at (stringLeaf s number pool at) scratch (leafRead.Faulty x)
+module _ (s : List ℕ) (number at : ℕ) (scratch : List ℕ) (d : LeafRoom s number at) (r : StringsRead) (e : StringsIs s number at scratch r) where
+  pub strings-faulty : (x : Refusal) → r ≡ stringsRead.Faulty x → LeafIs s number at (stringLeaf s number at) scratch (leafRead.Faulty x)
   unfolding stringLeaf
-  strings-faulty x g = let h : strings s itemLimit number pool [] at ≡ refused x = sym (e .is) ∙ ap (stringsReading s number scratch) g in record { is = rw h; past = tt }
+  strings-faulty x g = let h : strings s itemLimit number [] at ≡ refused x = sym (e .is) ∙ ap (stringsReading s number scratch) g in record { is = rw h; past = tt }
 
-  pub strings-there : (count p : ℕ) → r ≡ stringsRead.Strings count p → LeafIs s number pool at (stringLeaf s number pool at) scratch (leafRead.Strings count p)
+  pub strings-there : (count p : ℕ) → r ≡ stringsRead.Strings count p → LeafIs s number at (stringLeaf s number at) scratch (leafRead.Strings count p)
   unfolding stringLeaf Holds
   strings-there count p g =
-      let h : strings s itemLimit number pool [] at ≡ got (itemsFrom (textAt s scratch) number 0 count) p = sym (e .is) ∙ ap (stringsReading s number scratch) g in
-      let l : Texts s number at (itemsFrom (textAt s scratch) number 0 count) p = rw h at (strings-holds s itemLimit number pool [] at (d .inside)) in
-      let f : StringsPast s number pool scratch (stringsRead.Strings count p) = rw g at (e .past) in
+      let h : strings s itemLimit number [] at ≡ got (itemsFrom (textAt s scratch) number 0 count) p = sym (e .is) ∙ ap (stringsReading s number scratch) g in
+      let l : Texts s number at (itemsFrom (textAt s scratch) number 0 count) p = rw h at (strings-holds s itemLimit number [] at (d .inside)) in
+      let f : StringsPast s number scratch (stringsRead.Strings count p) = rw g at (e .past) in
       record { is = rw h; past = record { order = omega arith; inside = l .most; texts = f } }
 
 -- a leaf of one record lies in the text, and there is room for it
-one-past : (s : List ℕ) (number pool at : ℕ) (scratch : List ℕ) → LeafRoom s number pool at → (r : LeafRead) → OneRecord r → leafReading s number scratch r ≡ leaf s number pool at → LeafPast s number pool at scratch r
+one-past : (s : List ℕ) (number at : ℕ) (scratch : List ℕ) → LeafRoom s number at → (r : LeafRead) → OneRecord r → leafReading s number scratch r ≡ leaf s number at → LeafPast s number at scratch r
 unfolding Holds
-one-past s number pool at scratch d (leafRead.Faulty x) o e = tt
-one-past s number pool at scratch d (leafRead.Booleans flag p) o e =
-    let l : reading.LeafRead s number at (booleans number flag) p = rw (sym e) at (leaf-holds s number pool at (d .inside)) in
+one-past s number at scratch d (leafRead.Faulty x) o e = tt
+one-past s number at scratch d (leafRead.Booleans flag p) o e =
+    let l : reading.LeafRead s number at (booleans number flag) p = rw (sym e) at (leaf-holds s number at (d .inside)) in
     let m = l .room (d .records) in
     record { order = omega arith; inside = l .most; records = omega arith }
-one-past s number pool at scratch d (leafRead.Integers count p) o e = absurd o
-one-past s number pool at scratch d (leafRead.Strings count p) o e = absurd o
-one-past s number pool at scratch d (leafRead.DatePattern flag p) o e =
-    let l : reading.LeafRead s number at (datePattern number flag) p = rw (sym e) at (leaf-holds s number pool at (d .inside)) in
+one-past s number at scratch d (leafRead.Integers count p) o e = absurd o
+one-past s number at scratch d (leafRead.Strings count p) o e = absurd o
+one-past s number at scratch d (leafRead.DatePattern flag p) o e =
+    let l : reading.LeafRead s number at (datePattern number flag) p = rw (sym e) at (leaf-holds s number at (d .inside)) in
     let m = l .room (d .records) in
     record { order = omega arith; inside = l .most; records = omega arith }
-one-past s number pool at scratch d (leafRead.Dates count p) o e = absurd o
-one-past s number pool at scratch d (leafRead.TimePattern flag p) o e =
-    let l : reading.LeafRead s number at (timePattern number flag) p = rw (sym e) at (leaf-holds s number pool at (d .inside)) in
+one-past s number at scratch d (leafRead.Dates count p) o e = absurd o
+one-past s number at scratch d (leafRead.TimePattern flag p) o e =
+    let l : reading.LeafRead s number at (timePattern number flag) p = rw (sym e) at (leaf-holds s number at (d .inside)) in
     let m = l .room (d .records) in
     record { order = omega arith; inside = l .most; records = omega arith }
 
 -- a leaf, by its first token
-module _ (s : List ℕ) (number pool at : ℕ) (t : Token) (tok : TokenIs s at (tokenAt s at) t) where
-  pub leaf-integers : t .sort ≡ integer → (scratch : List ℕ) (r : LeafRead) → RangeLeafIs s number at scratch r → LeafIs s number pool at (leaf s number pool at) scratch r
+module _ (s : List ℕ) (number at : ℕ) (t : Token) (tok : TokenIs s at (tokenAt s at) t) where
+  pub leaf-integers : t .sort ≡ integer → (scratch : List ℕ) (r : LeafRead) → LeafIs s number at (rangesLeaf s number at) scratch r → LeafIs s number at (leaf s number at) scratch r
   unfolding leaf rangesLeaf
   leaf-integers k scratch r e = record {
     is = rw (← tok .is, ne-eqb (t .sort) trueWord (λ z. omega arith), ne-eqb (t .sort) falseWord (λ z. omega arith), eq-eqb (t .sort) integer k) (e .is);
-    past = e .past pool;
+    past = e .past;
   }
 
-  pub leaf-intervals : t .sort ≡ bar → (scratch : List ℕ) (r : LeafRead) → RangeLeafIs s number at scratch r → LeafIs s number pool at (leaf s number pool at) scratch r
+  pub leaf-intervals : t .sort ≡ bar → (scratch : List ℕ) (r : LeafRead) → LeafIs s number at (rangesLeaf s number at) scratch r → LeafIs s number at (leaf s number at) scratch r
   unfolding leaf rangesLeaf
   leaf-intervals k scratch r e = record {
     is = rw (← tok .is, ne-eqb (t .sort) trueWord (λ z. omega arith), ne-eqb (t .sort) falseWord (λ z. omega arith), ne-eqb (t .sort) integer (λ z. omega arith), eq-eqb (t .sort) bar k) (e .is);
-    past = e .past pool;
+    past = e .past;
   }
 
-  pub leaf-strings : t .sort ≡ string → (scratch : List ℕ) (r : LeafRead) → LeafIs s number pool at (stringLeaf s number pool at) scratch r → LeafIs s number pool at (leaf s number pool at) scratch r
+  pub leaf-strings : t .sort ≡ string → (scratch : List ℕ) (r : LeafRead) → LeafIs s number at (stringLeaf s number at) scratch r → LeafIs s number at (leaf s number at) scratch r
   unfolding leaf stringLeaf
   leaf-strings k scratch r e = record {
     is = rw (← tok .is, ne-eqb (t .sort) trueWord (λ z. omega arith), ne-eqb (t .sort) falseWord (λ z. omega arith), ne-eqb (t .sort) integer (λ z. omega arith), ne-eqb (t .sort) bar (λ z. omega arith), eq-eqb (t .sort) string k) (e .is);
     past = e .past;
   }
 
-  pub leaf-single : (t .sort ≡ integer → ⊥) → (t .sort ≡ bar → ⊥) → (t .sort ≡ string → ⊥) → (scratch : List ℕ) (r : LeafRead) → LeafRoom s number pool at → OneIs s number (singleLeaf s number t) r
-      → LeafIs s number pool at (leaf s number pool at) scratch r
+  pub leaf-single : (t .sort ≡ integer → ⊥) → (t .sort ≡ bar → ⊥) → (t .sort ≡ string → ⊥) → (scratch : List ℕ) (r : LeafRead) → LeafRoom s number at → OneIs s number (singleLeaf s number t) r
+      → LeafIs s number at (leaf s number at) scratch r
   unfolding leaf singleLeaf
   leaf-single a b c scratch r d e =
-      let z : leafReading s number scratch r ≡ leaf s number pool at = rw (← tok .is, ne-eqb (t .sort) integer a, ne-eqb (t .sort) bar b, ne-eqb (t .sort) string c) (e .is scratch) in
-      record { is = z; past = one-past s number pool at scratch d r (e .one) z }
+      let z : leafReading s number scratch r ≡ leaf s number at = rw (← tok .is, ne-eqb (t .sort) integer a, ne-eqb (t .sort) bar b, ne-eqb (t .sort) string c) (e .is scratch) in
+      record { is = z; past = one-past s number at scratch d r (e .one) z }

@@ -1,11 +1,11 @@
 -- What a step of the readers of strings shows: a law for each way out. Assumes nothing.
-use mathlib.Core.Path.{_≡_, refl, sym, ap, _∙_}
+use mathlib.Core.Path.{_≡_, refl, sym, _∙_}
 use mathlib.Core.Bool.{Bool, true, false, cond}
 use mathlib.Core.List.{List, [], _∷_, _++_, append-assoc}
 use Prim.Native.Nat.{ℕ, zero, suc, _+_, _*_, _-_, _≤_, _<_}
 use native.Mathlib.Omega.{arith}
 use lib.Dec.{eqb, ltb}
-use lib.ListN.{length, length-append, length-set}
+use lib.ListN.{length, length-set}
 use borrow.Author.Tests.{eq-eqb, ne-eqb, eqb-true, eqb-false, lt-ltb, le-ltb}
 use Rattle.lexis.specs.Bytes.{is}
 use Rattle.lexis.specs.Runs.{past, part, listed}
@@ -15,18 +15,17 @@ use Rattle.lexis.specs.Postconditions.{TokenIs}
 use Rattle.lexis.specs.declared.Token.{Token}
 use native.Mathlib.Decide.{decLt}
 use Rattle.lexis.proofs.Enclosed.{token-two}
-use Rattle.refusals.specs.Limits.{itemLimit, recordLimit, stringLimit, poolLimit, textLimit}
+use Rattle.refusals.specs.Limits.{itemLimit, recordLimit, stringLimit, textLimit}
 use Rattle.refusals.specs.Reading.{Reading, refused, got, refuse, andThen, unless}
 use Rattle.refusals.specs.Refusals.{refusal}
 use Rattle.refusals.specs.Steps.{expect, syntaxFault}
 use Rattle.refusals.specs.Answers.{tokenReading, ExpectIs}
-use Rattle.refusals.specs.declared.Cause.the-variants.{TooLong, TooManyItems, TooManyRecords, Overlap, PoolTooLarge}
+use Rattle.refusals.specs.declared.Cause.the-variants.{TooLong, TooManyItems, TooManyRecords, Overlap}
 use Rattle.refusals.specs.declared.Refusal.{Refusal}
 use Rattle.refusals.specs.declared.steps.Expected.{Expected}
 use Rattle.refusals.specs.declared.steps.Expected.the-variants.{Fault, Taken}
 use Rattle.refusals.proofs.StepLaws.{expected-fault, expected-token, expected-past}
 use Rattle.meaning.specs.Constraints.{Text}
-use Rattle.meaning.specs.Counting.{textPool}
 use Rattle.items.specs.Strings.{startString, withText, strings}
 use Rattle.items.specs.Spans.{withItem, firstOf, secondOf, spanAt, latest, earlier, Within, SpansIn}
 use Rattle.items.specs.Answers.{textAt, itemsFrom, LeafRoom}
@@ -106,23 +105,16 @@ module _ (s : List ℕ) (number count at : ℕ) (r : Expected) (e : ExpectIs s s
           }
 
 -- a string that was read
-module _ (s : List ℕ) (number count pool : ℕ) (t : Token) (before : List ℕ) (room : KeepString s number count pool t before) (o : Bool) (h : o ≡ listed (part s (t .start + 1) (t .end - 1)) (earlier s before 0 count)) where
+module _ (s : List ℕ) (number count : ℕ) (t : Token) (before : List ℕ) (room : KeepString s number count t before) (o : Bool) (h : o ≡ listed (part s (t .start + 1) (t .end - 1)) (earlier s before 0 count)) where
   abbrev Reads : List ℕ → StringRead → Type 0
-  Reads after r = StringIs s number count pool (keptString s number count pool (earlier s before 0 count) t (t .end)) before after r
-
-  size-is : length (inner s t) ≡ t .end - 1 - (t .start + 1)
-  size-is = let q = room .quoted in part-length s (t .start + 1) (t .end - 1) (omega arith)
+  Reads after r = StringIs s number count (keptString s number count (earlier s before 0 count) t (t .end)) before after r
 
   pub keep-equal : o ≡ true → Reads before (stringRead.Faulty (refusal Overlap (t .start)))
   unfolding keptString
   keep-equal k = record { is = rw (← h, k); kept = all-kept before count; past = tt }
 
   module _ (k : o ≡ false) where
-    pub keep-full : poolLimit < pool + (t .end - 1 - (t .start + 1)) → Reads before (stringRead.Faulty (refusal PoolTooLarge (t .start)))
-    unfolding keptString
-    keep-full l = record { is = rw (← h, k, size-is, lt-ltb poolLimit (pool + (t .end - 1 - (t .start + 1))) l); kept = all-kept before count; past = tt }
-
-    module _ (l : pool + (t .end - 1 - (t .start + 1)) ≤ poolLimit) (long : length before ≡ 32) (u : Token) (tok : TokenIs s (t .end) (tokenAt s (t .end)) u) (a b : ℕ) (ea : a ≡ t .start + 1) (eb : b ≡ t .end - 1) (after : List ℕ) (e : after ≡ withItem before count a b) where
+    module _ (long : length before ≡ 32) (u : Token) (tok : TokenIs s (t .end) (tokenAt s (t .end)) u) (a b : ℕ) (ea : a ≡ t .start + 1) (eb : b ≡ t .end - 1) (after : List ℕ) (e : after ≡ withItem before count a b) where
       roomy-count : 2 * count + 1 < length before
       roomy-count = let f = room .few in omega arith
 
@@ -154,7 +146,7 @@ module _ (s : List ℕ) (number count pool : ℕ) (t : Token) (before : List ℕ
           let q = room .quoted in
           rw (z, put-start, put-stop) (record { order = omega arith; inside = omega arith })
 
-      kept : (next : ℕ) → next ≤ length s → StringKept s number count pool after (t .end - 1 - (t .start + 1)) next
+      kept : (next : ℕ) → next ≤ length s → StringKept s number count after next
       kept next m =
           let f = room .few in
           let g = room .quoted in
@@ -162,40 +154,38 @@ module _ (s : List ℕ) (number count pool : ℕ) (t : Token) (before : List ℕ
           record {
             few = f;
             records = room .records;
-            bytes = l;
-            long = sym size-is ∙ ap length (sym put-here);
             spans = record { room = omega arith; within = λ i x y. lies i (decLt i count) y };
             inside = m;
           }
 
-      pub keep-comma : u .sort ≡ comma → Reads after (stringRead.More (t .end - 1 - (t .start + 1)) (u .end))
+      pub keep-comma : u .sort ≡ comma → Reads after (stringRead.More (u .end))
       unfolding keptString
       keep-comma c =
           record {
-            is = rw (← h, k, size-is, le-ltb poolLimit (pool + (t .end - 1 - (t .start + 1))) l, ← tok .is, eq-eqb (u .sort) comma c, put-here, spans-more);
+            is = rw (← h, k, ← tok .is, eq-eqb (u .sort) comma c, put-here, spans-more);
             kept = still;
             past = kept (u .end) (tok .inside);
           }
 
-      pub keep-end : (u .sort ≡ comma → ⊥) → Reads after (stringRead.Last (t .end - 1 - (t .start + 1)) (t .end))
+      pub keep-end : (u .sort ≡ comma → ⊥) → Reads after (stringRead.Last (t .end))
       unfolding keptString
       keep-end n =
           record {
-            is = rw (← h, k, size-is, le-ltb poolLimit (pool + (t .end - 1 - (t .start + 1))) l, ← tok .is, ne-eqb (u .sort) comma n, put-here);
+            is = rw (← h, k, ← tok .is, ne-eqb (u .sort) comma n, put-here);
             kept = still;
             past = kept (t .end) (room .quoted .inside);
           }
 
 -- a list from a string on
-strings-step : (s : List ℕ) (number count pool at : ℕ) (seen : List (List ℕ)) → count ≤ itemLimit
-    → andThen (roomy (λ t. t .start) number count (startString s at)) (λ t p. keptString s number count pool seen t p) ≡ strings s (itemLimit - count) number pool seen at
+strings-step : (s : List ℕ) (number count at : ℕ) (seen : List (List ℕ)) → count ≤ itemLimit
+    → andThen (roomy (λ t. t .start) number count (startString s at)) (λ t p. keptString s number count seen t p) ≡ strings s (itemLimit - count) number seen at
 unfolding strings keptString
-strings-step s number count pool at seen l = by (eqb count itemLimit) refl
+strings-step s number count at seen l = by (eqb count itemLimit) refl
   where
     go : Token → ℕ → Reading (List Text)
-    go t p = keptString s number count pool seen t p
+    go t p = keptString s number count seen t p
 
-    by : (b : Bool) → eqb count itemLimit ≡ b → andThen (roomy (λ t. t .start) number count (startString s at)) go ≡ strings s (itemLimit - count) number pool seen at
+    by : (b : Bool) → eqb count itemLimit ≡ b → andThen (roomy (λ t. t .start) number count (startString s at)) go ≡ strings s (itemLimit - count) number seen at
     by true e =
         let c = eqb-true count itemLimit e in
         let z : itemLimit - count ≡ zero = omega arith in
@@ -205,23 +195,23 @@ strings-step s number count pool at seen l = by (eqb count itemLimit) refl
         let z : itemLimit - count ≡ suc (itemLimit - (count + 1)) = omega arith in
         rw z (roomy-some (λ t. t .start) number count go (startString s at) e)
 
-module _ (s : List ℕ) (number count pool at : ℕ) (before : List ℕ) (d : StringRoom s number count pool at before) (r : Expected) (e : StringStartIs s number count at r) where
+module _ (s : List ℕ) (number count at : ℕ) (before : List ℕ) (d : StringRoom s number count at before) (r : Expected) (e : StringStartIs s number count at r) where
   abbrev Steps : List ℕ → StringRead → Type 0
-  Steps after o = StringIs s number count pool (strings s (itemLimit - count) number pool (earlier s before 0 count) at) before after o
+  Steps after o = StringIs s number count (strings s (itemLimit - count) number (earlier s before 0 count) at) before after o
 
-  step : andThen (tokenReading r) (λ t p. keptString s number count pool (earlier s before 0 count) t p) ≡ strings s (itemLimit - count) number pool (earlier s before 0 count) at
-  step = rw (e .is) (strings-step s number count pool at (earlier s before 0 count) (d .before .few))
+  step : andThen (tokenReading r) (λ t p. keptString s number count (earlier s before 0 count) t p) ≡ strings s (itemLimit - count) number (earlier s before 0 count) at
+  step = rw (e .is) (strings-step s number count at (earlier s before 0 count) (d .before .few))
 
   pub step-faulty : (x : Refusal) → r ≡ Fault x → Steps before (stringRead.Faulty x)
   step-faulty x g = record { is = rw g at step; kept = all-kept before count; past = tt }
 
   module _ (t : Token) (g : r ≡ Taken t) where
-    pub step-room : KeepString s number count pool t before
+    pub step-room : KeepString s number count t before
     step-room =
         let p : StringStartPast s number count (Taken t) = rw g at (e .past) in
-        record { quoted = p .0; few = p .1; records = p .2; short = d .short; bytes = d .bytes; spans = d .spans }
+        record { quoted = p .0; few = p .1; records = p .2; short = d .short; spans = d .spans }
 
-    pub step-kept : (after : List ℕ) (o : StringRead) → StringIs s number count pool (keptString s number count pool (earlier s before 0 count) t (t .end)) before after o → Steps after o
+    pub step-kept : (after : List ℕ) (o : StringRead) → StringIs s number count (keptString s number count (earlier s before 0 count) t (t .end)) before after o → Steps after o
     step-kept after o b = record { is = b .is ∙ rw g at step; kept = b .kept; past = b .past }
 
 -- strings before the others of a list
@@ -236,24 +226,18 @@ with-none : (r : Reading (List Text)) → withTexts [] r ≡ r
 with-none (refused y) = refl
 with-none (got l p) = refl
 
-pool-more : (xs : List Text) (x : Text) → length (textPool (xs ++ (x ∷ []))) ≡ length (textPool xs) + length (x .text)
-pool-more [] x = simp length-append (omega arith)
-pool-more (y ∷ ys) x = let h = pool-more ys x in simp length-append (omega arith)
-
 -- so many strings are in the scratch, and the list goes on at a place
-pub record InStrings (s : List ℕ) (number pool from : ℕ) (scratch : List ℕ) (bytes count at : ℕ) : Type 0 where
+pub record InStrings (s : List ℕ) (number from : ℕ) (scratch : List ℕ) (count at : ℕ) : Type 0 where
   pub inside : at ≤ length s
   pub short : length s ≤ textLimit
   pub few : count ≤ itemLimit
   pub records : number + count ≤ recordLimit
   pub spans : SpansIn s scratch 0 count
-  pub most : bytes ≤ poolLimit
-  pub sum : bytes ≡ pool + length (textPool (itemsFrom (textAt s scratch) number 0 count))
-  pub is : withTexts (itemsFrom (textAt s scratch) number 0 count) (strings s (itemLimit - count) (number + count) bytes (earlier s scratch 0 count) at) ≡ strings s itemLimit number pool [] from
+  pub is : withTexts (itemsFrom (textAt s scratch) number 0 count) (strings s (itemLimit - count) (number + count) (earlier s scratch 0 count) at) ≡ strings s itemLimit number [] from
 
-pub strings-start : (s : List ℕ) (number pool from : ℕ) (scratch : List ℕ) → LeafRoom s number pool from → InStrings s number pool from scratch pool 0 from
+pub strings-start : (s : List ℕ) (number from : ℕ) (scratch : List ℕ) → LeafRoom s number from → InStrings s number from scratch 0 from
 unfolding itemsFrom latest
-strings-start s number pool from scratch h =
+strings-start s number from scratch h =
     let e : number + 0 ≡ number = omega arith in
     let r = h .records in
     record {
@@ -262,64 +246,50 @@ strings-start s number pool from scratch h =
       few = omega arith;
       records = omega arith;
       spans = record { room = omega arith; within = λ i a b. absurd (omega arith) };
-      most = h .bytes;
-      sum = omega arith;
-      is = rw e (with-none (strings s itemLimit number pool [] from));
+      is = rw e (with-none (strings s itemLimit number [] from));
     }
 
-module _ (s : List ℕ) (number pool from : ℕ) (before : List ℕ) (bytes count at : ℕ) (inv : InStrings s number pool from before bytes count at) where
-  pub strings-room : StringRoom s (number + count) count bytes at before
-  strings-room = record { before = record { inside = inv .inside; few = inv .few; records = inv .records }; short = inv .short; bytes = inv .most; spans = inv .spans }
+module _ (s : List ℕ) (number from : ℕ) (before : List ℕ) (count at : ℕ) (inv : InStrings s number from before count at) where
+  pub strings-room : StringRoom s (number + count) count at before
+  strings-room = record { before = record { inside = inv .inside; few = inv .few; records = inv .records }; short = inv .short; spans = inv .spans }
 
-  module _ (after : List ℕ) (r : StringRead) (e : StringIs s (number + count) count bytes (strings s (itemLimit - count) (number + count) bytes (earlier s before 0 count) at) before after r) where
+  module _ (after : List ℕ) (r : StringRead) (e : StringIs s (number + count) count (strings s (itemLimit - count) (number + count) (earlier s before 0 count) at) before after r) where
     same-items : itemsFrom (textAt s after) number 0 count ≡ itemsFrom (textAt s before) number 0 count
     same-items =
         items-same (textAt s after) (textAt s before) number 0 count
         (λ m j l i. record { number = m; text = part s (first-kept count before after (e .kept) j (omega arith) i) (second-kept count before after (e .kept) j (omega arith) i) })
 
-    whole : withTexts (itemsFrom (textAt s after) number 0 count) (stringReading s (number + count) count bytes after r) ≡ strings s itemLimit number pool [] from
+    whole : withTexts (itemsFrom (textAt s after) number 0 count) (stringReading s (number + count) count after r) ≡ strings s itemLimit number [] from
     whole = rw (same-items, e .is) (inv .is)
 
-    pub strings-faulty : (x : Refusal) → r ≡ stringRead.Faulty x → StringsIs s number pool from after (stringsRead.Faulty x)
+    pub strings-faulty : (x : Refusal) → r ≡ stringRead.Faulty x → StringsIs s number from after (stringsRead.Faulty x)
     strings-faulty x g = record { is = rw g at whole; past = tt }
 
     more : itemsFrom (textAt s after) number 0 (count + 1) ≡ itemsFrom (textAt s after) number 0 count ++ (textAt s after (number + count) count ∷ [])
     more = items-last (textAt s after) number count
 
-    sum-more : (size : ℕ) → size ≡ length (spanAt s after count) → bytes + size ≡ pool + length (textPool (itemsFrom (textAt s after) number 0 (count + 1)))
-    sum-more size z =
-        let h = pool-more (itemsFrom (textAt s after) number 0 count) (textAt s after (number + count) count) in
-        let k : bytes ≡ pool + length (textPool (itemsFrom (textAt s after) number 0 count)) = rw same-items (inv .sum) in
-        rw (more, h) (omega arith)
-
-    pub strings-last : (size p : ℕ) → r ≡ stringRead.Last size p → StringsIs s number pool from after (stringsRead.Strings (count + 1) p)
-    strings-last size p g =
-        let q : StringKept s (number + count) count bytes after size p = rw g at (e .past) in
-        let z = sum-more size (q .long) in
+    pub strings-last : (p : ℕ) → r ≡ stringRead.Last p → StringsIs s number from after (stringsRead.Strings (count + 1) p)
+    strings-last p g =
+        let q : StringKept s (number + count) count after p = rw g at (e .past) in
         record {
           is = rw more (rw g at whole);
-          past = record { some = omega arith; few = omega arith; records = omega arith; spans = q .spans; bytes = omega arith };
+          past = record { some = omega arith; few = omega arith; records = omega arith; spans = q .spans };
         }
 
-    pub strings-more : (size p : ℕ) → r ≡ stringRead.More size p → InStrings s number pool from after (bytes + size) (count + 1) p
-    strings-more size p g =
-        let q : StringKept s (number + count) count bytes after size p = rw g at (e .past) in
+    pub strings-more : (p : ℕ) → r ≡ stringRead.More p → InStrings s number from after (count + 1) p
+    strings-more p g =
+        let q : StringKept s (number + count) count after p = rw g at (e .past) in
         let w = rw g at whole in
         let m : number + (count + 1) ≡ number + count + 1 = omega arith in
-        let n = with-text (itemsFrom (textAt s after) number 0 count) (textAt s after (number + count) count) (strings s (itemLimit - (count + 1)) (number + count + 1) (bytes + size) (earlier s after 0 (count + 1)) p) in
+        let n = with-text (itemsFrom (textAt s after) number 0 count) (textAt s after (number + count) count) (strings s (itemLimit - (count + 1)) (number + count + 1) (earlier s after 0 (count + 1)) p) in
         record {
           inside = q .inside;
           short = inv .short;
           few = omega arith;
           records = omega arith;
           spans = q .spans;
-          most = q .bytes;
-          sum = sum-more size (q .long);
           is = rw (m, more) (sym n ∙ w);
         }
 
-    pub strings-less : (size p : ℕ) → r ≡ stringRead.More size p → itemLimit - (count + 1) < itemLimit - count
-    strings-less size p g = let q : StringKept s (number + count) count bytes after size p = rw g at (e .past) in omega arith
-
-    pub strings-fits : (size p : ℕ) → r ≡ stringRead.More size p → bytes + size ≤ poolLimit
-    strings-fits size p g = let q : StringKept s (number + count) count bytes after size p = rw g at (e .past) in q .bytes
+    pub strings-less : (p : ℕ) → r ≡ stringRead.More p → itemLimit - (count + 1) < itemLimit - count
+    strings-less p g = let q : StringKept s (number + count) count after p = rw g at (e .past) in omega arith

@@ -4,22 +4,20 @@ use mathlib.Core.List.{List, [], _∷_}
 use Prim.Native.Nat.{ℕ, zero, suc, _+_, _≤_, _<_}
 use lib.ListN.{length}
 use Rattle.values.specs.Integers.{Pair, pair}
-use Rattle.refusals.specs.Limits.{textLimit, recordLimit, poolLimit, itemLimit}
+use Rattle.refusals.specs.Limits.{textLimit, recordLimit, itemLimit}
 use Rattle.refusals.specs.Reading.{Reading, refused, got}
 use Rattle.meaning.specs.Constraints.{Range, Text, Leaf, booleans, integers, datePattern, dates, timePattern}
 use Rattle.meaning.specs.Constraints
-use Rattle.meaning.specs.Counting.{textPool}
 use Rattle.items.specs.Ranges.{range}
 use Rattle.items.specs.Spans.{firstOf, secondOf, spanAt, SpansIn}
 use Rattle.items.specs.declared.leaves.LeafRead.{LeafRead}
 use Rattle.items.specs.declared.leaves.LeafRead.the-variants as leafRead
 
--- where a leaf is read: a place of a text that is not too long, the next record's number and the bytes in the pool
-pub record LeafRoom (s : List ℕ) (number pool from : ℕ) : Type 0 where
+-- where a leaf is read: a place of a text that is not too long, and the next record's number
+pub record LeafRoom (s : List ℕ) (number from : ℕ) : Type 0 where
   pub inside : from ≤ length s
   pub short : length s ≤ textLimit
   pub records : number ≤ recordLimit
-  pub bytes : pool ≤ poolLimit
 
 -- the pair of item i
 abbrev pub pairAt : List ℕ → ℕ → Pair
@@ -61,30 +59,29 @@ pub record Listed (s : List ℕ) (number from count next : ℕ) : Type 0 where
   pub few : count ≤ itemLimit
   pub records : number + count ≤ recordLimit
 
--- so many strings in the scratch: there is room for their records, each span lies in the text, and the pool has room for their bytes
-pub record Texts (s : List ℕ) (number pool : ℕ) (scratch : List ℕ) (count : ℕ) : Type 0 where
+-- so many strings in the scratch: there is room for their records, and each span lies in the text
+pub record Texts (s : List ℕ) (number : ℕ) (scratch : List ℕ) (count : ℕ) : Type 0 where
   pub some : 1 ≤ count
   pub few : count ≤ itemLimit
   pub records : number + count ≤ recordLimit
   pub spans : SpansIn s scratch 0 count
-  pub bytes : pool + length (textPool (itemsFrom (textAt s scratch) number 0 count)) ≤ poolLimit
 
-pub record Strings (s : List ℕ) (number pool from : ℕ) (scratch : List ℕ) (count next : ℕ) : Type 0 where
+pub record Strings (s : List ℕ) (number from : ℕ) (scratch : List ℕ) (count next : ℕ) : Type 0 where
   pub order : from < next
   pub inside : next ≤ length s
-  pub texts : Texts s number pool scratch count
+  pub texts : Texts s number scratch count
 
 -- where a leaf lies, and the room that it has
-abbrev pub LeafPast : List ℕ → ℕ → ℕ → ℕ → List ℕ → LeafRead → Type 0
-LeafPast s number pool from scratch (leafRead.Faulty x) = Unit {0}
-LeafPast s number pool from scratch (leafRead.Booleans flag next) = Single s number from next
-LeafPast s number pool from scratch (leafRead.Integers count next) = Listed s number from count next
-LeafPast s number pool from scratch (leafRead.Strings count next) = Strings s number pool from scratch count next
-LeafPast s number pool from scratch (leafRead.DatePattern flag next) = Single s number from next
-LeafPast s number pool from scratch (leafRead.Dates count next) = Listed s number from count next
-LeafPast s number pool from scratch (leafRead.TimePattern flag next) = Single s number from next
+abbrev pub LeafPast : List ℕ → ℕ → ℕ → List ℕ → LeafRead → Type 0
+LeafPast s number from scratch (leafRead.Faulty x) = Unit {0}
+LeafPast s number from scratch (leafRead.Booleans flag next) = Single s number from next
+LeafPast s number from scratch (leafRead.Integers count next) = Listed s number from count next
+LeafPast s number from scratch (leafRead.Strings count next) = Strings s number from scratch count next
+LeafPast s number from scratch (leafRead.DatePattern flag next) = Single s number from next
+LeafPast s number from scratch (leafRead.Dates count next) = Listed s number from count next
+LeafPast s number from scratch (leafRead.TimePattern flag next) = Single s number from next
 
 -- the answer and the scratch are the reading; nothing is said of the scratch after a refusal, for a leaf of one record, or behind the items
-pub record LeafIs (s : List ℕ) (number pool from : ℕ) (reading : Reading Leaf) (scratch : List ℕ) (r : LeafRead) : Type 0 where
+pub record LeafIs (s : List ℕ) (number from : ℕ) (reading : Reading Leaf) (scratch : List ℕ) (r : LeafRead) : Type 0 where
   pub is : leafReading s number scratch r ≡ reading
-  pub past : LeafPast s number pool from scratch r
+  pub past : LeafPast s number from scratch r

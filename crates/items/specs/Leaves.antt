@@ -45,15 +45,15 @@ rangeLeaf l = cond (eqb (l .kind) date) (dates (l .items)) (integers (l .items))
 abbrev pub patternFlag : ℕ → Token → ℕ
 patternFlag first t = t .sort - first
 
--- a leaf from a place on, given the next record's number and the bytes in the pool
-unfoldable pub leaf : List ℕ → ℕ → ℕ → ℕ → Reading Leaf
-leaf s number pool from =
+-- a leaf from a place on, given the next record's number
+unfoldable pub leaf : List ℕ → ℕ → ℕ → Reading Leaf
+leaf s number from =
     let t = tokenAt s from in
     cond (isBoolean t) (unless (eqb number recordLimit) TooManyRecords (t .start) (booleanList s number t))
     (cond (eqb (t .sort) integer || eqb (t .sort) bar)
     (andThen (ranges s itemLimit undecided number [] from) (λ l p. got (rangeLeaf l) p))
     (cond (eqb (t .sort) string)
-    (andThen (strings s itemLimit number pool [] from) (λ l p. got (Constraints.strings l) p))
+    (andThen (strings s itemLimit number [] from) (λ l p. got (Constraints.strings l) p))
     (cond (within (Spelling.datePattern + 1) (Spelling.datePattern + 5) (t .sort))
     (unless (eqb number recordLimit) TooManyRecords (t .start) (got (datePattern number (patternFlag Spelling.datePattern t)) (t .end)))
     (cond (within (Spelling.timePattern + 1) (Spelling.timePattern + 4) (t .sort))

@@ -3,7 +3,7 @@ use mathlib.Core.Path.{_≡_}
 use mathlib.Core.Bool.{Bool, cond}
 use mathlib.Core.List.{List, [], _∷_}
 use Prim.Native.Nat.{ℕ, _+_, _*_, _-_, _≤_, _<_}
-use lib.Dec.{eqb, ltb}
+use lib.Dec.{eqb}
 use lib.ListN.{length, getD}
 use Rattle.lexis.specs.Bytes.{within}
 use Rattle.lexis.specs.Runs.{listed}
@@ -11,8 +11,8 @@ use Rattle.lexis.specs.Spelling
 use Rattle.lexis.specs.Tokens.{inner}
 use Rattle.lexis.specs.declared.Token.{Token}
 use Rattle.values.specs.Integers.{Pair}
-use Rattle.refusals.specs.Limits.{textLimit, recordLimit, poolLimit, itemLimit}
-use Rattle.refusals.specs.declared.Cause.the-variants.{TooManyItems, TooManyRecords, Overlap, PoolTooLarge}
+use Rattle.refusals.specs.Limits.{textLimit, recordLimit, itemLimit}
+use Rattle.refusals.specs.declared.Cause.the-variants.{TooManyItems, TooManyRecords, Overlap}
 use Rattle.refusals.specs.Reading.{Reading, refused, got, andThen, unless}
 use Rattle.refusals.specs.Refusals.{refusal}
 use Rattle.refusals.specs.Steps.{syntaxFault}
@@ -26,7 +26,7 @@ use Rattle.intervals.specs.Answers.{Asked}
 use Rattle.items.specs.Ranges.{Start, start, overlaps, Ranges, withFirst, goOn, ranges}
 use Rattle.items.specs.Strings.{withText, goOnStrings, strings, startString}
 use Rattle.items.specs.Leaves.{isBoolean, secondBoolean, booleanList, rangeLeaf, patternFlag}
-use Rattle.items.specs.Spans.{spanAt, latest, earlier, SpansIn}
+use Rattle.items.specs.Spans.{latest, earlier, SpansIn}
 use Rattle.items.specs.declared.ranges.StartRead.{StartRead}
 use Rattle.items.specs.declared.ranges.StartRead.the-variants as startRead
 use Rattle.items.specs.declared.ranges.RangeRead.{RangeRead}
@@ -39,7 +39,7 @@ use Rattle.items.specs.declared.strings.StringsRead.{StringsRead}
 use Rattle.items.specs.declared.strings.StringsRead.the-variants as stringsRead
 use Rattle.items.specs.declared.leaves.LeafRead.{LeafRead}
 use Rattle.items.specs.declared.leaves.LeafRead.the-variants as leafRead
-use Rattle.items.specs.Answers.{pairAt, rangeAt, textAt, itemsFrom, Texts, leafReading, LeafPast}
+use Rattle.items.specs.Answers.{pairAt, rangeAt, textAt, itemsFrom, Texts, leafReading}
 
 -- an item's first token
 abbrev pub startReading : StartRead → Reading Start
@@ -127,18 +127,17 @@ pub record RangesIs (s : List ℕ) (number from : ℕ) (scratch : List ℕ) (r :
   pub past : RangesPast s number r
 
 -- a string that was read behind so many, and the strings that are read behind it
-abbrev pub stringReading : List ℕ → ℕ → ℕ → ℕ → List ℕ → StringRead → Reading (List Text)
-stringReading s number count pool scratch (stringRead.Faulty x) = refused x
-stringReading s number count pool scratch (stringRead.Last size next) = got (textAt s scratch number count ∷ []) next
-stringReading s number count pool scratch (stringRead.More size next) =
-    withText (textAt s scratch number count) (strings s (itemLimit - (count + 1)) (number + 1) (pool + size) (earlier s scratch 0 (count + 1)) next)
+abbrev pub stringReading : List ℕ → ℕ → ℕ → List ℕ → StringRead → Reading (List Text)
+stringReading s number count scratch (stringRead.Faulty x) = refused x
+stringReading s number count scratch (stringRead.Last next) = got (textAt s scratch number count ∷ []) next
+stringReading s number count scratch (stringRead.More next) =
+    withText (textAt s scratch number count) (strings s (itemLimit - (count + 1)) (number + 1) (earlier s scratch 0 (count + 1)) next)
 
 -- a string, from behind it on
-unfoldable pub keptString : List ℕ → ℕ → ℕ → ℕ → List (List ℕ) → Token → ℕ → Reading (List Text)
-keptString s number count pool seen t p =
+unfoldable pub keptString : List ℕ → ℕ → ℕ → List (List ℕ) → Token → ℕ → Reading (List Text)
+keptString s number count seen t p =
     unless (listed (inner s t) seen) Overlap (t .start)
-    (unless (ltb poolLimit (pool + length (inner s t))) PoolTooLarge (t .start)
-    (goOnStrings s (record { number = number; text = inner s t }) (strings s (itemLimit - (count + 1)) (number + 1) (pool + length (inner s t)) (inner s t ∷ seen)) p))
+    (goOnStrings s (record { number = number; text = inner s t }) (strings s (itemLimit - (count + 1)) (number + 1) (inner s t ∷ seen)) p)
 
 -- a string's token, in quotes
 pub record Quoted (s : List ℕ) (t : Token) : Type 0 where
@@ -154,52 +153,48 @@ pub record StringStartIs (s : List ℕ) (number count from : ℕ) (r : Expected)
   pub is : tokenReading r ≡ roomy (λ t. t .start) number count (startString s from)
   pub past : StringStartPast s number count r
 
--- where a string is read, behind so many others whose bytes are in the pool, and where one that was read is kept
-pub record StringRoom (s : List ℕ) (number count pool from : ℕ) (scratch : List ℕ) : Type 0 where
+-- where a string is read, behind so many others, and where one that was read is kept
+pub record StringRoom (s : List ℕ) (number count from : ℕ) (scratch : List ℕ) : Type 0 where
   pub before : Before s number count from
   pub short : length s ≤ textLimit
-  pub bytes : pool ≤ poolLimit
   pub spans : SpansIn s scratch 0 count
 
-pub record KeepString (s : List ℕ) (number count pool : ℕ) (t : Token) (scratch : List ℕ) : Type 0 where
+pub record KeepString (s : List ℕ) (number count : ℕ) (t : Token) (scratch : List ℕ) : Type 0 where
   pub quoted : Quoted s t
   pub few : count < itemLimit
   pub records : number < recordLimit
   pub short : length s ≤ textLimit
-  pub bytes : pool ≤ poolLimit
   pub spans : SpansIn s scratch 0 count
 
--- a string that is kept is span `count` of the scratch, of so many bytes, for which the pool has room
-pub record StringKept (s : List ℕ) (number count pool : ℕ) (scratch : List ℕ) (size next : ℕ) : Type 0 where
+-- a string that is kept is span `count` of the scratch
+pub record StringKept (s : List ℕ) (number count : ℕ) (scratch : List ℕ) (next : ℕ) : Type 0 where
   pub few : count < itemLimit
   pub records : number < recordLimit
-  pub bytes : pool + size ≤ poolLimit
-  pub long : size ≡ length (spanAt s scratch count)
   pub spans : SpansIn s scratch 0 (count + 1)
   pub inside : next ≤ length s
 
-abbrev pub StringPast : List ℕ → ℕ → ℕ → ℕ → List ℕ → StringRead → Type 0
-StringPast s number count pool scratch (stringRead.Faulty x) = Unit {0}
-StringPast s number count pool scratch (stringRead.Last size next) = StringKept s number count pool scratch size next
-StringPast s number count pool scratch (stringRead.More size next) = StringKept s number count pool scratch size next
+abbrev pub StringPast : List ℕ → ℕ → ℕ → List ℕ → StringRead → Type 0
+StringPast s number count scratch (stringRead.Faulty x) = Unit {0}
+StringPast s number count scratch (stringRead.Last next) = StringKept s number count scratch next
+StringPast s number count scratch (stringRead.More next) = StringKept s number count scratch next
 
-pub record StringIs (s : List ℕ) (number count pool : ℕ) (reading : Reading (List Text)) (before after : List ℕ) (r : StringRead) : Type 0 where
-  pub is : stringReading s number count pool after r ≡ reading
+pub record StringIs (s : List ℕ) (number count : ℕ) (reading : Reading (List Text)) (before after : List ℕ) (r : StringRead) : Type 0 where
+  pub is : stringReading s number count after r ≡ reading
   pub kept : Kept count before after
-  pub past : StringPast s number count pool after r
+  pub past : StringPast s number count after r
 
 -- a list of strings
 abbrev pub stringsReading : List ℕ → ℕ → List ℕ → StringsRead → Reading (List Text)
 stringsReading s number scratch (stringsRead.Faulty x) = refused x
 stringsReading s number scratch (stringsRead.Strings count next) = got (itemsFrom (textAt s scratch) number 0 count) next
 
-abbrev pub StringsPast : List ℕ → ℕ → ℕ → List ℕ → StringsRead → Type 0
-StringsPast s number pool scratch (stringsRead.Faulty x) = Unit {0}
-StringsPast s number pool scratch (stringsRead.Strings count next) = Texts s number pool scratch count
+abbrev pub StringsPast : List ℕ → ℕ → List ℕ → StringsRead → Type 0
+StringsPast s number scratch (stringsRead.Faulty x) = Unit {0}
+StringsPast s number scratch (stringsRead.Strings count next) = Texts s number scratch count
 
-pub record StringsIs (s : List ℕ) (number pool from : ℕ) (scratch : List ℕ) (r : StringsRead) : Type 0 where
-  pub is : stringsReading s number scratch r ≡ strings s itemLimit number pool [] from
-  pub past : StringsPast s number pool scratch r
+pub record StringsIs (s : List ℕ) (number from : ℕ) (scratch : List ℕ) (r : StringsRead) : Type 0 where
+  pub is : stringsReading s number scratch r ≡ strings s itemLimit number [] from
+  pub past : StringsPast s number scratch r
 
 -- where a list of integers or of dates is read
 pub record ListRoom (s : List ℕ) (number from : ℕ) : Type 0 where
@@ -250,10 +245,6 @@ singleLeaf s number t =
 unfoldable pub rangesLeaf : List ℕ → ℕ → ℕ → Reading Leaf
 rangesLeaf s number from = andThen (ranges s itemLimit undecided number [] from) (λ l p. got (rangeLeaf l) p)
 
-pub record RangeLeafIs (s : List ℕ) (number from : ℕ) (scratch : List ℕ) (r : LeafRead) : Type 0 where
-  pub is : leafReading s number scratch r ≡ rangesLeaf s number from
-  pub past : (pool : ℕ) → LeafPast s number pool from scratch r
-
 -- a list of strings
-unfoldable pub stringLeaf : List ℕ → ℕ → ℕ → ℕ → Reading Leaf
-stringLeaf s number pool from = andThen (strings s itemLimit number pool [] from) (λ l p. got (Constraints.strings l) p)
+unfoldable pub stringLeaf : List ℕ → ℕ → ℕ → Reading Leaf
+stringLeaf s number from = andThen (strings s itemLimit number [] from) (λ l p. got (Constraints.strings l) p)

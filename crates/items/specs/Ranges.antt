@@ -1,5 +1,5 @@
--- Lists of integer items and of date intervals. Document 01, 'Constraint text': "items by comma, all integer, all string or all date interval. An integer item
--- is a value or an interval"; 'Numbers of refusal', 7 at the 17th item's first token, 8 at the token that starts the record, 9 at the later item's first
+-- Lists of integer items and of date intervals. Document 01, 'Constraint text': "items by comma, all integer, all string or all date interval";
+-- "An integer item is a value or an interval"; 'Numbers of refusal', 7 at the 17th item's first token, 8 at the token that starts the record, 9 at the later item's first
 -- token; "an item with a fault of its own, syntax too, overlaps nothing". Assumes nothing.
 use mathlib.Core.Bool.{Bool, true, false, cond, not, _&&_, _||_}
 use mathlib.Core.List.{List, [], _∷_}

@@ -1,5 +1,5 @@
 -- Lists of strings. Document 01, 'Constraint text': "string: `\"`, bytes 20 to 7E hex except `\"` and `\\`, `\"`"; "items by comma"; 'Numbers of refusal',
--- 4, 7, 8, 9 and 10 at the string. Its bytes go to the pool without the quotes. Assumes nothing.
+-- 4, 7, 8 and 9 at the string. Its bytes are kept without the quotes. Assumes nothing.
 use mathlib.Core.Bool.{cond}
 use mathlib.Core.List.{List, [], _∷_}
 use Prim.Native.Nat.{ℕ, zero, suc, _+_}
@@ -9,8 +9,8 @@ use Rattle.lexis.specs.Runs.{listed}
 use Rattle.lexis.specs.Spelling.{comma}
 use Rattle.lexis.specs.Tokens.{tokenAt, string, inner}
 use Rattle.lexis.specs.declared.Token.{Token}
-use Rattle.refusals.specs.Limits.{recordLimit, poolLimit, stringLimit}
-use Rattle.refusals.specs.declared.Cause.the-variants.{TooLong, TooManyItems, TooManyRecords, Overlap, PoolTooLarge}
+use Rattle.refusals.specs.Limits.{recordLimit, stringLimit}
+use Rattle.refusals.specs.declared.Cause.the-variants.{TooLong, TooManyItems, TooManyRecords, Overlap}
 use Rattle.refusals.specs.Reading.{Reading, got, refuse, andThen, unless}
 use Rattle.meaning.specs.Constraints.{Text}
 use Rattle.refusals.specs.Steps.{expect}
@@ -27,12 +27,11 @@ goOnStrings s x more p =
     let t = tokenAt s p in
     cond (eqb (t .sort) comma) (withText x (more (t .end))) (got (x ∷ []) p)
 
--- the strings from a place on, of which so many are left; `seen` are those before them, `number` is the next record's, `pool` the bytes in the pool
-unfoldable pub strings : List ℕ → ℕ → ℕ → ℕ → List (List ℕ) → ℕ → Reading (List Text)
-strings s zero number pool seen from = andThen (startString s from) (λ t p. refuse TooManyItems (t .start))
-strings s (suc left) number pool seen from =
+-- the strings from a place on, of which so many are left; `seen` are those before them, `number` is the next record's
+unfoldable pub strings : List ℕ → ℕ → ℕ → List (List ℕ) → ℕ → Reading (List Text)
+strings s zero number seen from = andThen (startString s from) (λ t p. refuse TooManyItems (t .start))
+strings s (suc left) number seen from =
     andThen (startString s from) (λ t p.
     unless (eqb number recordLimit) TooManyRecords (t .start)
     (unless (listed (inner s t) seen) Overlap (t .start)
-    (unless (ltb poolLimit (pool + length (inner s t))) PoolTooLarge (t .start)
-    (goOnStrings s (record { number = number; text = inner s t }) (strings s left (number + 1) (pool + length (inner s t)) (inner s t ∷ seen)) p))))
+    (goOnStrings s (record { number = number; text = inner s t }) (strings s left (number + 1) (inner s t ∷ seen)) p)))

@@ -21,9 +21,11 @@ use refusals::steps::syntax_fault;
 ghost use mathlib.Core.Path.{_≡_};
 ghost use Prim.Native.Nat.{_≤_};
 ghost use lib.ListN.{length};
+ghost use Rattle.lexis.specs.Tokens.{tokenAt};
+ghost use Rattle.lexis.specs.Postconditions.{TokenIs};
 ghost use Rattle.items.specs.Leaves.{isBoolean, booleanFlag, leaf};
 ghost use Rattle.items.specs.Answers.{LeafRoom, LeafIs};
-ghost use Rattle.items.specs.Parts.{ListRoom, secondBy, booleansBy, EveryIs, OneIs, RangeLeafIs, roomed, singleLeaf, stringLeaf};
+ghost use Rattle.items.specs.Parts.{ListRoom, secondBy, booleansBy, EveryIs, OneIs, roomed, singleLeaf, rangesLeaf, stringLeaf};
 
 // The first and the last sort of date patterns and of time patterns.
 const FIRST_DATE_PATTERN: u8 = 31;
@@ -145,7 +147,7 @@ fn single_leaf(s: &[u8], number: usize, t: Token) -> LeafRead
 // A list of integers or of dates.
 fn range_leaf(s: &[u8], number: usize, from: usize, scratch: &mut [u32; 32]) -> LeafRead
     requires { ⌜ ListRoom (now s) number from ⌝ }
-    ensures { λ r. ⌜ RangeLeafIs (now (s .entry)) number from (now (scratch .exit)) r ⌝ }
+    ensures { λ r. ⌜ LeafIs (now (s .entry)) number from (rangesLeaf (now (s .entry)) number from) (now (scratch .exit)) r ⌝ }
 {
     match read_ranges(s, number, from, scratch) {
         RangesRead::Faulty(fault) => {
@@ -161,17 +163,11 @@ fn range_leaf(s: &[u8], number: usize, from: usize, scratch: &mut [u32; 32]) -> 
 }
 
 // A list of strings.
-fn string_leaf(
-    s: &[u8],
-    number: usize,
-    pool: usize,
-    from: usize,
-    scratch: &mut [u32; 32],
-) -> LeafRead
-    requires { ⌜ LeafRoom (now s) number pool from ⌝ }
-    ensures { λ r. ⌜ LeafIs (now (s .entry)) number pool from (stringLeaf (now (s .entry)) number pool from) (now (scratch .exit)) r ⌝ }
+fn string_leaf(s: &[u8], number: usize, from: usize, scratch: &mut [u32; 32]) -> LeafRead
+    requires { ⌜ LeafRoom (now s) number from ⌝ }
+    ensures { λ r. ⌜ LeafIs (now (s .entry)) number from (stringLeaf (now (s .entry)) number from) (now (scratch .exit)) r ⌝ }
 {
-    match read_strings(s, number, pool, from, scratch) {
+    match read_strings(s, number, from, scratch) {
         StringsRead::Faulty(fault) => {
             return LeafRead::Faulty(fault);
         }
@@ -181,23 +177,23 @@ fn string_leaf(
     }
 }
 
-// A leaf from a place on, given the next record's number and the bytes in the pool.
+// A leaf from a place on, whose first token is t, given the next record's number.
 pub fn read_leaf(
     s: &[u8],
     number: usize,
-    pool: usize,
     from: usize,
+    t: Token,
     scratch: &mut [u32; 32],
 ) -> LeafRead
-    requires { ⌜ LeafRoom (now s) number pool from ⌝ }
-    ensures { λ r. ⌜ LeafIs (now (s .entry)) number pool from (leaf (now (s .entry)) number pool from) (now (scratch .exit)) r ⌝ }
+    requires { ⌜ LeafRoom (now s) number from ⌝ }
+    requires { ⌜ TokenIs (now s) from (tokenAt (now s) from) t ⌝ }
+    ensures { λ r. ⌜ LeafIs (now (s .entry)) number from (leaf (now (s .entry)) number from) (now (scratch .exit)) r ⌝ }
 {
-    let t = token_at(s, from);
     let sort = t.sort;
     match sort {
         INTEGER => range_leaf(s, number, from, scratch),
         BAR => range_leaf(s, number, from, scratch),
-        STRING => string_leaf(s, number, pool, from, scratch),
+        STRING => string_leaf(s, number, from, scratch),
         _ => single_leaf(s, number, t),
     }
 }

@@ -8,7 +8,6 @@ use lexis::tokens::token_at;
 use refusals::Cause;
 use refusals::Refusal;
 use refusals::limits::ITEM_LIMIT;
-use refusals::limits::POOL_LIMIT;
 use refusals::limits::RECORD_LIMIT;
 use refusals::limits::STRING_LIMIT;
 use refusals::steps::Expected;
@@ -29,11 +28,11 @@ ghost use Rattle.items.specs.Parts.{Before, StringStartIs, keptString, S
 // The bytes of a string's two quotes.
 const QUOTES: usize = 2;
 
-// A string that is in the scratch, with the number of its bytes: the last, or one with a comma and more behind it; or a refusal.
+// The place behind a string that is in the scratch: the last, or one with a comma and more behind it; or its refusal.
 pub enum StringRead {
     Faulty(Refusal),
-    Last { size: usize, next: usize },
-    More { size: usize, next: usize },
+    Last { next: usize },
+    More { next: usize },
 }
 
 // The number of a list's strings and the place behind it, or its refusal.
@@ -96,17 +95,16 @@ fn roomy_string(s: &[u8], number: usize, count: usize, from: usize) -> Expected
     }
 }
 
-// Puts a string's places into the scratch, if no earlier one is equal and the pool has room, and looks for a comma behind it.
+// Puts a string's places into the scratch, if no earlier one is equal, and looks for a comma behind it.
 fn keep_string(
     s: &[u8],
     number: usize,
     count: usize,
-    pool: usize,
     t: Token,
     scratch: &mut [u32; 32],
 ) -> StringRead
-    requires { ⌜ KeepString (now s) number count pool t (now scratch) ⌝ }
-    ensures { λ r. ⌜ StringIs (now (s .entry)) number count pool (keptString (now (s .entry)) number count pool (earlier (now (s .entry)) (now (scratch .entry)) 0 count) t (t .end)) (now (scratch .entry)) (now (scratch .exit)) r ⌝ }
+    requires { ⌜ KeepString (now s) number count t (now scratch) ⌝ }
+    ensures { λ r. ⌜ StringIs (now (s .entry)) number count (keptString (now (s .entry)) number count (earlier (now (s .entry)) (now (scratch .entry)) 0 count) t (t .end)) (now (scratch .entry)) (now (scratch .exit)) r ⌝ }
 {
     let place = t.start;
     let start = t.start + 1;
@@ -117,19 +115,12 @@ fn keep_string(
             place,
         });
     }
-    let size = stop - start;
-    if POOL_LIMIT < pool + size {
-        return StringRead::Faulty(Refusal {
-            cause: Cause::PoolTooLarge,
-            place,
-        });
-    }
     put(scratch, count, narrow(start), narrow(stop));
     let u = token_at(s, t.end);
     if u.sort == COMMA {
-        return StringRead::More { size, next: u.end };
+        return StringRead::More { next: u.end };
     }
-    StringRead::Last { size, next: t.end }
+    StringRead::Last { next: t.end }
 }
 
 // A string of a list behind so many others.
@@ -137,50 +128,41 @@ fn string_item(
     s: &[u8],
     number: usize,
     count: usize,
-    pool: usize,
     from: usize,
     scratch: &mut [u32; 32],
 ) -> StringRead
-    requires { ⌜ StringRoom (now s) number count pool from (now scratch) ⌝ }
-    ensures { λ r. ⌜ StringIs (now (s .entry)) number count pool (strings (now (s .entry)) (itemLimit - count) number pool (earlier (now (s .entry)) (now (scratch .entry)) 0 count) from) (now (scratch .entry)) (now (scratch .exit)) r ⌝ }
+    requires { ⌜ StringRoom (now s) number count from (now scratch) ⌝ }
+    ensures { λ r. ⌜ StringIs (now (s .entry)) number count (strings (now (s .entry)) (itemLimit - count) number (earlier (now (s .entry)) (now (scratch .entry)) 0 count) from) (now (scratch .entry)) (now (scratch .exit)) r ⌝ }
 {
     match roomy_string(s, number, count, from) {
         Expected::Fault(fault) => {
             return StringRead::Faulty(fault);
         }
         Expected::Taken(t) => {
-            return keep_string(s, number, count, pool, t, scratch);
+            return keep_string(s, number, count, t, scratch);
         }
     }
 }
 
 // The strings of a list.
-pub fn read_strings(
-    s: &[u8],
-    number: usize,
-    pool: usize,
-    from: usize,
-    scratch: &mut [u32; 32],
-) -> StringsRead
-    requires { ⌜ LeafRoom (now s) number pool from ⌝ }
-    ensures { λ r. ⌜ StringsIs (now (s .entry)) number pool from (now (scratch .exit)) r ⌝ }
+pub fn read_strings(s: &[u8], number: usize, from: usize, scratch: &mut [u32; 32]) -> StringsRead
+    requires { ⌜ LeafRoom (now s) number from ⌝ }
+    ensures { λ r. ⌜ StringsIs (now (s .entry)) number from (now (scratch .exit)) r ⌝ }
 {
-    let mut bytes = pool;
     let mut count: usize = 0;
     let mut at = from;
     loop {
-        match string_item(s, number + count, count, bytes, at, scratch) {
+        match string_item(s, number + count, count, at, scratch) {
             StringRead::Faulty(fault) => {
                 return StringsRead::Faulty(fault);
             }
-            StringRead::Last { size: _, next } => {
+            StringRead::Last { next } => {
                 return StringsRead::Strings {
                     count: count + 1,
                     next,
                 };
             }
-            StringRead::More { size, next } => {
-                bytes += size;
+            StringRead::More { next } => {
                 count += 1;
                 at = next;
             }

@@ -1,33 +1,46 @@
--- What holds of a reading: of its refusal, that the place is at most a bound; of a value, with the place behind it, a property. Assumes nothing.
+-- What holds of a reading: of its refusal a property, of a value, with the place behind it, another. Assumes nothing.
 use mathlib.Core.Path.{_≡_, refl}
 use mathlib.Core.Bool.{Bool, true, false, cond}
+use mathlib.Core.Logic.{_≢_}
+use mathlib.Core.List.{List}
 use Prim.Native.Nat.{ℕ, _≤_}
+use lib.ListN.{length}
 use Rattle.refusals.specs.Reading.{Reading, refused, got, refuse, andThen, unless}
+use Rattle.refusals.specs.Refusals.{numberOf, refusal}
 use Rattle.refusals.specs.declared.Cause.{Cause}
+use Rattle.refusals.specs.declared.Refusal.{Refusal}
 
-unfoldable pub Holds : {A : Type 0} → ℕ → (A → ℕ → Type 0) → Reading A → Type 0
-Holds bound P (refused r) = r .place ≤ bound
-Holds bound P (got a p) = P a p
+unfoldable pub Holds : {A : Type 0} → (Refusal → Type 0) → (A → ℕ → Type 0) → Reading A → Type 0
+Holds F P (refused r) = F r
+Holds F P (got a p) = P a p
 
-module _ {A : Type 0} (bound : ℕ) (P : A → ℕ → Type 0) where
-  pub refuse-holds : (cause : Cause) (place : ℕ) → place ≤ bound → Holds bound P (refuse cause place)
+-- a data text's refusal: its place lies in the text or at its end
+abbrev pub DataRefusal : List ℕ → Refusal → Type 0
+DataRefusal s r = r .place ≤ length s
+
+-- a constraint text's: the same, and its number is not 10
+abbrev pub ConstraintRefusal : List ℕ → Refusal → Type 0
+ConstraintRefusal s r = (r .place ≤ length s) × (numberOf (r .cause) ≢ 10)
+
+module _ {A : Type 0} (F : Refusal → Type 0) (P : A → ℕ → Type 0) where
+  pub refuse-holds : (cause : Cause) (place : ℕ) → F (refusal cause place) → Holds F P (refuse cause place)
   unfolding Holds
   refuse-holds cause place h = h
 
-  pub got-holds : (a : A) (p : ℕ) → P a p → Holds bound P (got a p)
+  pub got-holds : (a : A) (p : ℕ) → P a p → Holds F P (got a p)
   unfolding Holds
   got-holds a p h = h
 
-  pub cond-holds : (b : Bool) (x y : Reading A) → (b ≡ true → Holds bound P x) → (b ≡ false → Holds bound P y) → Holds bound P (cond b x y)
+  pub cond-holds : (b : Bool) (x y : Reading A) → (b ≡ true → Holds F P x) → (b ≡ false → Holds F P y) → Holds F P (cond b x y)
   cond-holds true x y f g = f refl
   cond-holds false x y f g = g refl
 
-  pub unless-holds : (fault : Bool) (cause : Cause) (place : ℕ) (more : Reading A) → place ≤ bound → (fault ≡ false → Holds bound P more) → Holds bound P (unless fault cause place more)
+  pub unless-holds : (fault : Bool) (cause : Cause) (place : ℕ) (more : Reading A) → F (refusal cause place) → (fault ≡ false → Holds F P more) → Holds F P (unless fault cause place more)
   unfolding Holds
   unless-holds true cause place more h k = h
   unless-holds false cause place more h k = k refl
 
-  pub then-holds : {B : Type 0} (Q : B → ℕ → Type 0) (r : Reading B) (go : B → ℕ → Reading A) → Holds bound Q r → ((b : B) (p : ℕ) → Q b p → Holds bound P (go b p)) → Holds bound P (andThen r go)
+  pub then-holds : {B : Type 0} (Q : B → ℕ → Type 0) (r : Reading B) (go : B → ℕ → Reading A) → Holds F Q r → ((b : B) (p : ℕ) → Q b p → Holds F P (go b p)) → Holds F P (andThen r go)
   unfolding Holds
   then-holds Q (refused x) go h k = h
   then-holds Q (got b p) go h k = k b p h
@@ -41,7 +54,7 @@ abbrev pub Reaches : {A : Type 0} → ℕ → ℕ → A → ℕ → Type 0
 Reaches low high a p = From low high p
 
 -- what follows from a property follows of what was read
-pub holds-map : {A : Type 0} (bound : ℕ) (P Q : A → ℕ → Type 0) (r : Reading A) → ((a : A) (p : ℕ) → P a p → Q a p) → Holds bound P r → Holds bound Q r
+pub holds-map : {A : Type 0} (F : Refusal → Type 0) (P Q : A → ℕ → Type 0) (r : Reading A) → ((a : A) (p : ℕ) → P a p → Q a p) → Holds F P r → Holds F Q r
 unfolding Holds
-holds-map bound P Q (refused x) f h = h
-holds-map bound P Q (got a p) f h = f a p h
+holds-map F P Q (refused x) f h = h
+holds-map F P Q (got a p) f h = f a p h

@@ -1,6 +1,6 @@
 //! Constraint texts, each with its tree or with its refusal's number and place.
 
-use super::items::{before, pool_fault};
+use super::items::before;
 use super::leaves::{in_texts, leaf_lists, left_out, sixteen};
 use super::table::{groups, inputs, made_inputs, Group, Inputs, Table};
 use super::{made, term};
@@ -43,11 +43,7 @@ pub fn tables() -> Vec<Table> {
         ),
         Table {
             groups: counted(),
-            ..table(
-                "CountTable",
-                "Objects from a count of records and of the pool's bytes on, at the limits of a table.",
-                &[],
-            )
+            ..table("CountTable", "Objects from a record's number on, at the limit of a table's records.", &[])
         },
         table("MadeTable", "Short texts from a generator with a fixed seed.", &made::constraint_texts()),
     ]
@@ -60,7 +56,7 @@ fn case(text: &[u8]) -> String {
     }
 }
 
-/// Objects whose records or bytes come to the limits of a table.
+/// Objects whose records come to the limit of a table.
 fn counted() -> Vec<Group> {
     let long_type = [TYPE_63, b"Z matches {*}"].concat();
     let long_name = [b"B matches {", NAME_63, b"Z matches {*}}"].concat();
@@ -80,47 +76,24 @@ fn counted() -> Vec<Group> {
         (b"B matches {b matches {1, 2} c matches {True, False}}", 2_042),
         (b"B matches {b matches {C matches {c matches {*}}} d matches {\"x\"}}", 2_043),
     ];
-    let pools: [(&[u8], usize); 14] = [
-        (b"B matches {*}", 16_383),
-        (b"B matches {*}", 16_384),
-        (b"B[at1] matches {*}", 16_380),
-        (b"B[at1] matches {*}", 16_381),
-        (b"B matches {b matches {*}}", 16_382),
-        (b"B matches {b matches {*}}", 16_383),
-        (b"B matches {b matches {*} b matches {*}}", 16_382),
-        (b"B matches {b matches {*} cd matches {*}}", 16_380),
-        (b"B matches {b matches {*} cd matches {*}}", 16_381),
-        (b"B[at1] matches {b matches {*}}", 16_379),
-        (b"B[at1] matches {b matches {*}}", 16_380),
-        (b"B matches {b matches {C[at2] matches {c matches {\"x\", \"\", \"yz\"}}} d matches {*}}", 16_373),
-        (b"B matches {b matches {C[at2] matches {c matches {\"x\", \"\", \"yz\"}}} d matches {*}}", 16_374),
-        (b"B matches {b matches {C[at2] matches {c matches {\"x\", \"\", \"yz\"}}} d matches {*}}", 16_375),
-    ];
-    vec![
-        Group {
-            about: "record 2,048",
-            cases: records.iter().map(|(text, number)| counted_case(text, *number, 0)).collect(),
-        },
-        Group {
-            about: "a pool above 16,384 bytes",
-            cases: pools.iter().map(|(text, pool)| counted_case(text, 3, *pool)).collect(),
-        },
-    ]
+    vec![Group {
+        about: "record 2,048",
+        cases: records.iter().map(|(text, number)| counted_case(text, *number)).collect(),
+    }]
 }
 
-/// An object that is no outermost one, from a count of records and of the pool's bytes on.
-fn counted_case(text: &[u8], number: u32, pool: usize) -> String {
+/// An object that is no outermost one, from a record's number on.
+fn counted_case(text: &[u8], number: u32) -> String {
     let front = before(number);
     let whole = [&front[..], text, b"}}"].concat();
-    let start = format!("{} {} {}", term::bytes(text), term::number(u64::from(number)), term::number(pool as u64));
+    let start = format!("{} {}", term::bytes(text), term::number(u64::from(number)));
     let own = |fault: Fault| Fault { place: fault.place - front.len() as u64, ..fault };
-    match (constraint::read(&whole).map_err(own), pool_fault(text, pool)) {
-        (Ok(tree), None) => match tree.objects[0].attributes.last().map(|last| &last.value) {
+    match constraint::read(&whole).map_err(own) {
+        Ok(tree) => match tree.objects[0].attributes.last().map(|last| &last.value) {
             Some(Value::Object(index)) => format!("acceptsFrom {start} {}", term::object(&tree, *index, term::bytes)),
             _ => panic!("no object in {}", term::bytes(text)),
         },
-        (Err(fault), Some(later)) if later.place < fault.place => format!("refusesFrom {start} {}", term::fault(later)),
-        (Err(fault), _) | (Ok(_), Some(fault)) => format!("refusesFrom {start} {}", term::fault(fault)),
+        Err(fault) => format!("refusesFrom {start} {}", term::fault(fault)),
     }
 }
 

@@ -1,12 +1,10 @@
-//! Leaves alone, each with what is read or with its refusal's number and place, given the number of the next
-//! record and the bytes in the pool.
+//! Leaves alone, each with what is read or with its refusal's number and place, given the number of the next record.
 
 use super::leaves::{alone, leaf_lists, left_out};
 use super::table::{groups, Group, Table};
 use super::term;
 use crate::constraint::{self, Leaf, Value};
 use crate::faults::Fault;
-use crate::limits;
 use crate::tokens::{token_at, Kind};
 
 const USES: &[&str] = &[
@@ -21,8 +19,8 @@ const USES: &[&str] = &[
 ];
 
 pub fn tables() -> Vec<Table> {
-    let mut lists = groups(&alone(leaf_lists(), b"}"), |text| case(text, 1, 0));
-    lists.extend(groups(&alone(left_out(), b"}"), |text| case(text, 1, 0)));
+    let mut lists = groups(&alone(leaf_lists(), b"}"), |text| case(text, 1));
+    lists.extend(groups(&alone(left_out(), b"}"), |text| case(text, 1)));
     lists.push(counted());
     vec![Table {
         holder: "items",
@@ -36,7 +34,7 @@ pub fn tables() -> Vec<Table> {
     }]
 }
 
-/// Leaves whose records or bytes come to the limits of a table.
+/// Leaves whose records come to the limit of a table.
 fn counted() -> Group {
     let records: [(&[u8], u32); 14] = [
         (b"5}", 2_047),
@@ -54,32 +52,15 @@ fn counted() -> Group {
         (b"Thh:mm:ss}", 2_048),
         (b"Thh:mm:ss}", 2_047),
     ];
-    let pools: [(&[u8], usize); 8] = [
-        (b"\"\"}", 16_384),
-        (b"\"a\"}", 16_384),
-        (b"\"a\"}", 16_383),
-        (b"\"ab\"}", 16_383),
-        (b"\"a\", \"b\"}", 16_383),
-        (b"\"a\", \"b\"}", 16_382),
-        (b"\"a\", \"a\"}", 16_383),
-        (b"5}", 16_384),
-    ];
-    let mut cases: Vec<String> = records.iter().map(|(text, number)| case(text, *number, 0)).collect();
-    cases.extend(pools.iter().map(|(text, pool)| case(text, 1, *pool)));
-    Group { about: "record 2,048, and a pool above 16,384 bytes", cases }
+    let cases = records.iter().map(|(text, number)| case(text, *number)).collect();
+    Group { about: "record 2,048", cases }
 }
 
-fn case(text: &[u8], number: u32, pool: usize) -> String {
-    let start = format!("{} {} {}", term::bytes(text), term::number(u64::from(number)), term::number(pool as u64));
-    let pooled = pool_fault(text, pool);
-    let own = match leaf_of(text, number) {
-        Ok(_) if pooled.is_none() => None,
-        Ok(_) => pooled,
-        Err(fault) => pooled.filter(|pooled| pooled.place < fault.place).or(Some(fault)),
-    };
-    match (own, leaf_of(text, number)) {
-        (None, Ok((leaf, end))) => format!("reads {start} {leaf} {end}"),
-        (Some(fault), _) | (None, Err(fault)) => format!("refuses {start} {}", term::fault(fault)),
+fn case(text: &[u8], number: u32) -> String {
+    let start = format!("{} {}", term::bytes(text), term::number(u64::from(number)));
+    match leaf_of(text, number) {
+        Ok((leaf, end)) => format!("reads {start} {leaf} {end}"),
+        Err(fault) => format!("refuses {start} {}", term::fault(fault)),
     }
 }
 
@@ -156,24 +137,5 @@ fn leaf_end(text: &[u8]) -> usize {
             return end;
         }
         end = token.end;
-    }
-}
-
-/// "10: pool above 16,384 | token". No text of 16,384 bytes comes to that, so the rule is written out here.
-pub fn pool_fault(text: &[u8], pool: usize) -> Option<Fault> {
-    let mut filled = pool;
-    let mut place = 0;
-    loop {
-        let token = token_at(text, place);
-        match token.kind {
-            Kind::End | Kind::Unreadable => return None,
-            Kind::Type | Kind::Name => filled += token.spelling(text).len(),
-            Kind::Code | Kind::String => filled += token.inner(text).len(),
-            _ => {}
-        }
-        if filled > limits::POOL {
-            return Some(Fault { number: 10, place: token.start as u64 });
-        }
-        place = token.end;
     }
 }

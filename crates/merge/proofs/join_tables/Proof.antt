@@ -1,6 +1,6 @@
 -- `merge::join_tables` meets its contract. Assumes nothing.
 use borrow.Author.Needs.{needs}
-use Rattle.merge.proofs.MergeSteps.{merge-steps}
+use Rattle.merge.proofs.MergeSteps.{merge-steps, join-large}
 use Rattle.merge.proofs.join_tables.Statement.{statement}
 use Rattle.merge.proofs.join_tables.Tie as tie
 
@@ -16,7 +16,7 @@ join-tables-spec =
     (λ c. search (merge-steps, needs))
     (λ c. search needs)
     (λ c κs. search needs)
-    (λ c. search (merge-steps, needs))
+    (λ c. search (join-large, needs))
     (λ c κs. search needs)
     (λ c κs. search needs)
     (λ c. search (merge-steps, needs))

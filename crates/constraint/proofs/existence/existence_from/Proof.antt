@@ -5,4 +5,4 @@ use Rattle.constraint.proofs.existence.existence_from.Statement.{statem
 use Rattle.constraint.proofs.existence.existence_from.Tie as tie
 
 pub existence-from-spec : {M : Type 1} → statement M
-existence-from-spec = tie.close (tie.spec (λ c κs. search needs) (λ c κs. search needs) (λ c. search (existence-steps, needs)) (λ c. search (existence-steps, needs)))
+existence-from-spec = tie.close (tie.spec (λ c κs. search needs) (λ c. search (existence-steps, needs)) (λ c. search (existence-steps, needs)))

@@ -7,4 +7,4 @@ use Rattle.constraint.proofs.existence.opening.Tie as tie
 pub opening-spec : {M : Type 1} → statement M
 opening-spec =
     tie.close
-    (tie.spec (λ c κs. search needs) (λ c. search needs) (λ c. search (existence-steps, needs)) (λ c. search needs) (λ c κs. search (existence-steps, needs)) (λ c. search (existence-steps, needs)))
+    (tie.spec (λ c. search needs) (λ c. search (existence-steps, needs)) (λ c κs. search needs) (λ c. search (existence-steps, needs)))

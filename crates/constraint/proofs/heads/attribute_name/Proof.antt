@@ -18,6 +18,4 @@ attribute-name-spec =
     (λ c. search (head-steps, needs))
     (λ c κs. search (head-steps, needs))
     (λ c. search (head-steps, needs))
-    (λ c. search (head-steps, needs))
-    (λ c κs. search needs)
     (λ c. search (head-steps, needs)))

@@ -6,4 +6,4 @@ use Rattle.constraint.proofs.heads.object_opening.Tie as tie
 
 pub object-opening-spec : {M : Type 1} → statement M
 object-opening-spec =
-    tie.close (tie.spec (λ c κs. search needs) (λ c. search needs) (λ c. search (opening-steps, needs)) (λ c. search needs) (λ c. search (opening-steps, needs)))
+    tie.close (tie.spec (λ c κs. search needs) (λ c κs. search needs) (λ c. search needs) (λ c. search (opening-steps, needs)) (λ c. search needs) (λ c. search (opening-steps, needs)))

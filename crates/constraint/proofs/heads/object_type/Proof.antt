@@ -17,6 +17,4 @@ object-type-spec =
     (λ c κs. search needs)
     (λ c. search (head-steps, needs))
     (λ c. search (head-steps, needs))
-    (λ c. search (head-steps, needs))
-    (λ c κs. search needs)
     (λ c. search (head-steps, needs)))

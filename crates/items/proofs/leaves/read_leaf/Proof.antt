@@ -12,7 +12,6 @@ read-leaf-spec =
     (λ c κs. search needs)
     (λ c κs. search needs)
     (λ c κs. search needs)
-    (λ c κs. search needs)
     (λ c. search leaf-integers)
     (λ c. search leaf-intervals)
     (λ c. search leaf-strings)

@@ -1,6 +1,6 @@
 -- `items::strings::keep_string` meets its contract. Assumes nothing.
 use borrow.Author.Needs.{needs}
-use Rattle.items.proofs.StringSteps.{keep-equal, keep-full, keep-comma, keep-end}
+use Rattle.items.proofs.StringSteps.{keep-equal, keep-comma, keep-end}
 use Rattle.items.proofs.strings.keep_string.Statement.{statement}
 use Rattle.items.proofs.strings.keep_string.Tie as tie
 
@@ -12,9 +12,6 @@ keep-string-spec =
     (λ c. search needs)
     (λ c κs. search needs)
     (λ c. search keep-equal)
-    (λ c. search needs)
-    (λ c. search needs)
-    (λ c. search keep-full)
     (λ c κs. search needs)
     (λ c κs. search needs)
     (λ c κs. search needs)
