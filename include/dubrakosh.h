@@ -2,7 +2,7 @@
  *
  * Every function takes any bytes whatever, answers, and returns 0 or a number of document 01:
  *
- *    1  text over 16,384 bytes                    10  pool above 16,384 bytes
+ *    1  text over 16,384 bytes                    10  pool above 16,384 bytes (merging)
  *    2  syntax                                    11  output too short
  *    3  17th level of object or block             12  not a table: length, header, root
  *    4  type, name, code or string too long       13  record breaks a rule

@@ -89,8 +89,8 @@ pub const NUMBERS: [Number; 19] = [
     Number {
         number: 10,
         title: "too many bytes of names",
-        meaning: "The merged tables have more than 16,384 bytes of types, codes, names and strings.",
-        place: "0 for a merge; for compiling the token, but no text is long enough for that.",
+        meaning: "Two tables to be merged have together more than 16,384 bytes of types, codes, names and strings. Merging alone tells it.",
+        place: "0.",
         advice: "Merge fewer tables into one image.",
     },
     Number {

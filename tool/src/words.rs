@@ -38,7 +38,6 @@ fn of_text(number: u32, text: &[u8], place: usize) -> String {
         6 => "empty interval".to_string(),
         7 => "17th item".to_string(),
         8 => "record 2,048 needed, which no table has".to_string(),
-        10 => "names above 16,384 bytes".to_string(),
         11 => "output too short".to_string(),
         _ => "refused".to_string(),
     }

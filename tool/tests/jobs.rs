@@ -363,6 +363,11 @@ fn explain_explains() {
         Place: The value's <. The record is the first item.\n\
         What to do: Check the value. If it is right, the form was judged at the wrong root, or the constraint is too narrow.\n";
     folder.run("explain 24").answers(0, explained);
+    let merging_alone = "10: too many bytes of names\n\
+        When: Two tables to be merged have together more than 16,384 bytes of types, codes, names and strings. Merging alone tells it.\n\
+        Place: 0.\n\
+        What to do: Merge fewer tables into one image.\n";
+    folder.run("explain 10").answers(0, merging_alone);
     for number in (1..=14).chain(20..=24) {
         let ran = folder.run(&format!("explain {number}"));
         assert_eq!((ran.status, ran.err.as_str()), (0, ""));

@@ -157,7 +157,8 @@ fn table(cursor: &mut Cursor, names: &Names) -> Result<Given, String> {
     let source = if cursor.takes_word("B") {
         Source::Bytes(tables::B.to_vec())
     } else if cursor.takes_word("T") {
-        Source::Bytes(tables::made(&cursor.quoted("pool and records")?)?)
+        let written = String::from_utf8(joined(cursor, names)?).map_err(|_| String::from("T is no text"))?;
+        Source::Bytes(tables::made(&written)?)
     } else if cursor.takes_word("no") {
         cursor.phrase("bytes")?;
         Source::Bytes(Vec::new())

@@ -217,6 +217,8 @@ fn inputs_that_cannot_be_read_are_failures() {
     line_failing("check T `A | 1.0 0 1 0 0`: passed", "`1.0 0 1 0 0` is no record");
     line_failing("check T `A | 1.0 0 1 0 0 0 0`: passed", "is no record");
     line_failing("check T `A | 256.0 0 1 0 0 0`: passed", "is no record");
+    line_failing("check T `A` × 2 + `B`: passed", "`AAB` has no record");
+    line_failing("check T hex FF: passed", "T is no text");
     line_failing("check B with byte 0: passed", "`=` is expected");
     line_failing("check B with byte 0 = 0: passed", "a byte in hex is expected");
     line_failing("check B with byte 0 = 00 00: passed", "byte 0 is set to more than one byte");
