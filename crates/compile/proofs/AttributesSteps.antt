@@ -13,26 +13,28 @@ use Rattle.lexis.specs.Runs.{part}
 use Rattle.lexis.specs.Spelling.{closeBrace}
 use Rattle.lexis.specs.Tokens.{tokenAt}
 use Rattle.lexis.proofs.Stores.{sets-behind}
-use Rattle.refusals.specs.Reading.{Reading, refused, got, andThen}
+use Rattle.refusals.specs.Reading.{Reading, refused, got, readThen}
 use Rattle.refusals.specs.declared.Refusal.{Refusal}
 use Rattle.refusals.proofs.Readings.{Holds}
 use Rattle.meaning.specs.Constraints.{Attributes, noMore, attribute}
 use Rattle.meaning.specs.Counting.{attributePool, valuePool, valueRecords}
-use Rattle.items.specs.Spans.{firstOf, secondOf, spanAt, latest, earlier, Within}
-use Rattle.items.specs.Parts.{Kept}
-use Rattle.items.proofs.ItemLaws.{first-kept, second-kept, all-kept}
-use Rattle.constraint.specs.Objects.{value, Attribute, past, goOn, attributes, objectFrom}
-use Rattle.constraint.proofs.TreeReading.{AttributeRead, attribute-holds, object-holds}
+use Rattle.cadl_items.specs.contracts.Spans.{firstOf, secondOf, spanAt, latest, earlier, Within}
+use Rattle.cadl_items.specs.contracts.Items.{Kept}
+use Rattle.cadl_items.proofs.ItemLaws.{first-kept, second-kept, all-kept}
+use Rattle.cadl_objects.specs.Objects.{Attribute, past, headOf}
+use Rattle.cadl_objects.proofs.TreeParts.{goOn}
+use Rattle.cadl_objects.specs.contracts.Told.{value, attributes}
+use Rattle.cadl_objects.proofs.TreeReading.{AttributeRead, attribute-holds}
 use Rattle.table.specs.Records.{Record, recordSize, encodes}
-use Rattle.flatten.specs.Flatten.{attributesLink, valueLink, attributesTable, valueTable}
-use Rattle.emission.specs.Answers.{spot, Wrote, wrote, written, Room, attributeRow, attributeWrote}
-use Rattle.compile.specs.Answers.{TreeIs, Stacked, attributeWritten, Pushed, AttributeIs, AttributeRoom}
-use Rattle.emission.specs.declared.spots.Spot.{Spot}
-use Rattle.emission.specs.declared.spots.TreeRead.the-variants.{Refused, Read}
-use Rattle.emission.specs.declared.spots.AttributeRead as attributeReads
-use Rattle.emission.specs.declared.spots.AttributeRead.the-variants as attributeRead
-use Rattle.flatten.proofs.FlattenLaws.{value-length}
-use Rattle.emission.proofs.TreeWriting.{five-value, rows-behind, pool-below}
+use Rattle.compile_flatten.specs.Flatten.{attributesLink, valueLink, attributesTable, valueTable}
+use Rattle.compile_emission.specs.contracts.Answers.{spot, Wrote, wrote, written, Room, attributeRow, attributeWrote}
+use Rattle.compile.specs.contracts.Answers.{TreeIs, Stacked, attributeWritten, Pushed, AttributeIs, AttributeRoom}
+use Rattle.compile_emission.specs.declared.spots.Spot.{Spot}
+use Rattle.compile_emission.specs.declared.spots.TreeRead.the-variants.{Refused, Read}
+use Rattle.compile_emission.specs.declared.spots.AttributeRead as attributeReads
+use Rattle.compile_emission.specs.declared.spots.AttributeRead.the-variants as attributeRead
+use Rattle.compile_flatten.proofs.FlattenLaws.{value-length}
+use Rattle.compile_emission.proofs.TreeWriting.{counted-value, rows-behind, pool-below}
 use Rattle.compile.proofs.ReadingLaws.{Linked, linked, turn}
 use Rattle.compile.proofs.AttributeSteps.{AttributeOf, kept-both}
 
@@ -47,12 +49,17 @@ record IsAttribute (s : List ℕ) (little : Bool) (p : Spot) (rs bs rs' bs' : Li
   pub at : ℕ
   pub is : x ≡ got a at
   pub sort : eqb (tokenAt s at .sort) closeBrace ≡ last
-  pub spot : q ≡ spot (cond last (tokenAt s at .end) at) (p .next + 1 + length (valueTable (a .value) (p .pool + length (a .name)))) (p .pool + length (a .name) + length (valuePool (a .value)))
-  pub records : rs' ≡ sets rs (recordSize * p .next) (encodes little (attributeRow (a .existence) (a .name) (p .pool) (valueLink (a .value)) (cond last 0 (p .next + 1 + length (valueTable (a .value) (p .pool + length (a .name))))) ∷ valueTable (a .value) (p .pool + length (a .name))))
+  pub spot : q ≡ spot (cond last (tokenAt s at .end) at)
+      (p .next + 1 + length (valueTable (a .value) (p .pool + length (a .name))))
+      (p .pool + length (a .name) + length (valuePool (a .value)))
+  pub records : rs' ≡ sets rs (recordSize * p .next)
+      (encodes little (attributeRow (a .existence) (a .name) (p .pool) (valueLink (a .value)) (cond last 0 (p .next + 1 + length (valueTable (a .value) (p .pool + length (a .name))))) ∷ valueTable (a .value) (p .pool + length (a .name))))
   pub bytes : bs' ≡ sets bs (p .pool) (a .name ++ valuePool (a .value))
 
 module _ (s : List ℕ) (little : Bool) (p : Spot) (rs bs rs' bs' : List ℕ) where
-  is-attribute : (last : Bool) (q : Spot) (x : Reading Attribute) → attributeWrote (ended last q) rs' bs' ≡ attributeWritten s little p rs bs x → IsAttribute s little p rs bs rs' bs' last q x
+  is-attribute : (last : Bool) (q : Spot) (x : Reading Attribute)
+      → attributeWrote (ended last q) rs' bs' ≡ attributeWritten s little p rs bs x
+      → IsAttribute s little p rs bs rs' bs' last q x
   unfolding attributeWritten
   is-attribute true q (refused x) e =
       let o : attributeRead.Last q ≡ attributeRead.Refused x = ap (λ (w : Wrote attributeReads.AttributeRead). w .answer) e in
@@ -95,21 +102,24 @@ module _ (s : List ℕ) (little : Bool) (p : Spot) (rs bs rs' bs' : List ℕ) wh
           let z : _≡_ {A = ℕ} 0 1 = cc in
           absurd (omega arith)
 
-  is-not : (y : Refusal) (x : Reading Attribute) → attributeWrote (attributeRead.Refused y) rs' bs' ≡ attributeWritten s little p rs bs x → x ≡ refused y
+  is-not : (y : Refusal) (x : Reading Attribute)
+      → attributeWrote (attributeRead.Refused y) rs' bs' ≡ attributeWritten s little p rs bs x → x ≡ refused y
   unfolding attributeWritten
   is-not y (refused x) e = let o : attributeRead.Refused y ≡ attributeRead.Refused x = ap (λ (w : Wrote attributeReads.AttributeRead). w .answer) e in cc
   is-not y (got a at) e = by _ _ (eqb (tokenAt s at .sort) closeBrace) (ap (λ (w : Wrote attributeReads.AttributeRead). w .answer) e)
     where
-      by : (u v : Spot) (b : Bool) → attributeRead.Refused y ≡ cond b (attributeRead.Last u) (attributeRead.More v) → got a at ≡ refused y
+      by : (u v : Spot) (b : Bool) → attributeRead.Refused y ≡ cond b (attributeRead.Last u) (attributeRead.More v)
+          → got a at ≡ refused y
       by u v true o = let z : _≡_ {A = ℕ} 0 1 = cc in absurd (omega arith)
       by u v false o = let z : _≡_ {A = ℕ} 0 1 = cc in absurd (omega arith)
 
 -- an attribute that is written, and the attributes behind it
-step : (little : Bool) (p : Spot) (a : Attribute) (place link : ℕ) (rs bs : List ℕ) (rest : Reading Attributes) → ((xs : Attributes) (at : ℕ) → rest ≡ got xs at → attributesLink xs ≡ link)
+step : (little : Bool) (p : Spot) (a : Attribute) (place link : ℕ) (rs bs : List ℕ) (rest : Reading Attributes)
+    → ((xs : Attributes) (at : ℕ) → rest ≡ got xs at → attributesLink xs ≡ link)
     → written attributesTable attributePool little (spot place (p .next + 1 + length (valueTable (a .value) (p .pool + length (a .name)))) (p .pool + length (a .name) + length (valuePool (a .value))))
     (sets rs (recordSize * p .next) (encodes little (attributeRow (a .existence) (a .name) (p .pool) (valueLink (a .value)) link ∷ valueTable (a .value) (p .pool + length (a .name)))))
     (sets bs (p .pool) (a .name ++ valuePool (a .value))) rest
-    ≡ written attributesTable attributePool little p rs bs (andThen rest (λ xs at. got (attribute (p .next) (a .existence) (a .name) (a .value) xs) at))
+    ≡ written attributesTable attributePool little p rs bs (readThen rest (λ xs at. got (attribute (headOf (p .next) a) (a .value) xs) at))
 unfolding written attributesTable attributePool
 step little p a place link rs bs (refused x) h = refl
 step little p a place link rs bs (got xs at) h =
@@ -123,7 +133,7 @@ step little p a place link rs bs (got xs at) h =
     let n : next + length more ≡ p .next + suc (length (table ++ more)) = simp length-append (omega arith) in
     let m : pool + length (attributePool xs) ≡ p .pool + length (w ++ (valuePool v ++ attributePool xs)) = simp length-append (omega arith) in
     let r : sets (sets rs (recordSize * p .next) (encodes little (row link ∷ table))) (recordSize * next) (encodes little more) ≡ sets rs (recordSize * p .next) (encodes little (row link ∷ (table ++ more)))
-    = rows-behind little (row link ∷ table) more (p .next) next rs (refl, five-value v (p .pool + length w)) (omega arith) in
+    = rows-behind little (row link ∷ table) more (p .next) next rs (refl, counted-value v (p .pool + length w)) (omega arith) in
     let l : p .pool + length (w ++ valuePool v) ≡ pool = simp length-append (omega arith) in
     let b : sets (sets bs (p .pool) (w ++ valuePool v)) pool (attributePool xs) ≡ sets bs (p .pool) (w ++ (valuePool v ++ attributePool xs))
     = sets-behind (w ++ valuePool v) (attributePool xs) bs (p .pool) pool l ∙ ap (λ (y : List ℕ). sets bs (p .pool) y) (append-assoc w (valuePool v) (attributePool xs)) in
@@ -135,12 +145,14 @@ step little p a place link rs bs (got xs at) h =
     }
 
 -- no more attributes: nothing more is written
-none-more : (little : Bool) (place next pool : ℕ) (rs bs : List ℕ) → wrote (Read (spot place next pool)) rs bs ≡ written attributesTable attributePool little (spot place next pool) rs bs (got noMore place)
+none-more : (little : Bool) (place next pool : ℕ) (rs bs : List ℕ)
+    → wrote (Read (spot place next pool)) rs bs ≡ written attributesTable attributePool little (spot place next pool) rs bs (got noMore place)
 unfolding written attributesTable attributePool
 none-more little place next pool rs bs = rw (add-zero, add-zero)
 
 -- names that are kept, and one more
-latest-kept : {A : Type 0} (f g : ℕ → A) (first n : ℕ) → ((j : ℕ) → j < first + n → f j ≡ g j) → latest f first n ≡ latest g first n
+latest-kept : {A : Type 0} (f g : ℕ → A) (first n : ℕ) → ((j : ℕ) → j < first + n → f j ≡ g j)
+    → latest f first n ≡ latest g first n
 unfolding latest
 latest-kept f g first zero h = refl
 latest-kept f g first (suc n) h =
@@ -148,7 +160,8 @@ latest-kept f g first (suc n) h =
     let b = latest-kept f g first n (λ j l. h j (omega arith)) in
     rw (a, b)
 
-module _ {s : List ℕ} {first top : ℕ} {names names' : List ℕ} {w : List ℕ} (order : first ≤ top) (k : Kept top names names') (h : Pushed s names' top w) where
+module _ {s : List ℕ} {first top : ℕ} {names names' : List ℕ} {w : List ℕ} (order : first ≤ top)
+    (k : Kept top names names') (h : Pushed s names' top w) where
   names-more : earlier s names' first (top + 1) ≡ w ∷ earlier s names first top
   unfolding latest
   names-more =
@@ -158,7 +171,8 @@ module _ {s : List ℕ} {first top : ℕ} {names names' : List ℕ} {w : List �
       let c = latest-kept (spanAt s names') (spanAt s names) first n (λ j l i. part s (first-kept top names names' k j (omega arith) i) (second-kept top names names' k j (omega arith) i)) in
       rw (a, b, h .is, c)
 
-  lies-more : ((i : ℕ) → first ≤ i → i < top → Within s (firstOf names i) (secondOf names i)) → (i : ℕ) → first ≤ i → i < top + 1 → Within s (firstOf names' i) (secondOf names' i)
+  lies-more : ((i : ℕ) → first ≤ i → i < top → Within s (firstOf names i) (secondOf names i)) → (i : ℕ) → first ≤ i
+      → i < top + 1 → Within s (firstOf names' i) (secondOf names' i)
   lies-more v i a b = lies i (decLt i top) a b
     where
       lies : (i : ℕ) → Dec (i < top) → first ≤ i → i < top + 1 → Within s (firstOf names' i) (secondOf names' i)
@@ -172,10 +186,11 @@ pub record InAttributes (s : List ℕ) (little : Bool) (levels : ℕ) (p : Spot)
   pub order : first ≤ top
   pub enough : length s < q .place + fuel
   pub kept : Kept first names₀ names
-  pub is : written attributesTable attributePool little q rs bs (attributes s (objectFrom s levels) fuel (earlier s names first top) (q .next) (q .place))
-      ≡ written attributesTable attributePool little p rs₀ bs₀ (attributes s (objectFrom s levels) (length s + 1) [] (p .next) (p .place))
+  pub is : written attributesTable attributePool little q rs bs (attributes s levels fuel (earlier s names first top) (q .next) (q .place))
+      ≡ written attributesTable attributePool little p rs₀ bs₀ (attributes s levels (length s + 1) [] (p .next) (p .place))
 
-pub attributes-start : (s : List ℕ) (little : Bool) (levels : ℕ) {p : Spot} {first : ℕ} (rs bs names : List ℕ) → Stacked s p first → InAttributes s little levels p first rs bs names p first rs bs names
+pub attributes-start : (s : List ℕ) (little : Bool) (levels : ℕ) {p : Spot} {first : ℕ} (rs bs names : List ℕ)
+    → Stacked s p first → InAttributes s little levels p first rs bs names p first rs bs names
 unfolding latest
 attributes-start s little levels {first = first} rs bs names h =
     let e : first - first ≡ 0 = omega arith in
@@ -191,7 +206,7 @@ attributes-start s little levels {first = first} rs bs names h =
 module _ {s : List ℕ} {little : Bool} {levels : ℕ} {p : Spot} {first : ℕ} {rs₀ bs₀ names₀ : List ℕ} {q : Spot} {top : ℕ} {rs bs names : List ℕ} (inv : InAttributes s little levels p first rs₀ bs₀ names₀ q top rs bs names)
     {names' rs' bs' : List ℕ} {r : attributeReads.AttributeRead} (d : AttributeIs s little levels q first top names rs bs names' rs' bs' r) where
   abbrev Whole : Reading Attributes
-  Whole = attributes s (objectFrom s levels) (length s + 1) [] (p .next) (p .place)
+  Whole = attributes s levels (length s + 1) [] (p .next) (p .place)
 
   abbrev Here : ℕ
   Here = q .next
@@ -199,15 +214,16 @@ module _ {s : List ℕ} {little : Bool} {levels : ℕ} {p : Spot} {first : ℕ} 
   still : Kept first names₀ names'
   still = kept-both (inv .order) (inv .kept) (d .kept)
 
-  one-turn : attributes s (objectFrom s levels) (inv .fuel) (earlier s names first top) Here (q .place)
-      ≡ andThen (AttributeOf s levels q first top names) (λ a at. goOn s Here a (attributes s (objectFrom s levels) (inv .fuel - 1) (a .name ∷ earlier s names first top) (past Here a)) at)
-  one-turn = turn s (objectFrom s levels) (inv .fuel) (earlier s names first top) Here (q .place) (let a = inv .enough in let b = inv .room .stacked .room .inside in omega arith)
+  one-turn : attributes s levels (inv .fuel) (earlier s names first top) Here (q .place)
+      ≡ readThen (AttributeOf s levels q first top names) (λ a at. goOn s Here a (attributes s levels (inv .fuel - 1) (a .name ∷ earlier s names first top) (past Here a)) at)
+  one-turn = turn s levels (inv .fuel) (earlier s names first top) Here (q .place) (let a = inv .enough in let b = inv .room .stacked .room .inside in omega arith)
 
-  pub attributes-not : (x : Refusal) → r ≡ attributeRead.Refused x → TreeIs first names₀ names' (written attributesTable attributePool little p rs₀ bs₀ Whole) rs' bs' (Refused x)
+  pub attributes-not : (x : Refusal) → r ≡ attributeRead.Refused x
+      → TreeIs first names₀ names' (written attributesTable attributePool little p rs₀ bs₀ Whole) rs' bs' (Refused x)
   unfolding written
   attributes-not x g =
       let f = is-not s little q rs bs rs' bs' x (AttributeOf s levels q first top names) (rw g at (d .is)) in
-      let t : attributes s (objectFrom s levels) (inv .fuel) (earlier s names first top) Here (q .place) ≡ refused x = one-turn ∙ rw f in
+      let t : attributes s levels (inv .fuel) (earlier s names first top) Here (q .place) ≡ refused x = one-turn ∙ rw f in
       record { is = rw t at (inv .is); kept = still }
 
   module _ (last : Bool) (z : Spot) (g : r ≡ ended last z) where
@@ -215,22 +231,25 @@ module _ {s : List ℕ} {little : Bool} {levels : ℕ} {p : Spot} {first : ℕ} 
     read = is-attribute s little q rs bs rs' bs' last z (AttributeOf s levels q first top names) (rw g at (d .is))
 
     abbrev Rest : Reading Attributes
-    Rest = attributes s (objectFrom s levels) (inv .fuel - 1) (read .a .name ∷ earlier s names first top) (past Here (read .a)) (read .at)
+    Rest = attributes s levels (inv .fuel - 1) (read .a .name ∷ earlier s names first top) (past Here (read .a)) (read .at)
 
-    turned : attributes s (objectFrom s levels) (inv .fuel) (earlier s names first top) Here (q .place) ≡ goOn s Here (read .a) (attributes s (objectFrom s levels) (inv .fuel - 1) (read .a .name ∷ earlier s names first top) (past Here (read .a))) (read .at)
+    turned : attributes s levels (inv .fuel) (earlier s names first top) Here (q .place) ≡ goOn s Here (read .a)
+        (attributes s levels (inv .fuel - 1) (read .a .name ∷ earlier s names first top) (past Here (read .a)))
+        (read .at)
     turned = one-turn ∙ rw (read .is)
 
     read-in : AttributeRead s (q .next) (q .place) (read .a) (read .at)
     unfolding Holds
-    read-in = rw (read .is) at (attribute-holds s (objectFrom s levels) (object-holds s levels) (earlier s names first top) Here (q .place) (inv .room .stacked .room .inside))
+    read-in = rw (read .is) at (attribute-holds s levels Here (q .place) (inv .room .stacked .room .inside) (earlier s names first top))
 
-  pub attributes-last : (z : Spot) → r ≡ attributeRead.Last z → TreeIs first names₀ names' (written attributesTable attributePool little p rs₀ bs₀ Whole) rs' bs' (Read z)
+  pub attributes-last : (z : Spot) → r ≡ attributeRead.Last z
+      → TreeIs first names₀ names' (written attributesTable attributePool little p rs₀ bs₀ Whole) rs' bs' (Read z)
   unfolding written attributesTable attributePool
   attributes-last z g =
       let e = read true z g in
       let a = e .a in
       let t = tokenAt s (e .at) in
-      let f : attributes s (objectFrom s levels) (inv .fuel) (earlier s names first top) Here (q .place) ≡ got (attribute (q .next) (a .existence) (a .name) (a .value) noMore) (t .end) = turned true z g ∙ rw (e .sort) in
+      let f : attributes s levels (inv .fuel) (earlier s names first top) Here (q .place) ≡ got (attribute (headOf (q .next) a) (a .value) noMore) (t .end) = turned true z g ∙ rw (e .sort) in
       let n = q .next + 1 + length (valueTable (a .value) (q .pool + length (a .name))) in
       let m = q .pool + length (a .name) + length (valuePool (a .value)) in
       let w = step little q a (t .end) 0 rs bs (got noMore (t .end)) (λ xs at k. let j : noMore ≡ xs = cc in rw (← j)) in
@@ -278,26 +297,28 @@ module _ {s : List ℕ} {little : Bool} {levels : ℕ} {p : Spot} {first : ℕ} 
         let n : z .next ≡ q .next + 1 + length (valueTable (a .value) (q .pool + length (a .name))) = ap (λ (y : Spot). y .next) (e .spot) in
         let few : top + 1 ≤ z .next = let f = inv .room .stacked .few in omega arith in
         let rest = Rest false z g in
-        let lk : Linked (q .next + 1 + valueRecords (a .value)) rest = linked s (objectFrom s levels) (inv .fuel - 1) (a .name ∷ earlier s names first top) (past Here a) (e .at) in
+        let lk : Linked (q .next + 1 + valueRecords (a .value)) rest = linked s levels (inv .fuel - 1) (a .name ∷ earlier s names first top) (past Here a) (e .at) in
         let next = q .next + 1 + length (valueTable (a .value) (q .pool + length (a .name))) in
         let pool = q .pool + length (a .name) + length (valuePool (a .value)) in
-        let t : attributes s (objectFrom s levels) (inv .fuel) (earlier s names first top) Here (q .place) ≡ andThen rest (λ xs at. got (attribute (q .next) (a .existence) (a .name) (a .value) xs) at) = turned false z g ∙ rw (e .sort) in
+        let t : attributes s levels (inv .fuel) (earlier s names first top) Here (q .place) ≡ readThen rest (λ xs at. got (attribute (headOf (q .next) a) (a .value) xs) at) = turned false z g ∙ rw (e .sort) in
         let w = step little q a (e .at) next rs bs rest (λ xs at y. by rest lk xs at y ∙ ap (λ (j : ℕ). q .next + 1 + j) (sym l)) in
-        let same : attributes s (objectFrom s levels) (inv .fuel - 1) (earlier s names' first (top + 1)) next (e .at) ≡ rest
-        = λ i. attributes s (objectFrom s levels) (inv .fuel - 1) (seen-next i) (q .next + 1 + l i) (e .at) in
+        let same : attributes s levels (inv .fuel - 1) (earlier s names' first (top + 1)) next (e .at) ≡ rest
+        = λ i. attributes s levels (inv .fuel - 1) (seen-next i) (q .next + 1 + l i) (e .at) in
         record {
           fuel = inv .fuel - 1;
           room = record { stacked = record { room = behind; few = few }; lies = lies-more (inv .order) (d .kept) (d .pushed _ _ (e .is)) (inv .room .lies) };
           order = let o = inv .order in omega arith;
           enough = let f = inv .enough in let c = k .least in omega arith;
           kept = still;
-          is = (λ i. written attributesTable attributePool little (e .spot i) (e .records i) (e .bytes i) (attributes s (objectFrom s levels) (inv .fuel - 1) (earlier s names' first (top + 1)) (e .spot i .next) (e .spot i .place)))
+          is = (λ i. written attributesTable attributePool little (e .spot i) (e .records i) (e .bytes i) (attributes s levels (inv .fuel - 1) (earlier s names' first (top + 1)) (e .spot i .next) (e .spot i .place)))
               ∙ ap (written attributesTable attributePool little (spot (e .at) next pool) _ _) same ∙ w ∙ rw t at (inv .is);
         }
       where
-        by : {n : ℕ} (x : Reading Attributes) → Linked n x → (xs : Attributes) (at : ℕ) → x ≡ got xs at → attributesLink xs ≡ n
+        by : {n : ℕ} (x : Reading Attributes) → Linked n x → (xs : Attributes) (at : ℕ) → x ≡ got xs at
+            → attributesLink xs ≡ n
         by (refused y) l xs at f = let z : _≡_ {A = ℕ} 0 1 = cc in absurd (omega arith)
         by (got ys y) l xs at f = let z : ys ≡ xs = cc in rw (← z) l
 
-pub attributes-fits : {s : List ℕ} {q : Spot} {first top : ℕ} {names : List ℕ} → AttributeRoom s q first top names → top ≤ 2_048
+pub attributes-fits : {s : List ℕ} {q : Spot} {first top : ℕ} {names : List ℕ} → AttributeRoom s q first top names
+    → top ≤ 2_048
 attributes-fits h = let a = h .stacked .few in let b = h .stacked .room .records in omega arith

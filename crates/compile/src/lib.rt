@@ -4,15 +4,19 @@ mod output;
 
 use crate::objects::read_object;
 use crate::output::finish;
-use emission::spots::Spot;
-use emission::spots::TreeRead;
+use compile_emission::spots::NAMES_ROOM;
+use compile_emission::spots::Spot;
+use compile_emission::spots::TreeRead;
 use refusals::Cause;
 use refusals::Refusal;
 use refusals::limits::LEVEL_LIMIT;
 use refusals::limits::TEXT_LIMIT;
+use table::layout::POOL_ROOM;
+use table::layout::RECORDS_ROOM;
 ghost use mathlib.Core.Path.{_≡_};
-ghost use Rattle.compile.specs.Answer.{compiling, compileAnswer};
-ghost use Rattle.compile.specs.Answers.{answerOf};
+ghost use Rattle.refusals.specs.Outcomes.{answered};
+ghost use Rattle.compile.specs.Compile.{compileAnswer};
+ghost use Rattle.compile.specs.contracts.Answers.{answerOf};
 
 // What compiling answers: the table's length, or why the text is refused.
 pub enum CompileResult {
@@ -22,7 +26,8 @@ pub enum CompileResult {
 
 // Compiles a constraint text into a table in the order asked, with the lowest byte first where `little` holds. A refusal changes no byte of the output.
 pub fn compile(text: &[u8], little: bool, out: &mut [u8]) -> CompileResult
-    ensures { λ r. ⌜ compiling (answerOf r) (now (out .exit)) ≡ compileAnswer (now (text .entry)) little (now (out .entry)) ⌝ }
+    ensures { λ r. ⌜ answered (answerOf r) (now (out .exit))
+        ≡ compileAnswer (now (text .entry)) little (now (out .entry)) ⌝ }
 {
     if TEXT_LIMIT < text.len() {
         return CompileResult::Refused(Refusal {
@@ -30,9 +35,9 @@ pub fn compile(text: &[u8], little: bool, out: &mut [u8]) -> CompileResult
             place: TEXT_LIMIT,
         });
     }
-    let mut records: [u8; 49152] = [0; 49152];
-    let mut bytes: [u8; 16384] = [0; 16384];
-    let mut names: [u32; 4096] = [0; 4096];
+    let mut records: [u8; RECORDS_ROOM] = [0; RECORDS_ROOM];
+    let mut bytes: [u8; POOL_ROOM] = [0; POOL_ROOM];
+    let mut names: [u32; NAMES_ROOM] = [0; NAMES_ROOM];
     let p = Spot {
         place: 0,
         next: 1,

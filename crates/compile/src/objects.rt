@@ -1,29 +1,32 @@
 // Objects and attributes, read and written; the levels left fall from object to object.
-use constraint::heads::AttributeHead;
-use constraint::heads::ObjectHead;
-use constraint::heads::attribute_head;
-use constraint::heads::object_head;
-use emission::heads::close_attribute;
-use emission::heads::keep_name;
-use emission::heads::open_object;
-use emission::leaves::write_leaf;
-use emission::spots::AttributeRead;
-use emission::spots::Spot;
-use emission::spots::TreeRead;
+use cadl_objects::heads::AttributeHeadRead;
+use cadl_objects::heads::ObjectHeadRead;
+use cadl_objects::heads::attribute_head;
+use cadl_objects::heads::object_head;
+use compile_emission::heads::close_attribute;
+use compile_emission::heads::keep_name;
+use compile_emission::heads::open_object;
+use compile_emission::leaves::write_leaf;
+use compile_emission::spots::AttributeRead;
+use compile_emission::spots::NAMES_ROOM;
+use compile_emission::spots::Spot;
+use compile_emission::spots::TreeRead;
 use lexis::CLOSE_BRACE;
 use lexis::STAR;
 use lexis::TYPE_NAME;
 use lexis::tokens::token_at;
 use refusals::steps::Expected;
 use refusals::steps::expect;
+use table::layout::POOL_ROOM;
+use table::layout::RECORDS_ROOM;
 ghost use mathlib.Core.List.{[]};
 ghost use Prim.Native.Nat.{_+_, _≤_};
 ghost use lib.ListN.{length};
 ghost use Rattle.meaning.specs.Counting.{objectPool, attributePool, valuePool};
-ghost use Rattle.constraint.specs.Objects.{value, attributes, objectFrom};
-ghost use Rattle.flatten.specs.Flatten.{objectTable, attributesTable, valueTable};
-ghost use Rattle.emission.specs.Answers.{written};
-ghost use Rattle.compile.specs.Answers.{Stacked, TreeIs, EndIs, AttributeRoom, AttributeIs};
+ghost use Rattle.cadl_objects.specs.contracts.Told.{value, attributes, objectFrom};
+ghost use Rattle.compile_flatten.specs.Flatten.{objectTable, attributesTable, valueTable};
+ghost use Rattle.compile_emission.specs.contracts.Answers.{written};
+ghost use Rattle.compile.specs.contracts.Answers.{Stacked, TreeIs, EndIs, AttributeRoom, AttributeIs};
 
 // The `}` of an object behind its `*`.
 fn close_object(s: &[u8], p: Spot, from: usize) -> TreeRead
@@ -51,18 +54,20 @@ pub fn read_object(
     levels: usize,
     p: Spot,
     top: usize,
-    records: &mut [u8; 49152],
-    bytes: &mut [u8; 16384],
-    names: &mut [u32; 4096],
+    records: &mut [u8; RECORDS_ROOM],
+    bytes: &mut [u8; POOL_ROOM],
+    names: &mut [u32; NAMES_ROOM],
 ) -> TreeRead
     requires { ⌜ Stacked (now s) p top ⌝ }
-    ensures { λ r. ⌜ TreeIs top (now (names .entry)) (now (names .exit)) (written objectTable objectPool little p (now (records .entry)) (now (bytes .entry)) (objectFrom (now (s .entry)) levels (p .next) (p .place))) (now (records .exit)) (now (bytes .exit)) r ⌝ }
+    ensures { λ r. ⌜ TreeIs top (now (names .entry)) (now (names .exit))
+        (written objectTable objectPool little p (now (records .entry)) (now (bytes .entry)) (objectFrom (now (s .entry)) levels (p .next) (p .place)))
+        (now (records .exit)) (now (bytes .exit)) r ⌝ }
 {
     match object_head(s, levels, p.next, p.place) {
-        ObjectHead::Faulty(fault) => {
+        ObjectHeadRead::Faulty(fault) => {
             return TreeRead::Refused(fault);
         }
-        ObjectHead::Head {
+        ObjectHeadRead::Head {
             type_start: a,
             type_end: b,
             code_start: c,
@@ -87,12 +92,14 @@ fn read_attributes(
     levels: usize,
     p: Spot,
     first: usize,
-    records: &mut [u8; 49152],
-    bytes: &mut [u8; 16384],
-    names: &mut [u32; 4096],
+    records: &mut [u8; RECORDS_ROOM],
+    bytes: &mut [u8; POOL_ROOM],
+    names: &mut [u32; NAMES_ROOM],
 ) -> TreeRead
     requires { ⌜ Stacked (now s) p first ⌝ }
-    ensures { λ r. ⌜ TreeIs first (now (names .entry)) (now (names .exit)) (written attributesTable attributePool little p (now (records .entry)) (now (bytes .entry)) (attributes (now (s .entry)) (objectFrom (now (s .entry)) levels) (length (now (s .entry)) + 1) [] (p .next) (p .place))) (now (records .exit)) (now (bytes .exit)) r ⌝ }
+    ensures { λ r. ⌜ TreeIs first (now (names .entry)) (now (names .exit))
+        (written attributesTable attributePool little p (now (records .entry)) (now (bytes .entry)) (attributes (now (s .entry)) levels (length (now (s .entry)) + 1) [] (p .next) (p .place)))
+        (now (records .exit)) (now (bytes .exit)) r ⌝ }
 {
     let mut q = p;
     let mut top = first;
@@ -120,18 +127,19 @@ fn read_attribute(
     p: Spot,
     first: usize,
     top: usize,
-    records: &mut [u8; 49152],
-    bytes: &mut [u8; 16384],
-    names: &mut [u32; 4096],
+    records: &mut [u8; RECORDS_ROOM],
+    bytes: &mut [u8; POOL_ROOM],
+    names: &mut [u32; NAMES_ROOM],
 ) -> AttributeRead
     requires { ⌜ AttributeRoom (now s) p first top (now names) ⌝ }
-    ensures { λ r. ⌜ AttributeIs (now (s .entry)) little levels p first top (now (names .entry)) (now (records .entry)) (now (bytes .entry)) (now (names .exit)) (now (records .exit)) (now (bytes .exit)) r ⌝ }
+    ensures { λ r. ⌜ AttributeIs (now (s .entry)) little levels p first top (now (names .entry)) (now (records .entry))
+        (now (bytes .entry)) (now (names .exit)) (now (records .exit)) (now (bytes .exit)) r ⌝ }
 {
     match attribute_head(s, names, first, top, p.next, p.place) {
-        AttributeHead::Faulty(fault) => {
+        AttributeHeadRead::Faulty(fault) => {
             return AttributeRead::Refused(fault);
         }
-        AttributeHead::Head {
+        AttributeHeadRead::Head {
             name_start: start,
             name_end: end,
             existence,
@@ -157,12 +165,14 @@ fn read_value(
     levels: usize,
     p: Spot,
     top: usize,
-    records: &mut [u8; 49152],
-    bytes: &mut [u8; 16384],
-    names: &mut [u32; 4096],
+    records: &mut [u8; RECORDS_ROOM],
+    bytes: &mut [u8; POOL_ROOM],
+    names: &mut [u32; NAMES_ROOM],
 ) -> TreeRead
     requires { ⌜ Stacked (now s) p top ⌝ }
-    ensures { λ r. ⌜ TreeIs top (now (names .entry)) (now (names .exit)) (written valueTable valuePool little p (now (records .entry)) (now (bytes .entry)) (value (now (s .entry)) (objectFrom (now (s .entry)) levels) (p .next) (p .place))) (now (records .exit)) (now (bytes .exit)) r ⌝ }
+    ensures { λ r. ⌜ TreeIs top (now (names .entry)) (now (names .exit))
+        (written valueTable valuePool little p (now (records .entry)) (now (bytes .entry)) (value (now (s .entry)) levels (p .next) (p .place)))
+        (now (records .exit)) (now (bytes .exit)) r ⌝ }
 {
     let t = token_at(s, p.place);
     if t.sort == STAR {

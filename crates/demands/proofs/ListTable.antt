@@ -7,8 +7,8 @@ use Rattle.lexis.specs.Text.{bytes}
 use Rattle.lexis.proofs.Tables.{wrong}
 use Rattle.meaning.specs.Verdicts.{valid, fails}
 use Rattle.table.proofs.Hex.{hex, filling}
-use Rattle.merge.proofs.Computes.{mergeComputes}
-use Rattle.merge.proofs.Examples.{step}
+use Rattle.table_merge.proofs.Computes.{mergeComputes}
+use Rattle.table_merge.proofs.Examples.{step}
 use Rattle.compile.proofs.Computes.{compileComputes}
 use Rattle.judge.proofs.Computes.{judgeComputes}
 use Rattle.demands.specs.Demands.{meaningOf}

@@ -2,11 +2,11 @@
 use mathlib.Core.Path.{_≡_, refl}
 use mathlib.Core.List.{[]}
 use Rattle.lexis.proofs.Tables.{wrong}
-use Rattle.merge.proofs.Computes.{mergeComputes}
+use Rattle.table_merge.proofs.Computes.{mergeComputes}
 use Rattle.compile.proofs.Computes.{compileComputes}
 use Rattle.judge.proofs.Computes.{judgeComputes}
-use Rattle.demands.specs.Marked.{marks, holds}
+use Rattle.demands.specs.Marked.{markedExamples, holds}
 
-pub all-hold : wrong holds 0 marks ≡ []
+pub all-hold : wrong holds 0 markedExamples ≡ []
 unfolding wrong mergeComputes compileComputes judgeComputes
 all-hold = refl

@@ -8,15 +8,14 @@ use lib.Dec.{eqb}
 use lib.ListN.{take, replicate}
 use Rattle.lexis.specs.Text.{bytes}
 use Rattle.refusals.specs.Refusals.{numberOf}
+use Rattle.refusals.specs.Outcomes.{Outcome, refused, gave}
+use Rattle.refusals.specs.declared.Refusal.{Refusal}
 use Rattle.meaning.specs.Verdicts.{Verdict, valid, fails}
 use Rattle.table.specs.Records.{imageOf, field}
 use Rattle.table.specs.Names.{recordAt}
-use Rattle.merge.specs.Answer.{MergeAnswer, mergeAnswer}
-use Rattle.merge.specs.Answer as Merge
-use Rattle.compile.specs.Answer.{CompileAnswer, compileAnswer}
-use Rattle.compile.specs.Answer as Compile
-use Rattle.judge.specs.Answer.{JudgeAnswer, judgeAnswer}
-use Rattle.judge.specs.Answer as Judge
+use Rattle.table_merge.specs.Merge.{request, MergeReport, MergeRefusal, mergeAnswer}
+use Rattle.compile.specs.Compile.{compileAnswer}
+use Rattle.judge.specs.Judge.{judgeAnswer}
 
 -- a leaf in a small constraint text, and a word in a small data text
 abbrev pub under : String → List ℕ
@@ -30,37 +29,37 @@ abbrev pub verdictNumber : Verdict → ℕ
 verdictNumber valid = 0
 verdictNumber (fails reason number place) = reason
 
-abbrev pub answerNumber : JudgeAnswer → ℕ
-answerNumber (Judge.refused r) = numberOf (r .cause)
-answerNumber (Judge.judged v) = verdictNumber v
+abbrev pub answerNumber : Outcome Refusal Verdict → ℕ
+answerNumber (refused r) = numberOf (r .cause)
+answerNumber (gave v) = verdictNumber v
 
 abbrev pub room : List ℕ
 room = replicate 200 0
 
 -- the table of a text, lent alone; nothing where compiling refuses it
-abbrev pub tableIn : List ℕ → CompileAnswer → List ℕ
-tableIn out (Compile.refused r) = []
-tableIn out (Compile.done size) = take size out
+abbrev pub tableIn : List ℕ → Outcome Refusal ℕ → List ℕ
+tableIn out (refused r) = []
+tableIn out (gave size) = take size out
 
 -- judged by the table of the text, or the text's own refusal
-abbrev pub afterCompile : List ℕ → CompileAnswer → List ℕ → ℕ
-afterCompile out (Compile.refused r) text = numberOf (r .cause)
-afterCompile out (Compile.done size) text = answerNumber (judgeAnswer (take size out) 1 text)
+abbrev pub afterCompile : List ℕ → Outcome Refusal ℕ → List ℕ → ℕ
+afterCompile out (refused r) text = numberOf (r .cause)
+afterCompile out (gave size) text = answerNumber (judgeAnswer (take size out) 1 text)
 
-abbrev pub outcome : String → String → ℕ
-outcome leaf word = let c = compileAnswer (under leaf) false room in afterCompile (c .out) (c .answer) (form word)
+abbrev pub numberFor : String → String → ℕ
+numberFor leaf word = let c = compileAnswer (under leaf) false room in afterCompile (c .out) (c .answer) (form word)
 
 -- the place of the string in the last record of a merge: of 7 records, the header among them
-abbrev pub lastPlace : List ℕ → MergeAnswer → ℕ
-lastPlace out (Merge.refused table r) = numberOf (r .cause)
-lastPlace out (Merge.done size shifts) = field (recordAt (imageOf (take size out)) 6) 0
+abbrev pub lastPlace : List ℕ → Outcome MergeRefusal MergeReport → ℕ
+lastPlace out (refused r) = numberOf (r .why .cause)
+lastPlace out (gave m) = field (recordAt (imageOf (take (m .length) out)) 6) 0
 
 -- two tables, each with one empty string
 abbrev pub emptyPlace : ℕ
 emptyPlace =
     let c = compileAnswer (under "\"\"") false room in
     let t = tableIn (c .out) (c .answer) in
-    let r = mergeAnswer t t false room in
+    let r = mergeAnswer (request t t false) room in
     lastPlace (r .out) (r .answer)
 
 -- an example: its number, what is computed and what document 01 says
@@ -72,26 +71,26 @@ pub record Mark : Type 0 where
 abbrev pub m : ℕ → ℕ → ℕ → Mark
 m number computed expected = record { number = number; computed = computed; expected = expected }
 
-abbrev pub marks : List Mark
-marks =
-    m 1 (outcome "|0..<1000|" "999") 0
-    ∷ m 1 (outcome "|0..<1000|" "1000") 24
-    ∷ m 2 (outcome "|100+/-5|" "95") 0
-    ∷ m 2 (outcome "|100+/-5|" "105") 0
-    ∷ m 2 (outcome "|100+/-5|" "94") 24
-    ∷ m 3 (outcome "|>2147483647|" "0") 6
-    ∷ m 4 (outcome "|>0..<1|" "0") 6
-    ∷ m 5 (outcome "5, |5..9|" "5") 9
-    ∷ m 6 (outcome "*" "2000-02-29") 0
-    ∷ m 6 (outcome "*" "1900-02-29") 5
-    ∷ m 7 (outcome "*" "24:00:00") 5
-    ∷ m 8 (outcome "|0..9|" "08") 20
-    ∷ m 8 (outcome "Thh:??:??" "08") 0
-    ∷ m 9 (outcome "yyyy-mm-dd" "2004-05") 24
-    ∷ m 10 (outcome "*" "12+13:59") 0
-    ∷ m 10 (outcome "*" "12+14:00") 5
-    ∷ m 11 (outcome "*" "12-00:30") 0
-    ∷ m 11 (outcome "*" "12-00:00") 5
+abbrev pub markedExamples : List Mark
+markedExamples =
+    m 1 (numberFor "|0..<1000|" "999") 0
+    ∷ m 1 (numberFor "|0..<1000|" "1000") 24
+    ∷ m 2 (numberFor "|100+/-5|" "95") 0
+    ∷ m 2 (numberFor "|100+/-5|" "105") 0
+    ∷ m 2 (numberFor "|100+/-5|" "94") 24
+    ∷ m 3 (numberFor "|>2147483647|" "0") 6
+    ∷ m 4 (numberFor "|>0..<1|" "0") 6
+    ∷ m 5 (numberFor "5, |5..9|" "5") 9
+    ∷ m 6 (numberFor "*" "2000-02-29") 0
+    ∷ m 6 (numberFor "*" "1900-02-29") 5
+    ∷ m 7 (numberFor "*" "24:00:00") 5
+    ∷ m 8 (numberFor "|0..9|" "08") 20
+    ∷ m 8 (numberFor "Thh:??:??" "08") 0
+    ∷ m 9 (numberFor "yyyy-mm-dd" "2004-05") 24
+    ∷ m 10 (numberFor "*" "12+13:59") 0
+    ∷ m 10 (numberFor "*" "12+14:00") 5
+    ∷ m 11 (numberFor "*" "12-00:30") 0
+    ∷ m 11 (numberFor "*" "12-00:00") 5
     ∷ m 12 emptyPlace 0
     ∷ []
 

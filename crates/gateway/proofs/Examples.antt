@@ -5,9 +5,9 @@ use Prim.Native.Nat.{ℕ}
 use lib.Dec.{eqb}
 use Rattle.table.specs.Check.{tableFault}
 use Rattle.table.specs.Names.{nameAnswer}
-use Rattle.merge.specs.Answer.{mergeAnswer}
-use Rattle.compile.specs.Answer.{compileAnswer}
-use Rattle.judge.specs.Answer.{judgeAnswer}
+use Rattle.table_merge.specs.Merge.{request, mergeAnswer}
+use Rattle.compile.specs.Compile.{compileAnswer}
+use Rattle.judge.specs.Judge.{judgeAnswer}
 use Rattle.gateway.specs.Interface.{Placed, compileTold, checkTold, MergeSaid, mergeTold, JudgeTold, judgeTold, NameTold, nameTold}
 
 -- what a function is given, and what it returns and sets
@@ -35,6 +35,6 @@ unfoldable pub right : Case → Bool
 right (compiles text little out number place) = isPlaced (compileTold (compileAnswer text little out .answer)) number place
 right (checks table number place) = isPlaced (checkTold (tableFault table)) number place
 right (merges first second little out number place records pool which) =
-    isMerged (mergeTold (mergeAnswer first second little out .answer)) number place records pool which
+    isMerged (mergeTold (mergeAnswer (request first second little) out .answer)) number place records pool which
 right (judges table root text number place constraint) = isJudged (judgeTold (judgeAnswer table root text)) number place constraint
 right (names table record' number start length) = isNamed (nameTold (nameAnswer table record')) number start length

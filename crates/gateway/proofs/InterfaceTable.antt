@@ -6,7 +6,7 @@ use mathlib.Core.List.{List, [], _∷_}
 use Rattle.lexis.specs.Text.{bytes}
 use Rattle.lexis.proofs.Tables.{wrong}
 use Rattle.table.proofs.Hex.{hex, filling}
-use Rattle.merge.proofs.Computes.{mergeComputes}
+use Rattle.table_merge.proofs.Computes.{mergeComputes}
 use Rattle.compile.proofs.Computes.{compileComputes}
 use Rattle.judge.proofs.Computes.{judgeComputes}
 use Rattle.gateway.proofs.Examples.{Case, compiles, checks, merges, judges, names, right}

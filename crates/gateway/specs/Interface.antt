@@ -5,16 +5,11 @@ use mathlib.Core.Option.{Option, none, some}
 use mathlib.Core.List.{List}
 use Prim.Native.Nat.{ℕ}
 use Rattle.refusals.specs.Refusals.{numberOf}
+use Rattle.refusals.specs.Outcomes.{Outcome, refused, gave, Answered}
 use Rattle.refusals.specs.declared.Refusal.{Refusal}
 use Rattle.meaning.specs.Verdicts.{Verdict, valid, fails}
-use Rattle.table.specs.Names.{NameAnswer}
-use Rattle.table.specs.Names as names
-use Rattle.merge.specs.Answer.{MergeAnswer, Merging}
-use Rattle.merge.specs.Answer as merges
-use Rattle.compile.specs.Answer.{CompileAnswer, Compiling}
-use Rattle.compile.specs.Answer as compiles
-use Rattle.judge.specs.Answer.{JudgeAnswer}
-use Rattle.judge.specs.Answer as judges
+use Rattle.table.specs.Names.{Slice}
+use Rattle.table_merge.specs.Merge.{MergeReport, MergeRefusal}
 
 -- a number and a place
 pub record Placed : Type 0 where
@@ -27,15 +22,15 @@ placed number place = record { number = number; place = place }
 abbrev pub refusalTold : Refusal → Placed
 refusalTold r = placed (numberOf (r .cause)) (r .place)
 
--- compiling: on 0 the place is the table's length
-abbrev pub compileTold : CompileAnswer → Placed
-compileTold (compiles.refused r) = refusalTold r
-compileTold (compiles.done length) = placed 0 length
+-- what a job says and the output are those of its answer
+pub record AnswerIs {E A S : Type 0} (tell : Outcome E A → S) (a : Answered E A) (said : S) (bytes : List ℕ) : Type 0 where
+  pub is : said ≡ tell (a .answer)
+  pub out : bytes ≡ a .out
 
--- what was told and the output are those of compiling
-pub record CompileIs (c : Compiling) (told : Placed) (bytes : List ℕ) : Type 0 where
-  pub is : told ≡ compileTold (c .answer)
-  pub out : bytes ≡ c .out
+-- compiling: on 0 the place is the table's length
+abbrev pub compileTold : Outcome Refusal ℕ → Placed
+compileTold (refused r) = refusalTold r
+compileTold (gave length) = placed 0 length
 
 -- the check: 0 and 0, or a refusal
 abbrev pub checkTold : Option Refusal → Placed
@@ -52,14 +47,9 @@ pub record MergeSaid : Type 0 where
 abbrev pub mergeSaid : Placed → ℕ → ℕ → ℕ → MergeSaid
 mergeSaid told records pool which = record { told = told; records = records; pool = pool; which = which }
 
-abbrev pub mergeTold : MergeAnswer → MergeSaid
-mergeTold (merges.refused table r) = mergeSaid (refusalTold r) 0 0 table
-mergeTold (merges.done length shifts) = mergeSaid (placed 0 length) (shifts .records) (shifts .pool) 0
-
--- what was told and the output are those of merging
-pub record MergeIs (m : Merging) (said : MergeSaid) (bytes : List ℕ) : Type 0 where
-  pub is : said ≡ mergeTold (m .answer)
-  pub out : bytes ≡ m .out
+abbrev pub mergeTold : Outcome MergeRefusal MergeReport → MergeSaid
+mergeTold (refused r) = mergeSaid (refusalTold (r .why)) 0 0 (r .table)
+mergeTold (gave m) = mergeSaid (placed 0 (m .length)) (m .shifts .records) (m .shifts .pool) 0
 
 -- judging: 0 is valid; the record is 0 with a refusal
 pub record JudgeTold : Type 0 where
@@ -73,9 +63,9 @@ abbrev pub verdictTold : Verdict → JudgeTold
 verdictTold valid = judgeSaid (placed 0 0) 0
 verdictTold (fails reason number place) = judgeSaid (placed reason place) number
 
-abbrev pub judgeTold : JudgeAnswer → JudgeTold
-judgeTold (judges.refused r) = judgeSaid (refusalTold r) 0
-judgeTold (judges.judged v) = verdictTold v
+abbrev pub judgeTold : Outcome Refusal Verdict → JudgeTold
+judgeTold (refused r) = judgeSaid (refusalTold r) 0
+judgeTold (gave v) = verdictTold v
 
 -- a name: the start and the length of the part; with a refusal the start is its place
 pub record NameTold : Type 0 where
@@ -85,6 +75,6 @@ pub record NameTold : Type 0 where
 abbrev pub nameSaid : Placed → ℕ → NameTold
 nameSaid told length = record { told = told; length = length }
 
-abbrev pub nameTold : NameAnswer → NameTold
-nameTold (names.refused r) = nameSaid (refusalTold r) 0
-nameTold (names.named p) = nameSaid (placed 0 (p .start)) (p .length)
+abbrev pub nameTold : Outcome Refusal Slice → NameTold
+nameTold (refused r) = nameSaid (refusalTold r) 0
+nameTold (gave p) = nameSaid (placed 0 (p .start)) (p .length)

@@ -1,18 +1,18 @@
 // The C interface. Each function returns 0 or document 01's number, and sets every argument that is lent to it: to what the outcome names, else to 0.
 use compile::CompileResult;
 use judge::JudgeResult;
-use merge::MergeResult;
 use refusals::Refusal;
 use refusals::numbers::number;
 use table::check::CheckAnswer;
 use table::names::NameResult;
+use table_merge::MergeResult;
 ghost use mathlib.Core.Path.{_≡_};
 ghost use Rattle.table.specs.Check.{tableFault};
 ghost use Rattle.table.specs.Names.{nameAnswer};
-ghost use Rattle.merge.specs.Answer.{mergeAnswer};
-ghost use Rattle.compile.specs.Answer.{compileAnswer};
-ghost use Rattle.judge.specs.Answer.{judgeAnswer};
-ghost use Rattle.gateway.specs.Interface.{placed, refusalTold, CompileIs, checkTold, MergeIs, mergeSaid, judgeSaid, judgeTold, nameSaid, nameTold};
+ghost use Rattle.table_merge.specs.Merge.{request, mergeAnswer};
+ghost use Rattle.compile.specs.Compile.{compileAnswer};
+ghost use Rattle.judge.specs.Judge.{judgeAnswer};
+ghost use Rattle.gateway.specs.Interface.{placed, refusalTold, AnswerIs, compileTold, checkTold, mergeSaid, mergeTold, judgeSaid, judgeTold, nameSaid, nameTold};
 
 // Returns a refusal's number, and sets its place.
 fn told(refusal: Refusal, place: &mut u64) -> u32
@@ -26,7 +26,8 @@ fn told(refusal: Refusal, place: &mut u64) -> u32
 // Compiles a constraint text; on 0, `*place` is the table's length.
 #[no_mangle]
 pub extern "C" fn dk_compile(text: &[u8], little: bool, out: &mut [u8], place: &mut u64) -> u32
-    ensures { λ r. ⌜ CompileIs (compileAnswer (now (text .entry)) little (now (out .entry))) (placed r (now (place .exit))) (now (out .exit)) ⌝ }
+    ensures { λ r. ⌜ AnswerIs compileTold (compileAnswer (now (text .entry)) little (now (out .entry)))
+        (placed r (now (place .exit))) (now (out .exit)) ⌝ }
 {
     match compile::compile(text, little, out) {
         CompileResult::Done { length } => {
@@ -67,9 +68,12 @@ pub extern "C" fn dk_merge(
     pool_shift: &mut u32,
     which: &mut u32,
 ) -> u32
-    ensures { λ r. ⌜ MergeIs (mergeAnswer (now (first .entry)) (now (second .entry)) little (now (out .entry))) (mergeSaid (placed r (now (place .exit))) (now («record_shift» .exit)) (now («pool_shift» .exit)) (now (which .exit))) (now (out .exit)) ⌝ }
+    ensures { λ r. ⌜ AnswerIs mergeTold
+        (mergeAnswer (request (now (first .entry)) (now (second .entry)) little) (now (out .entry)))
+        (mergeSaid (placed r (now (place .exit))) (now («record_shift» .exit)) (now («pool_shift» .exit)) (now (which .exit)))
+        (now (out .exit)) ⌝ }
 {
-    match merge::merge(first, second, little, out) {
+    match table_merge::merge(first, second, little, out) {
         MergeResult::Done {
             length,
             records,
@@ -99,7 +103,8 @@ pub extern "C" fn dk_judge(
     record: &mut u32,
     place: &mut u64,
 ) -> u32
-    ensures { λ r. ⌜ judgeSaid (placed r (now (place .exit))) (now («record» .exit)) ≡ judgeTold (judgeAnswer (now (table .entry)) root (now («data» .entry))) ⌝ }
+    ensures { λ r. ⌜ judgeSaid (placed r (now (place .exit))) (now («record» .exit))
+        ≡ judgeTold (judgeAnswer (now (table .entry)) root (now («data» .entry))) ⌝ }
 {
     match judge::judge(table, root, data) {
         JudgeResult::Valid => {
@@ -126,7 +131,8 @@ pub extern "C" fn dk_judge(
 // Asks for the name of a record: the part's place in the table's bytes and its length; with a refusal `*start` is its place.
 #[no_mangle]
 pub extern "C" fn dk_name(table: &[u8], record: u32, start: &mut u64, len: &mut u64) -> u32
-    ensures { λ r. ⌜ nameSaid (placed r (now (start .exit))) (now (len .exit)) ≡ nameTold (nameAnswer (now (table .entry)) «record») ⌝ }
+    ensures { λ r. ⌜ nameSaid (placed r (now (start .exit))) (now (len .exit))
+        ≡ nameTold (nameAnswer (now (table .entry)) «record») ⌝ }
 {
     match table::names::name_refusal(table, record) {
         NameResult::Named {

@@ -4,24 +4,26 @@ mod interface;
 
 use compile::CompileResult;
 use judge::JudgeResult;
-use merge::MergeResult;
 use table::check::CheckAnswer;
 use table::names::NameResult;
+use table_merge::MergeResult;
 ghost use mathlib.Core.Path.{_≡_};
+ghost use Rattle.refusals.specs.Outcomes.{answered};
 ghost use Rattle.table.specs.Check.{tableFault};
-ghost use Rattle.table.specs.Names.{nameAnswer, partOf};
-ghost use Rattle.table.specs.Answers.{faultOf};
-ghost use Rattle.table.specs.Answers as tables;
-ghost use Rattle.merge.specs.Answer.{merging, mergeAnswer};
-ghost use Rattle.merge.specs.Answers as merges;
-ghost use Rattle.compile.specs.Answer.{compiling, compileAnswer};
-ghost use Rattle.compile.specs.Answers as compiles;
-ghost use Rattle.judge.specs.Answer.{judgeAnswer};
-ghost use Rattle.judge.specs.Answers as judges;
+ghost use Rattle.table.specs.Names.{nameAnswer, sliceBytes};
+ghost use Rattle.table.specs.contracts.Answers.{faultOf};
+ghost use Rattle.table.specs.contracts.Answers as tables;
+ghost use Rattle.table_merge.specs.Merge.{request, mergeAnswer};
+ghost use Rattle.table_merge.specs.contracts.Answers as merges;
+ghost use Rattle.compile.specs.Compile.{compileAnswer};
+ghost use Rattle.compile.specs.contracts.Answers as compiles;
+ghost use Rattle.judge.specs.Judge.{judgeAnswer};
+ghost use Rattle.judge.specs.contracts.Answers as judges;
 
 // Compiles a constraint text into a table whose numbers are in the order asked: demands 1, 2 and 3.
 pub fn compile(text: &[u8], little: bool, out: &mut [u8]) -> CompileResult
-    ensures { λ r. ⌜ compiling (compiles.answerOf r) (now (out .exit)) ≡ compileAnswer (now (text .entry)) little (now (out .entry)) ⌝ }
+    ensures { λ r. ⌜ answered (compiles.answerOf r) (now (out .exit))
+        ≡ compileAnswer (now (text .entry)) little (now (out .entry)) ⌝ }
 {
     compile::compile(text, little, out)
 }
@@ -35,9 +37,10 @@ pub fn check(table: &[u8]) -> CheckAnswer
 
 // Merges two tables into one whose numbers are in the order asked: demands 1 and 3.
 pub fn merge(first: &[u8], second: &[u8], little: bool, out: &mut [u8]) -> MergeResult
-    ensures { λ r. ⌜ merging (merges.answerOf r) (now (out .exit)) ≡ mergeAnswer (now (first .entry)) (now (second .entry)) little (now (out .entry)) ⌝ }
+    ensures { λ r. ⌜ answered (merges.answerOf r) (now (out .exit))
+        ≡ mergeAnswer (request (now (first .entry)) (now (second .entry)) little) (now (out .entry)) ⌝ }
 {
-    merge::merge(first, second, little, out)
+    table_merge::merge(first, second, little, out)
 }
 
 // Judges a data text by a table at a root: demands 1, 2 and 3.
@@ -49,7 +52,7 @@ pub fn judge(table: &[u8], root: u32, text: &[u8]) -> JudgeResult
 
 // Hands out the name of a record, the part of the table itself; with a refusal, an empty part: demand 1.
 pub fn name<'a>(table: &'a [u8], record: u32) -> &'a [u8]
-    ensures { λ r. ⌜ now r ≡ partOf (now (table .entry)) (nameAnswer (now (table .entry)) «record») ⌝ }
+    ensures { λ r. ⌜ now r ≡ sliceBytes (now (table .entry)) (nameAnswer (now (table .entry)) «record») ⌝ }
 {
     table::names::name(table, record)
 }

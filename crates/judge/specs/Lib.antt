@@ -1,3 +1,2 @@
-pub mod Answer
-pub mod Answers
-pub mod Walking
+pub mod Judge
+pub mod contracts

@@ -1,29 +1,35 @@
 // The walk: a block by an object, and the blocks inside it by the objects of its attributes.
-use admission::entry_at;
-use admission::name_of;
-use attributes::Step;
-use attributes::Verdict;
-use attributes::fails;
-use attributes::judge_attribute;
+use dadl::rows::MEMBER_SIZE;
+use judge_admission::entry_at;
+use judge_admission::name_of;
+use judge_attributes::AttributeAnswer;
+use judge_attributes::Verdict;
+use judge_attributes::fails;
+use judge_attributes::judge_attribute;
+use judge_tape::members::Block;
+use judge_tape::memo::enter;
+use judge_tape::memo::is_admitted;
+use judge_tape::memo::mark_chain;
+use judge_tape::memo::may_visit;
 use lexis::runs::same_bytes;
+use refusals::limits::RECORD_LIMIT;
+use refusals::limits::TEXT_LIMIT;
 use table::records::Entry;
 use table::records::RecordNumber;
-use tape::members::Block;
-use tape::memo::enter;
-use tape::memo::is_admitted;
-use tape::memo::mark_chain;
-use tape::memo::may_visit;
 ghost use mathlib.Core.Path.{_≡_};
 ghost use Prim.Native.Nat.{_+_, _≤_};
 ghost use lib.ListN.{length};
 ghost use Rattle.meaning.specs.Judging.{typeSuits};
-ghost use Rattle.table.specs.Answers.{recordOf};
-ghost use Rattle.admission.specs.Items.{nameOf, tableOf};
-ghost use Rattle.attributes.specs.Answers.{verdictIn};
-ghost use Rattle.tape.specs.Walking.{typeOn, BlockGood};
-ghost use Rattle.judge.specs.Walking.{Under};
-ghost use Rattle.attributes.specs.Steps.{blockUnder};
-ghost use Rattle.tape.specs.Memo.{MemoGood};
+ghost use Rattle.table.specs.contracts.Answers.{recordOf};
+ghost use Rattle.judge_admission.specs.contracts.Items.{nameOf, imageFrom};
+ghost use Rattle.judge_attributes.specs.contracts.Answers.{verdictIn};
+ghost use Rattle.judge_tape.specs.contracts.Rows.{typeOn, BlockGood};
+ghost use Rattle.judge.specs.contracts.Walk.{Under};
+ghost use Rattle.judge_attributes.specs.contracts.Attributes.{blockUnder};
+ghost use Rattle.judge_tape.specs.contracts.Memo.{MemoGood};
+
+// Bytes of the memo: a bit for each pair of a row, or the outermost block, and a record.
+const MEMO_ROOM: usize = (TEXT_LIMIT / MEMBER_SIZE + 1) * RECORD_LIMIT / 8;
 
 // Document 01's reason for a type that differs.
 const TYPE_DIFFERS: u8 = 21;
@@ -32,7 +38,9 @@ const TYPE_DIFFERS: u8 = 21;
 fn type_suits(pool: &[u8], s: &[u8], rows: usize, e: Entry, block: Block) -> bool
     requires { ⌜ e .a + e .b ≤ length (now pool) ⌝ }
     requires { ⌜ BlockGood (length (now s)) rows block ⌝ }
-    ensures { λ r. ⌜ r ≡ typeSuits (nameOf (now (pool .entry)) (recordOf e)) (typeOn (now (s .entry)) (block .«type_start») (block .«type_end»)) ⌝ }
+    ensures { λ r. ⌜ r
+        ≡ typeSuits (nameOf (now (pool .entry)) (recordOf e))
+        (typeOn (now (s .entry)) (block .«type_start») (block .«type_end»)) ⌝ }
 {
     let start = block.type_start;
     let end = block.type_end;
@@ -59,8 +67,11 @@ pub fn judge_block(
 ) -> Verdict
     requires { ⌜ Under (now records) (now pool) (now s) (now tape) rows levels (object .0) block ⌝ }
     requires { ⌜ MemoGood (now records) (now pool) (now s) (now tape) rows (now memo) ⌝ }
-    ensures { λ r. ⌜ verdictIn r ≡ blockUnder (tableOf (now (records .entry)) (now (pool .entry))) (now (s .entry)) rows (now (tape .entry)) (object .0) block ⌝ }
-    ensures { λ _. ⌜ MemoGood (now (records .entry)) (now (pool .entry)) (now (s .entry)) (now (tape .entry)) rows (now (memo .exit)) ⌝ }
+    ensures { λ r. ⌜ verdictIn r
+        ≡ blockUnder (imageFrom (now (records .entry)) (now (pool .entry))) (now (s .entry)) rows (now (tape .entry))
+        (object .0) block ⌝ }
+    ensures { λ _. ⌜ MemoGood (now (records .entry)) (now (pool .entry)) (now (s .entry)) (now (tape .entry)) rows
+        (now (memo .exit)) ⌝ }
 {
     let e = entry_at(records, object);
     if !type_suits(pool, s, rows, e, block) {
@@ -84,7 +95,7 @@ pub fn judge_block(
             a,
             block,
         ) {
-            Step::Told(v) => match v {
+            AttributeAnswer::Told(v) => match v {
                 Verdict::Valid => {
                     n = a.d;
                 }
@@ -92,7 +103,7 @@ pub fn judge_block(
                     return Verdict::Fails(failure);
                 }
             },
-            Step::Nested {
+            AttributeAnswer::Nested {
                 object: inner,
                 block: part,
             } => match judge_block(
@@ -132,9 +143,11 @@ fn judge_with_memo(
     block: Block,
 ) -> Verdict
     requires { ⌜ Under (now records) (now pool) (now s) (now tape) rows levels (object .0) block ⌝ }
-    ensures { λ r. ⌜ verdictIn r ≡ blockUnder (tableOf (now (records .entry)) (now (pool .entry))) (now (s .entry)) rows (now (tape .entry)) (object .0) block ⌝ }
+    ensures { λ r. ⌜ verdictIn r
+        ≡ blockUnder (imageFrom (now (records .entry)) (now (pool .entry))) (now (s .entry)) rows (now (tape .entry))
+        (object .0) block ⌝ }
 {
-    let mut memo = [0u8; 1048832];
+    let mut memo = [0u8; MEMO_ROOM];
     let mut visits: u32 = 0;
     judge_block(
         records,

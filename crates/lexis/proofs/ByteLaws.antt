@@ -1,13 +1,15 @@
 -- A rule of numbers in a row, shown of all of them by one test that antt computes; the steps of the tests on bytes. Assumes nothing.
 use mathlib.Core.Path.{_≡_, refl, sym}
 use mathlib.Core.Bool.{Bool, true, false, cond, not, _&&_, _||_}
-use Prim.Native.Nat.{ℕ, zero, suc, _+_, _*_, _/_, _%_, _^_, _≤_, _<_}
+use mathlib.Core.List.{List}
+use Prim.Native.Nat.{ℕ, zero, suc, _+_, _≤_, _<_}
 use native.Mathlib.Omega.{arith}
 use native.Mathlib.Decide.{decLt}
 use lib.Dec.{eqb, leb}
+use lib.ListN.{getD}
 use borrow.Author.Tests.{eqb-true, ne-eqb, le-leb}
 use Rattle.lexis.specs.Bytes.{sortOf, wordByte, stringByte, runByte}
-use Rattle.lexis.specs.Postconditions.{sortsOf, runMark}
+use Rattle.lexis.specs.contracts.Answers.{runMark}
 use Rattle.lexis.proofs.Cases.{and-left, and-right}
 
 -- two tests answer the same
@@ -25,7 +27,8 @@ passes f low zero = true
 passes f low (suc n) = f low && passes f (suc low) n
 
 -- two tests that answer the same in a row of numbers do so at each
-pub agree : (g f : ℕ → Bool) (low n : ℕ) → passes (λ x. alike (g x) (f x)) low n ≡ true → (b : ℕ) → low ≤ b → b < low + n → g b ≡ f b
+pub agree : (g f : ℕ → Bool) (low n : ℕ) → passes (λ x. alike (g x) (f x)) low n ≡ true → (b : ℕ) → low ≤ b
+    → b < low + n → g b ≡ f b
 agree g f low zero t b h k = absurd (omega arith)
 agree g f low (suc n) t b h k =
     let here = alike (g low) (f low) in
@@ -35,10 +38,6 @@ agree g f low (suc n) t b h k =
     by-place : Dec (low < b) → g low ≡ f low → (low < b → g b ≡ f b) → g b ≡ f b
     by-place (yes l) p q = q l
     by-place (no l) p q = let e : low ≡ b = omega arith in rw e at p
-
--- two rules that say the same of each of a row of numbers, by one test over all of them
-pub entry : (g f : ℕ → ℕ) (low n : ℕ) → passes (λ x. eqb (g x) (f x)) low n ≡ true → (b : ℕ) → low ≤ b → b < low + n → g b ≡ f b
-entry g f low n t b h k = eqb-true (g b) (f b) (sym (agree (λ x. true) (λ x. eqb (g x) (f x)) low n t b h k))
 
 and-true : (x : Bool) → x ≡ (x && true)
 and-true true = refl
@@ -67,19 +66,11 @@ pub run-other : (b : ℕ) (r q : Bool) → r ≡ wordByte b → r ≡ false → 
 unfolding runByte
 run-other b r q h e p = rw (← h, e) p
 
--- a row of the table of sorts is what is said of its number; the last is the only one left
-pub row : (k high r : ℕ) → high ≡ k → r ≡ sortsOf k → r ≡ sortsOf high
-row k high r e q = rw e q
+-- the test of the table of sorts: each of its 256 entries is the sort of its byte
+abbrev pub sortsRight : List ℕ → Bool
+sortsRight sorts = passes (λ b. eqb (getD sorts b 0) (sortOf b)) 0 256
 
-above : (k high : ℕ) → k ≤ high → (high ≡ k → ⊥) → suc k ≤ high
-above k high h n = omega arith
-
-pub row-last : (high : ℕ) → high < 16 → (high ≡ 0 → ⊥) → (high ≡ 1 → ⊥) → (high ≡ 2 → ⊥) → (high ≡ 3 → ⊥) → (high ≡ 4 → ⊥) → (high ≡ 5 → ⊥) → (high ≡ 6 → ⊥) → (high ≡ 7 → ⊥) → (high ≡ 8 → ⊥) → (high ≡ 9 → ⊥) → (high ≡ 10 → ⊥) → (high ≡ 11 → ⊥) → (high ≡ 12 → ⊥) → (high ≡ 13 → ⊥) → (high ≡ 14 → ⊥) → high ≡ 15
-row-last high h a b c d e f g i j k l m n o p =
-    let l = above 14 high (above 13 high (above 12 high (above 11 high (above 10 high (above 9 high (above 8 high (above 7 high (above 6 high (above 5 high (above 4 high (above 3 high (above 2 high (above 1 high (above 0 high (omega arith) a) b) c) d) e) f) g) i) j) k) l) m) n) o) p in
-    omega arith
-
--- the hex digits of a row are the sorts of its bytes: one test over all bytes, and what it says of each
-pub sort-entry : (b r : ℕ) → b < 256 → r ≡ sortsOf (b / 16) → (r / 2 ^ (b % 16 * 4)) % 16 ≡ sortOf b
-unfolding sortOf
-sort-entry b r h q = rw q (entry (λ x. (sortsOf (x / 16) / 2 ^ (x % 16 * 4)) % 16) sortOf 0 256 refl b (omega arith) h)
+-- what the test says of each entry
+pub sort-entry : (sorts : List ℕ) → sortsRight sorts ≡ true → (b : ℕ) → b < 256 → getD sorts b 0 ≡ sortOf b
+sort-entry sorts t b h =
+    eqb-true (getD sorts b 0) (sortOf b) (sym (agree (λ x. true) (λ x. eqb (getD sorts x 0) (sortOf x)) 0 256 t b (omega arith) h))

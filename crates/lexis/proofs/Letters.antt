@@ -24,7 +24,8 @@ pub letter-none : (s : List ℕ) (at end : ℕ) → end ≤ at → 0 ≡ letterA
 letter-none s at end h = rw (le-ltb at end h)
 
 -- a letter of a run is the first number of what is left of it
-pub letter-first : (s : List ℕ) (start end i : ℕ) → end ≤ length s → letterAt s (start + i) end ≡ head (drop i (part s start end))
+pub letter-first : (s : List ℕ) (start end i : ℕ) → end ≤ length s
+    → letterAt s (start + i) end ≡ head (drop i (part s start end))
 letter-first s start end i inside = by (ltb (start + i) end) refl
   where
     by : (b : Bool) → ltb (start + i) end ≡ b → cond b (byteAt s (start + i) + 1) 0 ≡ head (drop i (part s start end))

@@ -7,7 +7,7 @@ use lib.ListN.{length, length-take, length-drop}
 use lib.Seq.{take-add, drop-drop}
 use native.Mathlib.Decide.{decLe}
 use Rattle.lexis.specs.Runs.{part}
-use Rattle.lexis.specs.Order.{Sub, none, keep, pass}
+use Rattle.lexis.specs.contracts.Subsequence.{Sub, none, keep, pass}
 
 -- the bytes of a part of the text are as many as its places say
 pub part-length : (s : List ℕ) (start end : ℕ) → end ≤ length s → length (part s start end) ≡ end - start
@@ -40,7 +40,8 @@ module _ (s : List ℕ) where
       rw (n, take-add, drop-drop, m)
 
   -- parts that follow one another
-  pub sub-join : (a b c : ℕ) {xs ys : List ℕ} → a ≤ b → b ≤ c → Sub xs (part s a b) → Sub ys (part s b c) → Sub (xs ++ ys) (part s a c)
+  pub sub-join : (a b c : ℕ) {xs ys : List ℕ} → a ≤ b → b ≤ c → Sub xs (part s a b) → Sub ys (part s b c)
+      → Sub (xs ++ ys) (part s a c)
   sub-join a b c h k x y = rw (part-split a b c h k) (sub-append x y)
 
   -- a part of a part

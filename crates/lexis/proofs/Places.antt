@@ -13,7 +13,7 @@ use borrow.Author.Tests.{leb-false, eqb-true, eqb-false}
 use Rattle.lexis.specs.Bytes.{is, blank, lineEnd, digit, small, capital, mark, wordByte, stringByte}
 use Rattle.lexis.specs.Runs.{past, byteAt, startsWith, shaped, allows}
 use Rattle.lexis.specs.Blanks.{skip, opensComment, tokenStart}
-use Rattle.lexis.specs.Spelling.{Literal, marks, keywords, elementSign, booleans, datePatterns, timePatterns, codeStart, dateShape}
+use Rattle.lexis.specs.Spelling.{Literal, markSpellings, keywords, elementSign, booleans, datePatternSpellings, timePatternSpellings, codeStart, dateShape}
 use Rattle.lexis.specs.Text.{byte}
 use Rattle.lexis.specs.Tokens.{token, noToken, spelled, word, number, sign, quoted, codeEnd, bracket, special, tokenOn, tokenAt, textEnd, unreadable, typeName, name, integer, date, string, code}
 use Rattle.lexis.specs.declared.Token.{Token}
@@ -24,7 +24,8 @@ pub record Between (low high x : ℕ) : Type 0 where
   pub least : low ≤ x
   pub most : x ≤ high
 
-between-cond : (low high : ℕ) (b : Bool) (x y : ℕ) → Between low high x → Between low high y → Between low high (cond b x y)
+between-cond : (low high : ℕ) (b : Bool) (x y : ℕ) → Between low high x → Between low high y
+    → Between low high (cond b x y)
 between-cond low high true x y f g = f
 between-cond low high false x y f g = g
 
@@ -80,7 +81,8 @@ Nonempty [] = Unit {0}
 Nonempty (l ∷ ls) = (0 < length (l .spelling)) × Nonempty ls
 
 module _ (s : List ℕ) (at : ℕ) where
-  pub spans-cond : (b : Bool) (x y : Token) → (b ≡ true → Spans s at x) → (b ≡ false → Spans s at y) → Spans s at (cond b x y)
+  pub spans-cond : (b : Bool) (x y : Token) → (b ≡ true → Spans s at x) → (b ≡ false → Spans s at y)
+      → Spans s at (cond b x y)
   spans-cond true x y f g = f refl
   spans-cond false x y f g = g refl
 
@@ -94,7 +96,8 @@ module _ (s : List ℕ) (at : ℕ) where
   pub to-spans : (sort end : ℕ) → at < end → end ≤ length s → Spans s at (token sort at end)
   to-spans sort end l h = record { here = refl; order = omega arith; inside = h; strict = λ m n. l }
 
-  pub spelled-spans : (ls : List Literal) (t : Token) → at ≤ length s → Nonempty ls → Spans s at t → Spans s at (spelled ls at (drop at s) t)
+  pub spelled-spans : (ls : List Literal) (t : Token) → at ≤ length s → Nonempty ls → Spans s at t
+      → Spans s at (spelled ls at (drop at s) t)
   unfolding spelled
   spelled-spans [] t h ne p = p
   spelled-spans (l ∷ ls) t h ne p =
@@ -113,7 +116,8 @@ pub drop-in : (s : List ℕ) (at : ℕ) → at < length s → drop at s ≡ byte
 drop-in s at h = rw (add-one, drop-cons s at 0)
 
 -- a run whose first byte passes is not empty
-pub run-strict : (s : List ℕ) (at : ℕ) (test : ℕ → Bool) → at < length s → test (byteAt s at) ≡ true → at < past test at (drop at s)
+pub run-strict : (s : List ℕ) (at : ℕ) (test : ℕ → Bool) → at < length s → test (byteAt s at) ≡ true
+    → at < past test at (drop at s)
 unfolding past
 run-strict s at test h e =
     let g = past-between test (at + 1) (drop (at + 1) s) in
@@ -129,7 +133,8 @@ unfolding wordByte
 small-word b e = rw e
 
 -- behind `[at`
-pub code-between : (bs : List ℕ) (some : Bool) (at : ℕ) → codeEnd some at bs ≢ 0 → (at < codeEnd some at bs) × (codeEnd some at bs ≤ at + length bs)
+pub code-between : (bs : List ℕ) (some : Bool) (at : ℕ) → codeEnd some at bs ≢ 0
+    → (at < codeEnd some at bs) × (codeEnd some at bs ≤ at + length bs)
 unfolding codeEnd
 code-between [] some at = λ n. absurd (n refl)
 code-between (b ∷ bs) some at =
@@ -155,7 +160,7 @@ module _ (s : List ℕ) (at : ℕ) (h : at < length s) where
       let b = run-between s (at + 1) (omega arith) (is digit) in
       spans-cond s at (eqb (byteAt s at) (byte "-") && is digit (byteAt s (at + 1))) _ _
       (λ f. to-spans s at integer _ (omega arith) (b .most))
-      (λ f. spelled-spans s at marks (noToken at) (omega arith) (omega arith) (none-spans s at (omega arith)))
+      (λ f. spelled-spans s at markSpellings (noToken at) (omega arith) (omega arith) (none-spans s at (omega arith)))
 
   pub quoted-spans : Spans s at (quoted s at)
   quoted-spans =
@@ -192,9 +197,9 @@ on-spans s at h =
     spans-cond s at (leb (length s) at) _ _ (λ e. end-spans s at h) (λ e.
     let l : at < length s = leb-false _ _ e in
     spans-cond s at (is capital (byteAt s at)) _ _
-    (λ f. spelled-spans s at timePatterns _ h (omega arith) (word-spans s at l booleans typeName (capital-word _ f)))
+    (λ f. spelled-spans s at timePatternSpellings _ h (omega arith) (word-spans s at l booleans typeName (capital-word _ f)))
     (λ f. spans-cond s at (is small (byteAt s at)) _ _
-    (λ g. spelled-spans s at datePatterns _ h (omega arith) (word-spans s at l keywords name (small-word _ g)))
+    (λ g. spelled-spans s at datePatternSpellings _ h (omega arith) (word-spans s at l keywords name (small-word _ g)))
     (λ g. spans-cond s at (is digit (byteAt s at)) _ _ (number-spans s at l)
     (λ k. spans-cond s at (is mark (byteAt s at)) _ _ (λ m. sign-spans s at l) (λ m. special-spans s at l)))))
 

@@ -14,7 +14,7 @@ use Rattle.lexis.specs.Runs.{past, byteAt, startsWith}
 use Rattle.lexis.specs.Blanks.{skip, tokenStart}
 use Rattle.lexis.specs.Tokens.{token, spelled, quoted}
 use Rattle.lexis.specs.DataTokens.{runSort, dataTokenOn, dataTokenAt}
-use Rattle.lexis.specs.Postconditions.{PlaceIs, StartsAlike, TokenIs, isMark}
+use Rattle.lexis.specs.contracts.Answers.{PlaceIs, StartsAlike, TokenIs, isMark}
 use Rattle.lexis.specs.declared.Token.{Token}
 use Rattle.lexis.proofs.Places.{byte-inside, drop-in}
 use Rattle.lexis.proofs.StartBack.{start-here, clear-at}
@@ -49,15 +49,18 @@ module _ (b sort : ℕ) where
   pub mark-close : sort ≡ 25 → eqb b 41 ≡ isMark b sort
   mark-close e = rw e
 
-  pub mark-none : (sort ≡ 18 → ⊥) → (sort ≡ 19 → ⊥) → (sort ≡ 23 → ⊥) → (sort ≡ 24 → ⊥) → (sort ≡ 25 → ⊥) → false ≡ isMark b sort
+  pub mark-none : (sort ≡ 18 → ⊥) → (sort ≡ 19 → ⊥) → (sort ≡ 23 → ⊥) → (sort ≡ 24 → ⊥) → (sort ≡ 25 → ⊥)
+      → false ≡ isMark b sort
   mark-none l g e o k = rw (ne-eqb sort 18 l, ne-eqb sort 19 g, ne-eqb sort 23 e, ne-eqb sort 24 o, ne-eqb sort 25 k)
 
 -- what holds of each mark and its sort
-mark-cases : (P : ℕ → ℕ → Type 0) → P 60 18 → P 62 19 → P 61 23 → P 40 24 → P 41 25 → (b sort : ℕ) → isMark b sort ≡ true → P b sort
+mark-cases : (P : ℕ → ℕ → Type 0) → P 60 18 → P 62 19 → P 61 23 → P 40 24 → P 41 25 → (b sort : ℕ)
+    → isMark b sort ≡ true → P b sort
 mark-cases P l g e o k b sort =
     one 18 60 (eqb sort 18) refl l (one 19 62 (eqb sort 19) refl g (one 23 61 (eqb sort 23) refl e (one 24 40 (eqb sort 24) refl o (one 25 41 (eqb sort 25) refl k (λ n. absurd (false≢true n))))))
   where
-    one : (x y : ℕ) (m : Bool) → eqb sort x ≡ m → P y x → {rest : Bool} → (rest ≡ true → P b sort) → cond m (eqb b y) rest ≡ true → P b sort
+    one : (x y : ℕ) (m : Bool) → eqb sort x ≡ m → P y x → {rest : Bool} → (rest ≡ true → P b sort)
+        → cond m (eqb b y) rest ≡ true → P b sort
     one x y true h p f n = rw (eqb-true sort x h, eqb-true b y n) p
     one x y false h p f n = f n
 
@@ -79,7 +82,8 @@ mark-alone =
     (record { plain = refl; dash = refl; some = eqb-false 41 0 refl; on = λ s at h e. rw (lt-leb (length s) at h, drop-in s at h, e) })
 
 -- the next token starts at a byte that is no blank and no `-`
-starts-here : (s : List ℕ) (at : ℕ) → is blank (byteAt s at) ≡ false → eqb (byteAt s at) (byte "-") ≡ false → tokenStart s at ≡ at
+starts-here : (s : List ℕ) (at : ℕ) → is blank (byteAt s at) ≡ false → eqb (byteAt s at) (byte "-") ≡ false
+    → tokenStart s at ≡ at
 starts-here s at p d = start-here s at (clear-at s at (drop at s) refl p (rw d))
 
 -- a mark at a place from which on the next token starts where it does from an earlier one
@@ -90,7 +94,8 @@ module _ (s : List ℕ) (at b sort : ℕ) (m : Bool) (q : b ≡ byteAt s at) (k 
   pub mark-inside : at < length s
   mark-inside = byte-inside s at (byteAt s at) refl (alone .some)
 
-  pub mark-told : (from : ℕ) → from ≤ length s → StartsAlike s from at → TokenIs s from (dataTokenAt s from) (token sort at (at + 1))
+  pub mark-told : (from : ℕ) → from ≤ length s → StartsAlike s from at
+      → TokenIs s from (dataTokenAt s from) (token sort at (at + 1))
   unfolding dataTokenAt
   mark-told from h l =
       let n = starts-here s at (alone .plain) (alone .dash) in
@@ -125,11 +130,13 @@ digit-some : (b : ℕ) → is digit b ≡ true → b ≢ 0
 unfolding sortOf
 digit-some b e z = false≢true (rw z at e)
 
-module _ (s : List ℕ) (from b : ℕ) (q : b ≡ byteAt s from) (h : from ≤ length s) (d : Bool) (k : d ≡ is digit b) (e : d ≡ true) where
+module _ (s : List ℕ) (from b : ℕ) (q : b ≡ byteAt s from) (h : from ≤ length s) (d : Bool) (k : d ≡ is digit b)
+    (e : d ≡ true) where
   digit-here : is digit (byteAt s from) ≡ true
   digit-here = rw (← q, ← k) e
 
-  pub digits-told : (end c : ℕ) (r : Bool) → PlaceIs s from (past (is digit) from (drop from s)) end → c ≡ byteAt s end → r ≡ runByte c → not r ≡ true
+  pub digits-told : (end c : ℕ) (r : Bool) → PlaceIs s from (past (is digit) from (drop from s)) end → c ≡ byteAt s end
+      → r ≡ runByte c → not r ≡ true
       → TokenIs s from (dataTokenAt s from) (token 26 from end)
   unfolding dataTokenOn dataTokenAt
   digits-told end c r p u v w =

@@ -11,7 +11,7 @@ use borrow.Author.Tests.{eqb-true, ne-eqb, lt-leb}
 use Rattle.lexis.specs.Text.{byte, bytes}
 use Rattle.lexis.specs.Bytes.{is, sortOf, digit, small, capital, mark, other, wordByte, stringByte}
 use Rattle.lexis.specs.Runs.{past, byteAt, startsWith, shaped, all}
-use Rattle.lexis.specs.Spelling.{Literal, wordSort, keywords, booleans, datePatterns, timePatterns, codeStart, dateShape}
+use Rattle.lexis.specs.Spelling.{Literal, wordSort, keywords, booleans, datePatternSpellings, timePatternSpellings, codeStart, dateShape}
 use Rattle.lexis.specs.Tokens.{token, spelling, inner, spelled, word, number, sign, quoted, codeEnd, special, tokenOn, typeName, name, integer, date, string, code}
 use Rattle.lexis.specs.declared.Token.{Token}
 use Rattle.lexis.proofs.Cases.{and-left, and-right}
@@ -21,13 +21,14 @@ use Rattle.lexis.proofs.RunLaws.{past-run, starts-self, starts-not, sha
 -- the token that a byte of the sort k starts
 abbrev pub starting : ℕ → List ℕ → ℕ → Token
 starting k s at =
-    cond (eqb k capital) (spelled timePatterns at (drop at s) (word s booleans typeName at))
-    (cond (eqb k small) (spelled datePatterns at (drop at s) (word s keywords name at))
+    cond (eqb k capital) (spelled timePatternSpellings at (drop at s) (word s booleans typeName at))
+    (cond (eqb k small) (spelled datePatternSpellings at (drop at s) (word s keywords name at))
     (cond (eqb k digit) (number s at)
     (cond (eqb k mark) (sign s at) (special s at))))
 
 -- where a byte stands, the token is the one that a byte of its sort starts
-pub on-sort : (s : List ℕ) (at b : ℕ) (bs : List ℕ) → drop at s ≡ b ∷ bs → (k : ℕ) → sortOf b ≡ k → tokenOn s at ≡ starting k s at
+pub on-sort : (s : List ℕ) (at b : ℕ) (bs : List ℕ) → drop at s ≡ b ∷ bs → (k : ℕ) → sortOf b ≡ k
+    → tokenOn s at ≡ starting k s at
 unfolding tokenOn
 on-sort s at b bs h k e = rw (lt-leb (length s) at (first-inside s at b bs h), first-read s at b bs h, e)
 
@@ -41,7 +42,8 @@ every test [] = true
 every test (l ∷ ls) = test l && every test ls
 
 -- where all spellings of a list break at c, none of them begins bytes of words behind which stands neither a byte of words nor c
-spelled-not : (c : ℕ) (w rest : List ℕ) → all wordByte w ≡ true → wordByte (byteAt rest 0) ≡ false → eqb (byteAt rest 0) c ≡ false
+spelled-not : (c : ℕ) (w rest : List ℕ) → all wordByte w ≡ true → wordByte (byteAt rest 0) ≡ false
+    → eqb (byteAt rest 0) c ≡ false
     → (ls : List Literal) (at : ℕ) (t : Token) → every (λ l. breaks wordByte c (l .spelling)) ls ≡ true → spelled ls at (w ++ rest) t ≡ t
 unfolding spelled every
 spelled-not c w rest a e n [] at t k = refl
@@ -51,9 +53,11 @@ spelled-not c w rest a e n (l ∷ ls) at t k =
     rw (starts-not wordByte c (l .spelling) w rest k0 a e n, spelled-not c w rest a e n ls at t k1)
 
 -- a byte, and bytes of words behind it, that end where a word ends
-module _ (s : List ℕ) (at b : ℕ) (ws rest : List ℕ) (h : drop at s ≡ (b ∷ ws) ++ rest) (a : all wordByte ws ≡ true) (e : wordByte (byteAt rest 0) ≡ false) where
+module _ (s : List ℕ) (at b : ℕ) (ws rest : List ℕ) (h : drop at s ≡ (b ∷ ws) ++ rest) (a : all wordByte ws ≡ true)
+    (e : wordByte (byteAt rest 0) ≡ false) where
   -- they are a word of the list, or else of the sort given, and none of the patterns, which all break at c
-  word-read : (c sort : ℕ) (patterns ls : List Literal) → every (λ l. breaks wordByte c (l .spelling)) patterns ≡ true → wordByte b ≡ true
+  word-read : (c sort : ℕ) (patterns ls : List Literal) → every (λ l. breaks wordByte c (l .spelling)) patterns ≡ true
+      → wordByte b ≡ true
       → eqb (byteAt rest 0) c ≡ false → spelled patterns at (drop at s) (word s ls sort at) ≡ token (wordSort ls (b ∷ ws) sort) at (at + length (b ∷ ws))
   unfolding all
   word-read c sort patterns ls k f n =
@@ -66,16 +70,17 @@ module _ (s : List ℕ) (at b : ℕ) (ws rest : List ℕ) (h : drop at s ≡ (b 
   pub type-read : is capital b ≡ true → eqb (byteAt rest 0) (byte ":") ≡ false
       → tokenOn s at ≡ token (wordSort booleans (b ∷ ws) typeName) at (at + length (b ∷ ws))
   unfolding every breaks wordByte sortOf
-  type-read f n = on-sort s at b (ws ++ rest) h capital (eqb-true _ _ f) ∙ word-read (byte ":") typeName timePatterns booleans refl (capital-word b f) n
+  type-read f n = on-sort s at b (ws ++ rest) h capital (eqb-true _ _ f) ∙ word-read (byte ":") typeName timePatternSpellings booleans refl (capital-word b f) n
 
   -- a small letter and bytes of words, behind which stands neither a byte of words nor `-`, are a NAME or a keyword
   pub name-read : is small b ≡ true → eqb (byteAt rest 0) (byte "-") ≡ false
       → tokenOn s at ≡ token (wordSort keywords (b ∷ ws) name) at (at + length (b ∷ ws))
   unfolding every breaks wordByte sortOf
-  name-read f n = on-sort s at b (ws ++ rest) h small (eqb-true _ _ f) ∙ word-read (byte "-") name datePatterns keywords refl (small-word b f) n
+  name-read f n = on-sort s at b (ws ++ rest) h small (eqb-true _ _ f) ∙ word-read (byte "-") name datePatternSpellings keywords refl (small-word b f) n
 
 -- digits behind which stands neither a digit nor `-` are an integer
-pub integer-read : (s : List ℕ) (at b : ℕ) (ws rest : List ℕ) → drop at s ≡ (b ∷ ws) ++ rest → all (is digit) (b ∷ ws) ≡ true
+pub integer-read : (s : List ℕ) (at b : ℕ) (ws rest : List ℕ) → drop at s ≡ (b ∷ ws) ++ rest
+    → all (is digit) (b ∷ ws) ≡ true
     → is digit (byteAt rest 0) ≡ false → eqb (byteAt rest 0) (byte "-") ≡ false → tokenOn s at ≡ token integer at (at + length (b ∷ ws))
 unfolding all breaks sortOf
 integer-read s at b ws rest h a e n =
@@ -83,7 +88,8 @@ integer-read s at b ws rest h a e n =
     ∙ rw (h, shaped-not (byte "-") dateShape (b ∷ ws) rest refl refl a e n, past-run (is digit) at (b ∷ ws) rest a e)
 
 -- `-` and digits behind which stands no digit are an integer
-pub negative-read : (s : List ℕ) (at b : ℕ) (ws rest : List ℕ) → drop at s ≡ (byte "-" ∷ b ∷ ws) ++ rest → all (is digit) (b ∷ ws) ≡ true
+pub negative-read : (s : List ℕ) (at b : ℕ) (ws rest : List ℕ) → drop at s ≡ (byte "-" ∷ b ∷ ws) ++ rest
+    → all (is digit) (b ∷ ws) ≡ true
     → is digit (byteAt rest 0) ≡ false → tokenOn s at ≡ token integer at (at + length (byte "-" ∷ b ∷ ws))
 unfolding all sortOf
 negative-read s at b ws rest h a e =
@@ -92,7 +98,8 @@ negative-read s at b ws rest h a e =
     ∙ rw (first-read s at _ _ h, first-read s (at + 1) _ _ tail, and-left (is digit b) (all (is digit) ws) a, tail, past-run (is digit) (at + 1) (b ∷ ws) rest a e) (to-end (omega arith))
 
 -- ten bytes in a date's shape are a date, whatever follows
-pub date-read : (s : List ℕ) (at : ℕ) (w rest : List ℕ) → drop at s ≡ w ++ rest → shaped dateShape w ≡ true → length w ≡ 10
+pub date-read : (s : List ℕ) (at : ℕ) (w rest : List ℕ) → drop at s ≡ w ++ rest → shaped dateShape w ≡ true
+    → length w ≡ 10
     → tokenOn s at ≡ token date at (at + length w)
 unfolding shaped
 date-read s at [] rest h f n = absurd (false≢true f)
@@ -130,11 +137,13 @@ inner-read s at a z w rest h sort =
     rw (behind s at (a ∷ []) (w ++ (z ∷ []) ++ rest) h, append-assoc w (z ∷ []) rest) (take-at w (z ∷ rest) _ n)
 
 -- a token's spelling is what stands from its start to its end
-pub spelling-read : (s : List ℕ) (at : ℕ) (w rest : List ℕ) → drop at s ≡ w ++ rest → (sort : ℕ) → spelling s (token sort at (at + length w)) ≡ w
+pub spelling-read : (s : List ℕ) (at : ℕ) (w rest : List ℕ) → drop at s ≡ w ++ rest → (sort : ℕ)
+    → spelling s (token sort at (at + length w)) ≡ w
 spelling-read s at w rest h sort = part-read s at w rest h
 
 -- a string without its quotes is what was quoted
-pub string-inner : (s : List ℕ) (at : ℕ) (w rest : List ℕ) → drop at s ≡ inQuotes w ++ rest → all stringByte w ≡ true → inner s (tokenOn s at) ≡ w
+pub string-inner : (s : List ℕ) (at : ℕ) (w rest : List ℕ) → drop at s ≡ inQuotes w ++ rest → all stringByte w ≡ true
+    → inner s (tokenOn s at) ≡ w
 string-inner s at w rest h a = rw (string-read s at w rest h a) (inner-read s at (byte "\"") (byte "\"") w rest h string)
 
 -- digits, then any number of dot and digits; `some` says that a digit stands before
@@ -147,7 +156,8 @@ abbrev pub inBrackets : List ℕ → List ℕ
 inBrackets w = codeStart ++ (w ++ (byte "]" ∷ []))
 
 -- a code ends behind its `]`
-code-end : (at : ℕ) (some : Bool) (w rest : List ℕ) → grouped some w ≡ true → codeEnd some at (w ++ (byte "]" ∷ rest)) ≡ at + length w + 1
+code-end : (at : ℕ) (some : Bool) (w rest : List ℕ) → grouped some w ≡ true
+    → codeEnd some at (w ++ (byte "]" ∷ rest)) ≡ at + length w + 1
 unfolding grouped codeEnd sortOf
 code-end at some [] rest g = rw g (omega arith)
 code-end at some (b ∷ w) rest g =
@@ -168,5 +178,6 @@ code-read s at w rest h g =
     ∙ rw (first-read s at _ _ h, p, tail, code-end (at + 3) false w rest g, ne-eqb (at + 3 + length w + 1) 0 (omega arith)) (to-end (omega arith))
 
 -- a code without its brackets is what stood between them
-pub code-inner : (s : List ℕ) (at : ℕ) (w rest : List ℕ) → drop at s ≡ inBrackets w ++ rest → grouped false w ≡ true → inner s (tokenOn s at) ≡ bytes "at" ++ w
+pub code-inner : (s : List ℕ) (at : ℕ) (w rest : List ℕ) → drop at s ≡ inBrackets w ++ rest → grouped false w ≡ true
+    → inner s (tokenOn s at) ≡ bytes "at" ++ w
 code-inner s at w rest h g = rw (code-read s at w rest h g) (inner-read s at (byte "[") (byte "]") (bytes "at" ++ w) rest h code)

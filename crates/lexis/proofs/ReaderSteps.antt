@@ -11,7 +11,7 @@ use borrow.Author.Tests.{le-leb}
 use Rattle.lexis.specs.Blanks.{skip, tokenStart}
 use Rattle.lexis.specs.Tokens.{token, textEnd, tokenOn, tokenAt}
 use Rattle.lexis.specs.DataTokens.{dataTokenOn, dataTokenAt, typeTokenAt}
-use Rattle.lexis.specs.Postconditions.{PlaceIs, sorting, behindOf, tokenBy}
+use Rattle.lexis.specs.contracts.Answers.{PlaceIs, sorting, behindOf, tokenBy}
 use Rattle.lexis.specs.declared.Token.{Token}
 use Rattle.lexis.specs.declared.reader.Tokens.{Tokens}
 use Rattle.lexis.specs.declared.reader.Tokens.the-variants.{Constraint, Data, Behind}
@@ -31,11 +31,13 @@ module _ (s : List ℕ) (from : ℕ) where
     next-constraint e q = rw e (rw (p .is) at q)
 
     -- the choice is one of the last two
-    pub next-data : (b : Bool) → OneOf (1 ∷ 2 ∷ []) (tagOf the-type k) → b ≡ behindOf k → t ≡ dataTokenOn (sorting b) s at → t ≡ tokenBy k s from
+    pub next-data : (b : Bool) → OneOf (1 ∷ 2 ∷ []) (tagOf the-type k) → b ≡ behindOf k
+        → t ≡ dataTokenOn (sorting b) s at → t ≡ tokenBy k s from
     unfolding dataTokenAt typeTokenAt
     next-data b n e q = by-kind k n (rw (p .is, e) at q)
       where
-        by-kind : (k : Tokens) → OneOf (1 ∷ 2 ∷ []) (tagOf the-type k) → t ≡ dataTokenOn (sorting (behindOf k)) s (tokenStart s from) → t ≡ tokenBy k s from
+        by-kind : (k : Tokens) → OneOf (1 ∷ 2 ∷ []) (tagOf the-type k)
+            → t ≡ dataTokenOn (sorting (behindOf k)) s (tokenStart s from) → t ≡ tokenBy k s from
         by-kind Constraint n q = absurd (miss (1 ∷ 2 ∷ []) 0 tt n)
         by-kind Data n q = q
         by-kind Behind n q = q

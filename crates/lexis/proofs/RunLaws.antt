@@ -14,7 +14,8 @@ use Rattle.lexis.specs.Runs.{past, byteAt, part, startsWith, anyDigit, a
 use Rattle.lexis.proofs.Cases.{and-left, and-right}
 
 -- a run ends behind the bytes that pass, where the next byte fails
-pub past-run : (test : ℕ → Bool) (at : ℕ) (w rest : List ℕ) → all test w ≡ true → test (byteAt rest 0) ≡ false → past test at (w ++ rest) ≡ at + length w
+pub past-run : (test : ℕ → Bool) (at : ℕ) (w rest : List ℕ) → all test w ≡ true → test (byteAt rest 0) ≡ false
+    → past test at (w ++ rest) ≡ at + length w
 unfolding past all
 past-run test at [] [] a e = omega arith
 past-run test at [] (r ∷ rs) a e = rw e (omega arith)
@@ -47,7 +48,8 @@ and-no true b f = f refl
 and-no false b f = refl
 
 -- bytes that pass, and then one that fails and is not c, do not begin as a spelling that breaks at c
-pub starts-not : (test : ℕ → Bool) (c : ℕ) (spelling w rest : List ℕ) → breaks test c spelling ≡ true → all test w ≡ true
+pub starts-not : (test : ℕ → Bool) (c : ℕ) (spelling w rest : List ℕ) → breaks test c spelling ≡ true
+    → all test w ≡ true
     → test (byteAt rest 0) ≡ false → eqb (byteAt rest 0) c ≡ false → startsWith spelling (w ++ rest) ≡ false
 unfolding startsWith all breaks
 starts-not test c [] w rest k a e n = absurd (false≢true k)
@@ -58,13 +60,15 @@ starts-not test c (x ∷ xs) (b ∷ w) rest k a e n =
     (λ q. starts-not test c xs w rest (rw (eqb-true x b q, and-left (test b) (all test w) a) at k) (and-right (test b) (all test w) a) e n)
 
 -- one element of a shape and one byte: the shape fails here, or further on
-shape-step : (k more found : Bool) (x b c : ℕ) → cond k more (eqb x c) ≡ true → (is digit b ≡ true → more ≡ true → found ≡ false) → (b ≡ c → ⊥)
+shape-step : (k more found : Bool) (x b c : ℕ) → cond k more (eqb x c) ≡ true
+    → (is digit b ≡ true → more ≡ true → found ≡ false) → (b ≡ c → ⊥)
     → (cond k (is digit b) (eqb x b) && found) ≡ false
 shape-step true more found x b c h f n = and-no (is digit b) found (λ q. f q h)
 shape-step false more found x b c h f n = rw (eqb-true x c h, ne-eqb c b (λ q. n (sym q)))
 
 -- digits, and then a byte that is no digit and not c, do not begin in a shape that breaks at c
-pub shaped-not : (c : ℕ) (shape w rest : List ℕ) → is digit c ≡ false → breaks (λ x. eqb x anyDigit) c shape ≡ true → all (is digit) w ≡ true
+pub shaped-not : (c : ℕ) (shape w rest : List ℕ) → is digit c ≡ false → breaks (λ x. eqb x anyDigit) c shape ≡ true
+    → all (is digit) w ≡ true
     → is digit (byteAt rest 0) ≡ false → eqb (byteAt rest 0) c ≡ false → shaped shape (w ++ rest) ≡ false
 unfolding shaped all breaks
 shaped-not c [] w rest d k a e n = absurd (false≢true k)

@@ -13,7 +13,7 @@ use Rattle.lexis.specs.Text.{byte}
 use Rattle.lexis.specs.Bytes.{within, among, marks, sortOf, is, blank, digit, small, capital, mark, other, wordByte, stringByte, runByte, lineEnd}
 use Rattle.lexis.specs.Runs.{past, byteAt, same, startsWith, shaped, allows}
 use Rattle.lexis.specs.Blanks.{skip, opensComment, tokenStart}
-use Rattle.lexis.specs.Postconditions.{PlaceIs, testOf, commentOpen, tokenHere, admits, beginsBy}
+use Rattle.lexis.specs.contracts.Answers.{PlaceIs, testOf, commentOpen, tokenHere, admits, beginsBy}
 use Rattle.lexis.specs.declared.runs.Class.{Class}
 use Rattle.lexis.specs.declared.runs.Class.the-variants.{Digit, Word, Text, Run}
 use Rattle.lexis.proofs.Places.{drop-in}
@@ -28,7 +28,8 @@ pub record InRun (test : ℕ → Bool) (s : List ℕ) (from x at : ℕ) : Type 0
   pub high : at ≤ length s
   pub is : past test at (drop at s) ≡ x
 
-pub run-first : (test : ℕ → Bool) (s : List ℕ) (from : ℕ) → from ≤ length s → InRun test s from (past test from (drop from s)) from
+pub run-first : (test : ℕ → Bool) (s : List ℕ) (from : ℕ) → from ≤ length s
+    → InRun test s from (past test from (drop from s)) from
 run-first test s from h = record { low = omega arith; high = h; is = refl }
 
 module _ (test : ℕ → Bool) (s : List ℕ) (from x at : ℕ) (inv : InRun test s from x at) where
@@ -47,13 +48,16 @@ module _ (test : ℕ → Bool) (s : List ℕ) (from x at : ℕ) (inv : InRun tes
 
 -- behind a byte of a text
 module _ (s : List ℕ) (at : ℕ) (inside : Bool) where
-  pub open-inside : (r : Bool) → inside ≡ true → r ≡ lineEnd (byteAt s at) → not r ≡ commentOpen inside (byteAt s at) (drop (at + 1) s)
+  pub open-inside : (r : Bool) → inside ≡ true → r ≡ lineEnd (byteAt s at)
+      → not r ≡ commentOpen inside (byteAt s at) (drop (at + 1) s)
   open-inside r i h = rw (i, h)
 
-  pub open-other : inside ≡ false → (byteAt s at ≡ byte "-" → ⊥) → false ≡ commentOpen inside (byteAt s at) (drop (at + 1) s)
+  pub open-other : inside ≡ false → (byteAt s at ≡ byte "-" → ⊥)
+      → false ≡ commentOpen inside (byteAt s at) (drop (at + 1) s)
   open-other i n = rw (i, ne-eqb (byteAt s at) (byte "-") n)
 
-  pub open-two : (b : ℕ) → inside ≡ false → byteAt s at ≡ byte "-" → b ≡ byteAt s (at + 1) → eqb b (byte "-") ≡ commentOpen inside (byteAt s at) (drop (at + 1) s)
+  pub open-two : (b : ℕ) → inside ≡ false → byteAt s at ≡ byte "-" → b ≡ byteAt s (at + 1)
+      → eqb b (byte "-") ≡ commentOpen inside (byteAt s at) (drop (at + 1) s)
   open-two b i e q = rw (i, eq-eqb (byteAt s at) (byte "-") e, getD-drop (at + 1) s 0 0, add-zero, ← q)
 
 skip-end : (inside : Bool) (at : ℕ) → skip inside at [] ≡ at
@@ -66,7 +70,8 @@ unfolding skip
 skip-here true at b bs h = absurd (false≢true h)
 skip-here false at b bs h = rw (not-true (is blank b || opensComment b bs) h)
 
-skip-more : (inside : Bool) (at b : ℕ) (bs : List ℕ) → tokenHere inside b bs ≡ false → skip inside at (b ∷ bs) ≡ skip (commentOpen inside b bs) (at + 1) bs
+skip-more : (inside : Bool) (at b : ℕ) (bs : List ℕ) → tokenHere inside b bs ≡ false
+    → skip inside at (b ∷ bs) ≡ skip (commentOpen inside b bs) (at + 1) bs
 unfolding skip
 skip-more true at b bs h = refl
 skip-more false at b bs h = rw (not-false (is blank b || opensComment b bs) h)
@@ -95,7 +100,8 @@ module _ (s : List ℕ) (at : ℕ) (inside : Bool) where
   unfolding sortOf
   here-two b i e q = rw (i, e, getD-drop (at + 1) s 0 0, add-zero, ← q)
 
-  pub here-other : (r : Bool) → inside ≡ false → (byteAt s at ≡ byte "-" → ⊥) → r ≡ is blank (byteAt s at) → not r ≡ tokenHere inside (byteAt s at) (drop (at + 1) s)
+  pub here-other : (r : Bool) → inside ≡ false → (byteAt s at ≡ byte "-" → ⊥) → r ≡ is blank (byteAt s at)
+      → not r ≡ tokenHere inside (byteAt s at) (drop (at + 1) s)
   here-other r i n q = rw (i, ne-eqb (byteAt s at) (byte "-") n, q) (clear (is blank (byteAt s at)))
     where
       clear : (k : Bool) → not k ≡ not (k || false)
@@ -121,7 +127,8 @@ module _ (s : List ℕ) (from x at : ℕ) (inside : Bool) (inv : InBlanks s from
         let k = skip-here inside at (byteAt s at) (drop (at + 1) s) (sym t ∙ e) in
         record { is = sym k ∙ (rw (drop-in s at h) at (inv .is)); low = inv .low; high = inv .high }
 
-    pub blanks-on : (after : Bool) → r ≡ false → after ≡ commentOpen inside (byteAt s at) (drop (at + 1) s) → InBlanks s from x (at + 1) after
+    pub blanks-on : (after : Bool) → r ≡ false → after ≡ commentOpen inside (byteAt s at) (drop (at + 1) s)
+        → InBlanks s from x (at + 1) after
     blanks-on after e q =
         let k = skip-more inside at (byteAt s at) (drop (at + 1) s) (sym t ∙ e) in
         record { low = omega arith; high = omega arith; is = rw q (sym k ∙ (rw (drop-in s at h) at (inv .is))) }
@@ -147,7 +154,8 @@ fewer f [] bs h = absurd (omega arith)
 fewer f (x ∷ w) [] h = refl
 fewer f (x ∷ w) (b ∷ bs) h = and-none (f x b) (beginsBy f w bs) (fewer f w bs (omega arith))
 
-pub begins-short : (f : ℕ → ℕ → Bool) (w s : List ℕ) (at : ℕ) → length s - at < length w → false ≡ beginsBy f w (drop at s)
+pub begins-short : (f : ℕ → ℕ → Bool) (w s : List ℕ) (at : ℕ) → length s - at < length w
+    → false ≡ beginsBy f w (drop at s)
 begins-short f w s at h = fewer f w (drop at s) (simp length-drop h)
 
 -- in a word: what is left of it begins what is left of the text as the whole word begins the text
@@ -156,7 +164,8 @@ pub record InWord (f : ℕ → ℕ → Bool) (w s : List ℕ) (at i : ℕ) (x : 
   pub room : at + length w ≤ length s
   pub is : beginsBy f (drop i w) (drop (at + i) s) ≡ x
 
-pub word-first : (f : ℕ → ℕ → Bool) (w s : List ℕ) (at : ℕ) → at ≤ length s → length w ≤ length s - at → InWord f w s at 0 (beginsBy f w (drop at s))
+pub word-first : (f : ℕ → ℕ → Bool) (w s : List ℕ) (at : ℕ) → at ≤ length s → length w ≤ length s - at
+    → InWord f w s at 0 (beginsBy f w (drop at s))
 word-first f w s at h k = record { high = omega arith; room = omega arith; is = rw add-zero }
 
 module _ (f : ℕ → ℕ → Bool) (w s : List ℕ) (at i : ℕ) (x : Bool) (inv : InWord f w s at i x) where

@@ -1,4 +1,4 @@
--- What is spelled in one way reads back as its own sort: marks, the sign ∈, patterns. Assumes nothing.
+-- What is spelled in one way reads back as its own sort: markSpellings, the sign ∈, patterns. Assumes nothing.
 use mathlib.Core.Path.{_≡_, refl, sym, _∙_}
 use mathlib.Core.Bool.{Bool, true, false, cond, not, _&&_, _||_, false≢true}
 use mathlib.Core.List.{List, [], _∷_, _++_}
@@ -10,7 +10,7 @@ use borrow.Author.Tests.{eqb-true, eqb-false, ne-eqb, not-true}
 use Rattle.lexis.specs.Text.{byte}
 use Rattle.lexis.specs.Bytes.{is, sortOf, digit, small, capital, mark}
 use Rattle.lexis.specs.Runs.{byteAt, startsWith, same}
-use Rattle.lexis.specs.Spelling.{Literal, literal, marks, elementSign, datePatterns, timePatterns, less, greater}
+use Rattle.lexis.specs.Spelling.{Literal, literal, markSpellings, elementSign, datePatternSpellings, timePatternSpellings, less, greater}
 use Rattle.lexis.specs.Tokens.{token, spelled, tokenOn}
 use Rattle.lexis.specs.declared.Token.{Token}
 use Rattle.lexis.proofs.Cases.{by-cond, and-left, and-right}
@@ -51,14 +51,15 @@ leads next (l ∷ ls) sort w = let more = leads next ls sort w in cond (apart ne
 unfoldable pub reads : ℕ → ℕ → List ℕ → Bool
 reads next sort [] = false
 reads next sort (b ∷ w) =
-    cond (is capital b) (leads next timePatterns sort (b ∷ w))
-    (cond (is small b) (leads next datePatterns sort (b ∷ w))
+    cond (is capital b) (leads next timePatternSpellings sort (b ∷ w))
+    (cond (is small b) (leads next datePatternSpellings sort (b ∷ w))
     (cond (is digit b) false
-    (cond (is mark b) (cond (eqb b (byte "-")) false (leads next marks sort (b ∷ w)))
+    (cond (is mark b) (cond (eqb b (byte "-")) false (leads next markSpellings sort (b ∷ w)))
     (cond (eqb b (byte "\"")) false (cond (eqb b (byte "[")) false (leads next elementSign sort (b ∷ w)))))))
 
 -- such a list gives the token of that sort
-spelled-leads : (w rest : List ℕ) (sort : ℕ) (ls : List Literal) (at : ℕ) (t : Token) → leads (byteAt rest 0) ls sort w ≡ true
+spelled-leads : (w rest : List ℕ) (sort : ℕ) (ls : List Literal) (at : ℕ) (t : Token)
+    → leads (byteAt rest 0) ls sort w ≡ true
     → spelled ls at (w ++ rest) t ≡ token sort at (at + length w)
 unfolding spelled leads
 spelled-leads w rest sort [] at t k = absurd (false≢true k)
@@ -69,7 +70,8 @@ spelled-leads w rest sort (l ∷ ls) at t k =
     k
 
 -- two choices by one test, where the first choice passes
-by-same : (b : Bool) {p q : Bool} {x y z : Token} → cond b p q ≡ true → (p ≡ true → x ≡ z) → (q ≡ true → y ≡ z) → cond b x y ≡ z
+by-same : (b : Bool) {p q : Bool} {x y z : Token} → cond b p q ≡ true → (p ≡ true → x ≡ z) → (q ≡ true → y ≡ z)
+    → cond b x y ≡ z
 by-same true h f g = f h
 by-same false h f g = g h
 
@@ -83,7 +85,8 @@ narrow true d q h = absurd (false≢true h)
 narrow false d q h = h
 
 -- a spelling that passes the test reads back as a token of its own sort and length
-pub reads-back : (s : List ℕ) (at : ℕ) (w rest : List ℕ) → drop at s ≡ w ++ rest → (sort : ℕ) → reads (byteAt rest 0) sort w ≡ true
+pub reads-back : (s : List ℕ) (at : ℕ) (w rest : List ℕ) → drop at s ≡ w ++ rest → (sort : ℕ)
+    → reads (byteAt rest 0) sort w ≡ true
     → tokenOn s at ≡ token sort at (at + length w)
 unfolding reads
 reads-back s at [] rest h sort k = absurd (false≢true k)
@@ -91,16 +94,16 @@ reads-back s at (b ∷ w) rest h sort k =
     let t = spelled-leads (b ∷ w) rest sort in
     on-sort s at b (w ++ rest) h (sortOf b) refl
     ∙ rw (h, first-read s at b (w ++ rest) h)
-    (by-same (is capital b) k (t timePatterns at _)
-    (λ k. by-same (is small b) k (t datePatterns at _)
+    (by-same (is capital b) k (t timePatternSpellings at _)
+    (λ k. by-same (is small b) k (t datePatternSpellings at _)
     (λ k. by-same (is digit b) k never
     (λ k. by-same (is mark b) k
-    (λ k. by-same (eqb b (byte "-") && is digit (byteAt s (at + 1))) (narrow (eqb b (byte "-")) (is digit (byteAt s (at + 1))) _ k) never (t marks at _))
+    (λ k. by-same (eqb b (byte "-") && is digit (byteAt s (at + 1))) (narrow (eqb b (byte "-")) (is digit (byteAt s (at + 1))) _ k) never (t markSpellings at _))
     (λ k. by-same (eqb b (byte "\"")) k never (λ k. by-same (eqb b (byte "[")) k never (t elementSign at _)))))))
 
 -- all that is spelled in one way and does not read as a word
 abbrev pub literals : List Literal
-literals = marks ++ elementSign ++ datePatterns ++ timePatterns
+literals = markSpellings ++ elementSign ++ datePatternSpellings ++ timePatternSpellings
 
 -- one of the list by its number
 abbrev pub literalAt : ℕ → Literal
@@ -120,7 +123,8 @@ split true f g = f refl
 split false f g = g refl
 
 -- a test that all of a list pass is passed by each
-every-at : (test : Literal → Bool) (ls : List Literal) (i : ℕ) (d : Literal) → i < length ls → every test ls ≡ true → test (getD ls i d) ≡ true
+every-at : (test : Literal → Bool) (ls : List Literal) (i : ℕ) (d : Literal) → i < length ls → every test ls ≡ true
+    → test (getD ls i d) ≡ true
 unfolding every
 every-at test [] i d l h = absurd (omega arith)
 every-at test (x ∷ ls) zero d l h = and-left (test x) (every test ls) h
@@ -132,7 +136,8 @@ unfolding every literal-reads reads leads apart same sortOf
 literals-read next = split (eqb next (byte "=")) (λ e. rw e) (λ e. rw e)
 
 -- every spelling of the list reads back as its own sort, whatever follows, but for `=` behind `<` and `>`
-pub literal-read : (s : List ℕ) (at : ℕ) (rest : List ℕ) (i : ℕ) → i < length literals → drop at s ≡ literalAt i .spelling ++ rest
+pub literal-read : (s : List ℕ) (at : ℕ) (rest : List ℕ) (i : ℕ) → i < length literals
+    → drop at s ≡ literalAt i .spelling ++ rest
     → free (literalAt i .sort) (byteAt rest 0) ≡ true → tokenOn s at ≡ token (literalAt i .sort) at (at + length (literalAt i .spelling))
 unfolding literal-reads
 literal-read s at rest i l h f =

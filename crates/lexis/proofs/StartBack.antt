@@ -29,7 +29,8 @@ differs : (b c k : ℕ) → sortOf b ≡ k → eqb (sortOf c) k ≡ false → eq
 differs b c k e n = ne-eqb b c (λ q. eqb-false (sortOf c) k n (rw q at e))
 
 -- blanks are skipped, and no more than they
-pub skip-run : (at : ℕ) (ws bs : List ℕ) → all (is blank) ws ≡ true → clear bs ≡ true → skip false at (ws ++ bs) ≡ at + length ws
+pub skip-run : (at : ℕ) (ws bs : List ℕ) → all (is blank) ws ≡ true → clear bs ≡ true
+    → skip false at (ws ++ bs) ≡ at + length ws
 unfolding skip all clear sortOf
 skip-run at [] [] a c = omega arith
 skip-run at [] (b ∷ bs) a c = rw (not-true (is blank b || opensComment b bs) c) (omega arith)
@@ -55,7 +56,8 @@ unfolding all
 start-here s from c = rw add-zero at (start-read s from [] (drop from s) refl refl c)
 
 -- where only blanks follow, the next token is the text's end
-pub end-read : (s : List ℕ) (from : ℕ) → from ≤ length s → all (is blank) (drop from s) ≡ true → tokenAt s from ≡ token textEnd (length s) (length s)
+pub end-read : (s : List ℕ) (from : ℕ) → from ≤ length s → all (is blank) (drop from s) ≡ true
+    → tokenAt s from ≡ token textEnd (length s) (length s)
 unfolding tokenOn clear
 end-read s from l a =
     let d = length-drop from s in
@@ -90,7 +92,8 @@ not-or false true f g = absurd (g refl)
 not-or false false f g = refl
 
 -- a place at which something can be read is clear
-pub token-clear : (s : List ℕ) (at : ℕ) (bs : List ℕ) → drop at s ≡ bs → eqb (tokenOn s at .sort) unreadable ≡ false → clear bs ≡ true
+pub token-clear : (s : List ℕ) (at : ℕ) (bs : List ℕ) → drop at s ≡ bs → eqb (tokenOn s at .sort) unreadable ≡ false
+    → clear bs ≡ true
 unfolding clear
 token-clear s at [] h n = refl
 token-clear s at (b ∷ bs) h n =
@@ -106,12 +109,14 @@ token-read s from ws bs h a e n =
     token-behind s from ws bs h a (token-clear s (from + length ws) bs (behind s from ws bs h) (rw e n)) ∙ e
 
 -- where no blank stands before it, a token that can be read is the next token
-pub token-here : (s : List ℕ) (from : ℕ) {t : Token} → tokenOn s from ≡ t → eqb (t .sort) unreadable ≡ false → tokenAt s from ≡ t
+pub token-here : (s : List ℕ) (from : ℕ) {t : Token} → tokenOn s from ≡ t → eqb (t .sort) unreadable ≡ false
+    → tokenAt s from ≡ t
 unfolding tokenAt
 token-here s from e n = rw (start-here s from (token-clear s from (drop from s) refl (rw e n))) e
 
 -- a word can be read, where its list and its sort can
-pub word-readable : (ls : List Literal) (w : List ℕ) (sort : ℕ) → every (λ l. not (eqb (l .sort) unreadable)) ls ≡ true → eqb sort unreadable ≡ false
+pub word-readable : (ls : List Literal) (w : List ℕ) (sort : ℕ) → every (λ l. not (eqb (l .sort) unreadable)) ls ≡ true
+    → eqb sort unreadable ≡ false
     → eqb (wordSort ls w sort) unreadable ≡ false
 unfolding every wordSort
 word-readable [] w sort k e = e

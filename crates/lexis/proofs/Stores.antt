@@ -33,7 +33,8 @@ below-sets [] l i j h = refl
 below-sets (a ∷ vs) l i j h = below-sets vs (set l i a) (suc i) j (omega arith) ∙ getD-set-other l i j a 0 (λ e. omega arith)
 
 -- a number of a run stands at its place
-pub in-sets : (vs l : List ℕ) (i k : ℕ) → i + length vs ≤ length l → k < length vs → getD (sets l i vs) (i + k) 0 ≡ getD vs k 0
+pub in-sets : (vs l : List ℕ) (i k : ℕ) → i + length vs ≤ length l → k < length vs
+    → getD (sets l i vs) (i + k) 0 ≡ getD vs k 0
 in-sets [] l i k h b = absurd (omega arith)
 in-sets (a ∷ vs) l i zero h b =
     ap (λ (j : ℕ). getD (sets (set l i a) (suc i) vs) j 0) (add-zero i) ∙ below-sets vs (set l i a) (suc i) i (omega arith) ∙ getD-set-same l i a 0 (omega arith)

@@ -10,9 +10,9 @@ use borrow.Author.Tests.{eqb-true, eq-eqb, ne-eqb, le-leb, not-true, not-false}
 use Rattle.lexis.specs.Text.{byte}
 use Rattle.lexis.specs.Bytes.{is, sortOf, digit, stringByte}
 use Rattle.lexis.specs.Runs.{past, byteAt, startsWith, shaped}
-use Rattle.lexis.specs.Spelling.{marks, keywords, elementSign, booleans, datePatterns, timePatterns, codeStart, dateShape}
+use Rattle.lexis.specs.Spelling.{markSpellings, keywords, elementSign, booleans, datePatternSpellings, timePatternSpellings, codeStart, dateShape}
 use Rattle.lexis.specs.Tokens.{token, noToken, spelled, word, number, sign, quoted, codeEnd, bracket, special, tokenOn, tokenAt, textEnd, typeName, name, integer, date, string, code}
-use Rattle.lexis.specs.Postconditions.{PlaceIs, TokenIs}
+use Rattle.lexis.specs.contracts.Answers.{PlaceIs, TokenIs}
 use Rattle.lexis.specs.declared.Token.{Token}
 use Rattle.lexis.proofs.Cases.{and-left}
 use Rattle.lexis.proofs.Places.{Found, drop-in, starts-long, token-found}
@@ -23,7 +23,8 @@ module _ (s : List ℕ) (at : ℕ) (r : Bool) (q : r ≡ shaped dateShape (drop 
   pub number-date : r ≡ true → token date at (at + 10) ≡ number s at
   number-date e = rw (← q, e)
 
-  pub number-digits : (end : ℕ) → r ≡ false → PlaceIs s at (past (is digit) at (drop at s)) end → token integer at end ≡ number s at
+  pub number-digits : (end : ℕ) → r ≡ false → PlaceIs s at (past (is digit) at (drop at s)) end
+      → token integer at end ≡ number s at
   number-digits end e p = rw (← q, e, p .is)
 
 -- a sign
@@ -31,18 +32,21 @@ module _ (b next : ℕ) where
   pub negative-not : (b ≡ byte "-" → ⊥) → false ≡ (eqb b (byte "-") && is digit next)
   negative-not n = rw (ne-eqb b (byte "-") n)
 
-  pub negative-is : (c : ℕ) (r : Bool) → b ≡ byte "-" → c ≡ next → r ≡ is digit c → r ≡ (eqb b (byte "-") && is digit next)
+  pub negative-is : (c : ℕ) (r : Bool) → b ≡ byte "-" → c ≡ next → r ≡ is digit c
+      → r ≡ (eqb b (byte "-") && is digit next)
   negative-is c r e p q = rw (eq-eqb b (byte "-") e, ← p) q
 
 module _ (s : List ℕ) (at : ℕ) (r : Bool) (q : r ≡ (eqb (byteAt s at) (byte "-") && is digit (byteAt s (at + 1)))) where
-  pub sign-integer : (end : ℕ) → r ≡ true → PlaceIs s (at + 1) (past (is digit) (at + 1) (drop (at + 1) s)) end → token integer at end ≡ sign s at
+  pub sign-integer : (end : ℕ) → r ≡ true → PlaceIs s (at + 1) (past (is digit) (at + 1) (drop (at + 1) s)) end
+      → token integer at end ≡ sign s at
   sign-integer end e p = rw (← q, e, p .is)
 
-  pub sign-mark : (t : Token) → r ≡ false → t ≡ spelled marks at (drop at s) (noToken at) → t ≡ sign s at
+  pub sign-mark : (t : Token) → r ≡ false → t ≡ spelled markSpellings at (drop at s) (noToken at) → t ≡ sign s at
   sign-mark t e p = rw (← q, e) p
 
 -- a string
-module _ (s : List ℕ) (at end b : ℕ) (p : PlaceIs s (at + 1) (past stringByte (at + 1) (drop (at + 1) s)) end) (q : b ≡ byteAt s end) where
+module _ (s : List ℕ) (at end b : ℕ) (p : PlaceIs s (at + 1) (past stringByte (at + 1) (drop (at + 1) s)) end)
+    (q : b ≡ byteAt s end) where
   pub quoted-is : b ≡ byte "\"" → token string at (end + 1) ≡ quoted s at
   quoted-is e = rw (← p .is, ← q, eq-eqb b (byte "\"") e)
 
@@ -54,10 +58,12 @@ module _ (b : ℕ) (some : Bool) where
   pub code-digit : (r : Bool) → r ≡ is digit b → r ≡ true → true ≡ (is digit b || eqb b (byte ".") && some)
   code-digit r q e = rw (← q, e)
 
-  pub code-dot : (r : Bool) → r ≡ is digit b → r ≡ false → b ≡ byte "." → some ≡ (is digit b || eqb b (byte ".") && some)
+  pub code-dot : (r : Bool) → r ≡ is digit b → r ≡ false → b ≡ byte "."
+      → some ≡ (is digit b || eqb b (byte ".") && some)
   code-dot r q e d = rw (← q, e, eq-eqb b (byte ".") d)
 
-  pub code-other : (r : Bool) → r ≡ is digit b → r ≡ false → (b ≡ byte "." → ⊥) → false ≡ (is digit b || eqb b (byte ".") && some)
+  pub code-other : (r : Bool) → r ≡ is digit b → r ≡ false → (b ≡ byte "." → ⊥)
+      → false ≡ (is digit b || eqb b (byte ".") && some)
   code-other r q e n = rw (← q, e, ne-eqb b (byte ".") n)
 
   pub close-is : b ≡ byte "]" → some ≡ (eqb b (byte "]") && some)
@@ -87,7 +93,8 @@ module _ (s : List ℕ) (x at : ℕ) (some : Bool) (inv : InCode s x at some) wh
         let b = eqb-true (byteAt s at) (byte "]") (and-left (eqb (byteAt s at) (byte "]")) some f) in
         ended (byteAt s at) (drop (at + 1) s) b f ∙ (rw (drop-in s at h) at (inv .is))
       where
-        ended : (b : ℕ) (bs : List ℕ) → b ≡ byte "]" → (eqb b (byte "]") && some) ≡ true → at + 1 ≡ codeEnd some at (b ∷ bs)
+        ended : (b : ℕ) (bs : List ℕ)
+            → b ≡ byte "]" → (eqb b (byte "]") && some) ≡ true → at + 1 ≡ codeEnd some at (b ∷ bs)
         ended b bs e f = rw (f, e)
 
     module _ (k : Bool) (g : k ≡ (is digit (byteAt s at) || eqb (byteAt s at) (byte ".") && some)) where
@@ -125,7 +132,8 @@ module _ (s : List ℕ) (at : ℕ) (t : Token) where
   pub special-code : (byteAt s at ≡ byte "\"" → ⊥) → byteAt s at ≡ byte "[" → t ≡ bracket s at → t ≡ special s at
   special-code n e p = rw (ne-eqb (byteAt s at) (byte "\"") n, eq-eqb (byteAt s at) (byte "[") e) p
 
-  pub special-sign : (byteAt s at ≡ byte "\"" → ⊥) → (byteAt s at ≡ byte "[" → ⊥) → t ≡ spelled elementSign at (drop at s) (noToken at) → t ≡ special s at
+  pub special-sign : (byteAt s at ≡ byte "\"" → ⊥)
+      → (byteAt s at ≡ byte "[" → ⊥) → t ≡ spelled elementSign at (drop at s) (noToken at) → t ≡ special s at
   special-sign n m p = rw (ne-eqb (byteAt s at) (byte "\"") n, ne-eqb (byteAt s at) (byte "[") m) p
 
 -- the token that starts at a place
@@ -137,10 +145,11 @@ module _ (s : List ℕ) (at k : ℕ) (t : Token) (h : at < length s) (q : k ≡ 
   on : tokenOn s at ≡ starting k s at
   on = on-sort s at (byteAt s at) (drop (at + 1) s) (drop-in s at h) k (sym q)
 
-  pub on-capital : k ≡ 3 → t ≡ spelled timePatterns at (drop at s) (word s booleans typeName at) → t ≡ tokenOn s at
+  pub on-capital : k ≡ 3 → t ≡ spelled timePatternSpellings at (drop at s) (word s booleans typeName at)
+      → t ≡ tokenOn s at
   on-capital e p = rw (on, e) p
 
-  pub on-small : k ≡ 2 → t ≡ spelled datePatterns at (drop at s) (word s keywords name at) → t ≡ tokenOn s at
+  pub on-small : k ≡ 2 → t ≡ spelled datePatternSpellings at (drop at s) (word s keywords name at) → t ≡ tokenOn s at
   on-small e p = rw (on, e) p
 
   pub on-digit : k ≡ 1 → t ≡ number s at → t ≡ tokenOn s at
@@ -166,5 +175,6 @@ promised s from t r e f = record {
     above n l z h = omega arith
 
 -- the next token
-pub token-told : (s : List ℕ) (from : ℕ) (r : Token) → from ≤ length s → r ≡ tokenAt s from → TokenIs s from (tokenAt s from) r
+pub token-told : (s : List ℕ) (from : ℕ) (r : Token) → from ≤ length s → r ≡ tokenAt s from
+    → TokenIs s from (tokenAt s from) r
 token-told s from r h q = promised s from (tokenAt s from) r q (token-found s from h)

@@ -8,12 +8,13 @@ use Rattle.lexis.specs.Bytes.{wordByte}
 use Rattle.lexis.specs.Runs.{past, part, same}
 use Rattle.lexis.specs.Spelling.{Literal, literal, wordSort, keywords, booleans}
 use Rattle.lexis.specs.Tokens.{token, word}
-use Rattle.lexis.specs.Postconditions.{PlaceIs, wordsOf}
+use Rattle.lexis.specs.contracts.Answers.{PlaceIs, wordsOf}
 use Rattle.lexis.specs.declared.spellings.Words.{Words}
 use Rattle.lexis.specs.declared.spellings.Words.the-variants.{Keywords, Booleans}
 
 -- a spelling before others
-pub sort-first : (l : Literal) (ls : List Literal) (w : List ℕ) (a b k : ℕ) → a ≡ wordSort (l ∷ []) w b → b ≡ wordSort ls w k → a ≡ wordSort (l ∷ ls) w k
+pub sort-first : (l : Literal) (ls : List Literal) (w : List ℕ) (a b k : ℕ) → a ≡ wordSort (l ∷ []) w b
+    → b ≡ wordSort ls w k → a ≡ wordSort (l ∷ ls) w k
 unfolding wordSort
 sort-first l ls w a b k p q = rw q at p
 

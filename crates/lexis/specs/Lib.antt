@@ -5,5 +5,4 @@ pub mod Blanks
 pub mod Spelling
 pub mod Tokens
 pub mod DataTokens
-pub mod Order
-pub mod Postconditions
+pub mod contracts

@@ -1,4 +1,4 @@
--- The tokens that document 01 spells out, as bytes: 'Constraint text', marks, keywords, Booleans, patterns. Assumes nothing.
+-- The tokens that document 01 spells out, as bytes: 'Constraint text', markSpellings, keywords, Booleans, patterns. Assumes nothing.
 use mathlib.Core.Bool.{cond}
 use mathlib.Core.List.{List, [], _∷_}
 use Rattle.lexis.specs.Text.{bytes}
@@ -67,8 +67,8 @@ abbrev pub literal : ℕ → List ℕ → Literal
 literal sort spelling = record { sort = sort; spelling = spelling }
 
 -- { } , * | .. <= < >= > +/- : where one mark begins another, the longer stands first
-abbrev pub marks : List Literal
-marks =
+abbrev pub markSpellings : List Literal
+markSpellings =
     literal openBrace (bytes "{")
     ∷ literal closeBrace (bytes "}")
     ∷ literal comma (bytes ",")
@@ -101,8 +101,8 @@ booleans =
     ∷ []
 
 -- yyyy-mm-dd, yyyy-mm-??, yyyy-??-??, yyyy-mm-XX, yyyy-??-XX
-abbrev pub datePatterns : List Literal
-datePatterns =
+abbrev pub datePatternSpellings : List Literal
+datePatternSpellings =
     literal (datePattern + 1) (bytes "yyyy-mm-dd")
     ∷ literal (datePattern + 2) (bytes "yyyy-mm-??")
     ∷ literal (datePattern + 3) (bytes "yyyy-??-??")
@@ -111,8 +111,8 @@ datePatterns =
     ∷ []
 
 -- Thh:mm:ss, Thh:mm:XX, Thh:??:XX, Thh:??:??
-abbrev pub timePatterns : List Literal
-timePatterns =
+abbrev pub timePatternSpellings : List Literal
+timePatternSpellings =
     literal (timePattern + 1) (bytes "Thh:mm:ss")
     ∷ literal (timePattern + 2) (bytes "Thh:mm:XX")
     ∷ literal (timePattern + 3) (bytes "Thh:??:XX")

@@ -10,7 +10,7 @@ use lib.ListN.{length, drop}
 use Rattle.lexis.specs.Bytes.{is, digit, small, capital, mark, wordByte, stringByte}
 use Rattle.lexis.specs.Runs.{past, byteAt, part, startsWith, shaped}
 use Rattle.lexis.specs.Blanks.{tokenStart}
-use Rattle.lexis.specs.Spelling.{Literal, wordSort, marks, keywords, elementSign, booleans, datePatterns, timePatterns, codeStart, dateShape}
+use Rattle.lexis.specs.Spelling.{Literal, wordSort, markSpellings, keywords, elementSign, booleans, datePatternSpellings, timePatternSpellings, codeStart, dateShape}
 use Rattle.lexis.specs.declared.Token.{Token}
 
 -- the sorts of tokens that are spelled in many ways
@@ -74,7 +74,7 @@ abbrev pub sign : List ℕ → ℕ → Token
 sign s at =
     cond (eqb (byteAt s at) (byte "-") && is digit (byteAt s (at + 1)))
     (token integer at (past (is digit) (at + 1) (drop (at + 1) s)))
-    (spelled marks at (drop at s) (noToken at))
+    (spelled markSpellings at (drop at s) (noToken at))
 
 -- string: `"`, bytes of strings, `"`
 abbrev pub quoted : List ℕ → ℕ → Token
@@ -106,8 +106,8 @@ special s at =
 unfoldable pub tokenOn : List ℕ → ℕ → Token
 tokenOn s at =
     cond (leb (length s) at) (token textEnd at at)
-    (cond (is capital (byteAt s at)) (spelled timePatterns at (drop at s) (word s booleans typeName at))
-    (cond (is small (byteAt s at)) (spelled datePatterns at (drop at s) (word s keywords name at))
+    (cond (is capital (byteAt s at)) (spelled timePatternSpellings at (drop at s) (word s booleans typeName at))
+    (cond (is small (byteAt s at)) (spelled datePatternSpellings at (drop at s) (word s keywords name at))
     (cond (is digit (byteAt s at)) (number s at)
     (cond (is mark (byteAt s at)) (sign s at) (special s at)))))
 

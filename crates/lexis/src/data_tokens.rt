@@ -30,7 +30,7 @@ ghost use lib.ListN.{length, drop};
 ghost use Rattle.lexis.specs.Bytes.{wordByte, runByte};
 ghost use Rattle.lexis.specs.Runs.{past, all};
 ghost use Rattle.lexis.specs.DataTokens.{nameSort, run, dataTokenOn, dataTokenAt, typeTokenAt};
-ghost use Rattle.lexis.specs.Postconditions.{wordsOf, sorting, PlaceIs, WordEnds, StartsAlike, isMark, TokenIs};
+ghost use Rattle.lexis.specs.contracts.Answers.{wordsOf, sorting, PlaceIs, WordEnds, StartsAlike, isMark, TokenIs};
 
 // The sort of a run that is a word of the sort given, unless the list spells it; else it is unreadable. `whole` says that it is a word.
 fn name_sort(w: &[u8], f: Words, sort: u8, whole: bool) -> u8

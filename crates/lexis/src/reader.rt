@@ -5,7 +5,7 @@ use crate::data_tokens::data_token_on;
 use crate::runs::token_start;
 use crate::tokens::token_on;
 ghost use mathlib.Core.Path.{_≡_};
-ghost use Rattle.lexis.specs.Postconditions.{behindOf, tokenBy};
+ghost use Rattle.lexis.specs.contracts.Answers.{behindOf, tokenBy};
 
 // The tokens that are read: those of constraint text, those of data text, or those of data text behind `(`.
 pub enum Tokens {

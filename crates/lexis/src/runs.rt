@@ -11,7 +11,7 @@ ghost use Prim.Native.Nat.{_+_, _≤_, _<_};
 ghost use lib.ListN.{length, drop};
 ghost use Rattle.lexis.specs.Runs.{past, byteAt, letterAt, same, startsWith, shaped};
 ghost use Rattle.lexis.specs.Blanks.{tokenStart};
-ghost use Rattle.lexis.specs.Postconditions.{PlaceIs, testOf, commentOpen, tokenHere, admits, beginsBy};
+ghost use Rattle.lexis.specs.contracts.Answers.{PlaceIs, testOf, commentOpen, tokenHere, admits, beginsBy};
 
 // What the bytes of a run are.
 pub enum Class {

@@ -1,9 +1,8 @@
 // The sort of a byte, and tests on bytes.
 ghost use mathlib.Core.Path.{_≡_};
 ghost use Rattle.lexis.specs.Bytes.{sortOf, is, blank, digit, small, capital, wordByte, stringByte, runByte, lineEnd};
-ghost use Prim.Native.Nat.{_<_};
 ghost use Rattle.lexis.specs.Runs.{byteAt};
-ghost use Rattle.lexis.specs.Postconditions.{sortsOf, runMark};
+ghost use Rattle.lexis.specs.contracts.Answers.{runMark};
 
 // The sorts of bytes; any other byte is of the sort 5.
 pub const BLANK: u8 = 0;
@@ -16,59 +15,30 @@ pub const CAPITAL: u8 = 3;
 
 pub const MARK: u8 = 4;
 
-// The sort of each byte: the hex digits of a number are the sorts of sixteen bytes, of 00 to 0F in the first, the lowest byte last.
-const SORTS: [u64; 16] = [
-    0x5505500555555555,
-    0x5555555555555555,
-    0x4444445555555550,
-    0x5444551111111111,
-    0x3333333333333335,
-    0x5555533333333333,
-    0x2222222222222225,
-    0x5544422222222222,
-    0x5555555555555555,
-    0x5555555555555555,
-    0x5555555555555555,
-    0x5555555555555555,
-    0x5555555555555555,
-    0x5555555555555555,
-    0x5555555555555555,
-    0x5555555555555555,
-];
-
-// The sorts of the bytes with one high hex digit. Each entry is named by a constant, so that the table lies in static memory and is not laid out anew.
-fn sorts_of(high: u8) -> u64
-    requires { ⌜ high < 16 ⌝ }
-    ensures { λ r. ⌜ r ≡ sortsOf high ⌝ }
-{
-    let sorts = SORTS;
-    match high {
-        0 => sorts[0],
-        1 => sorts[1],
-        2 => sorts[2],
-        3 => sorts[3],
-        4 => sorts[4],
-        5 => sorts[5],
-        6 => sorts[6],
-        7 => sorts[7],
-        8 => sorts[8],
-        9 => sorts[9],
-        10 => sorts[10],
-        11 => sorts[11],
-        12 => sorts[12],
-        13 => sorts[13],
-        14 => sorts[14],
-        15..=255 => sorts[15],
-    }
-}
+// The sort of each byte, sixteen to a row: those of 00 to 0F hex in the first. It is laid out on the stack at each call of `sort_of`.
+const SORTS: [u8; 256] = *b"\
+    \x05\x05\x05\x05\x05\x05\x05\x05\x05\x00\x00\x05\x05\x00\x05\x05\
+    \x05\x05\x05\x05\x05\x05\x05\x05\x05\x05\x05\x05\x05\x05\x05\x05\
+    \x00\x05\x05\x05\x05\x05\x05\x05\x05\x05\x04\x04\x04\x04\x04\x04\
+    \x01\x01\x01\x01\x01\x01\x01\x01\x01\x01\x05\x05\x04\x04\x04\x05\
+    \x05\x03\x03\x03\x03\x03\x03\x03\x03\x03\x03\x03\x03\x03\x03\x03\
+    \x03\x03\x03\x03\x03\x03\x03\x03\x03\x03\x03\x05\x05\x05\x05\x05\
+    \x05\x02\x02\x02\x02\x02\x02\x02\x02\x02\x02\x02\x02\x02\x02\x02\
+    \x02\x02\x02\x02\x02\x02\x02\x02\x02\x02\x02\x04\x04\x04\x05\x05\
+    \x05\x05\x05\x05\x05\x05\x05\x05\x05\x05\x05\x05\x05\x05\x05\x05\
+    \x05\x05\x05\x05\x05\x05\x05\x05\x05\x05\x05\x05\x05\x05\x05\x05\
+    \x05\x05\x05\x05\x05\x05\x05\x05\x05\x05\x05\x05\x05\x05\x05\x05\
+    \x05\x05\x05\x05\x05\x05\x05\x05\x05\x05\x05\x05\x05\x05\x05\x05\
+    \x05\x05\x05\x05\x05\x05\x05\x05\x05\x05\x05\x05\x05\x05\x05\x05\
+    \x05\x05\x05\x05\x05\x05\x05\x05\x05\x05\x05\x05\x05\x05\x05\x05\
+    \x05\x05\x05\x05\x05\x05\x05\x05\x05\x05\x05\x05\x05\x05\x05\x05\
+    \x05\x05\x05\x05\x05\x05\x05\x05\x05\x05\x05\x05\x05\x05\x05\x05";
 
 // The sort of a byte.
 pub fn sort_of(b: u8) -> u8
     ensures { λ r. ⌜ r ≡ sortOf b ⌝ }
 {
-    let sorts = sorts_of(b / 16);
-    let low = (b % 16) as u64;
-    ((sorts >> (low * 4)) % 16) as u8
+    SORTS[b as usize]
 }
 
 // The byte at a place, and 0 behind the text's end.

@@ -29,10 +29,10 @@ ghost use mathlib.Core.Path.{_≡_};
 ghost use mathlib.Core.List.{[], _∷_};
 ghost use Prim.Native.Nat.{_<_};
 ghost use lib.ListN.{length, drop};
-ghost use Rattle.lexis.specs.Spelling.{literal, marks, elementSign, datePatterns, timePatterns, keywords, booleans, wordSort};
+ghost use Rattle.lexis.specs.Spelling.{literal, markSpellings, elementSign, datePatternSpellings, timePatternSpellings, keywords, booleans, wordSort};
 ghost use Rattle.lexis.specs.Tokens.{noToken, spelled};
 ghost use Rattle.lexis.specs.DataTokens.{dataMarks};
-ghost use Rattle.lexis.specs.Postconditions.{wordsOf, OpensMark, OpensPlain};
+ghost use Rattle.lexis.specs.contracts.Answers.{wordsOf, OpensMark, OpensPlain};
 
 // The words that are no NAME, and those that are no TYPE.
 pub enum Words {
@@ -43,7 +43,7 @@ pub enum Words {
 // The mark `<` or `<=` at a place.
 fn less_mark(s: &[u8], at: usize) -> Token
     requires { ⌜ OpensMark (now s) at 60 ⌝ }
-    ensures { λ r. ⌜ r ≡ spelled marks at (drop at (now (s .entry))) (noToken at) ⌝ }
+    ensures { λ r. ⌜ r ≡ spelled markSpellings at (drop at (now (s .entry))) (noToken at) ⌝ }
 {
     if byte_at(s, at + 1) == b'=' {
         return Token {
@@ -62,7 +62,7 @@ fn less_mark(s: &[u8], at: usize) -> Token
 // The mark `>` or `>=` at a place.
 fn greater_mark(s: &[u8], at: usize) -> Token
     requires { ⌜ OpensMark (now s) at 62 ⌝ }
-    ensures { λ r. ⌜ r ≡ spelled marks at (drop at (now (s .entry))) (noToken at) ⌝ }
+    ensures { λ r. ⌜ r ≡ spelled markSpellings at (drop at (now (s .entry))) (noToken at) ⌝ }
 {
     if byte_at(s, at + 1) == b'=' {
         return Token {
@@ -81,7 +81,7 @@ fn greater_mark(s: &[u8], at: usize) -> Token
 // The mark `..` at a place, of which the first dot stands there.
 fn dots_mark(s: &[u8], at: usize) -> Token
     requires { ⌜ OpensMark (now s) at 46 ⌝ }
-    ensures { λ r. ⌜ r ≡ spelled marks at (drop at (now (s .entry))) (noToken at) ⌝ }
+    ensures { λ r. ⌜ r ≡ spelled markSpellings at (drop at (now (s .entry))) (noToken at) ⌝ }
 {
     if byte_at(s, at + 1) == b'.' {
         return Token {
@@ -96,7 +96,7 @@ fn dots_mark(s: &[u8], at: usize) -> Token
 // The mark `+/-` at a place, of which the first byte stands there.
 fn plus_minus_mark(s: &[u8], at: usize) -> Token
     requires { ⌜ OpensMark (now s) at 43 ⌝ }
-    ensures { λ r. ⌜ r ≡ spelled marks at (drop at (now (s .entry))) (noToken at) ⌝ }
+    ensures { λ r. ⌜ r ≡ spelled markSpellings at (drop at (now (s .entry))) (noToken at) ⌝ }
 {
     if starts_with(s, at, b"+/-") {
         return Token {
@@ -111,7 +111,7 @@ fn plus_minus_mark(s: &[u8], at: usize) -> Token
 // The mark at a place that is the only one that opens with its byte.
 fn plain_mark(s: &[u8], at: usize) -> Token
     requires { ⌜ OpensPlain (now s) at ⌝ }
-    ensures { λ r. ⌜ r ≡ spelled marks at (drop at (now (s .entry))) (noToken at) ⌝ }
+    ensures { λ r. ⌜ r ≡ spelled markSpellings at (drop at (now (s .entry))) (noToken at) ⌝ }
 {
     let b = s[at];
     match b {
@@ -147,7 +147,7 @@ fn plain_mark(s: &[u8], at: usize) -> Token
 // The first mark of constraint text with which the bytes at a place begin, as a token; where there is none, an unreadable token.
 pub fn mark(s: &[u8], at: usize) -> Token
     requires { ⌜ at < length (now s) ⌝ }
-    ensures { λ r. ⌜ r ≡ spelled marks at (drop at (now (s .entry))) (noToken at) ⌝ }
+    ensures { λ r. ⌜ r ≡ spelled markSpellings at (drop at (now (s .entry))) (noToken at) ⌝ }
 {
     let b = s[at];
     match b {
@@ -221,7 +221,7 @@ pub fn data_mark(s: &[u8], at: usize) -> Token
 // The date pattern at a place, as a token; where there is none, the token given.
 pub fn date_pattern(s: &[u8], at: usize, other: Token) -> Token
     requires { ⌜ at < length (now s) ⌝ }
-    ensures { λ r. ⌜ r ≡ spelled datePatterns at (drop at (now (s .entry))) other ⌝ }
+    ensures { λ r. ⌜ r ≡ spelled datePatternSpellings at (drop at (now (s .entry))) other ⌝ }
 {
     if s[at] != b'y' {
         return other;
@@ -236,7 +236,7 @@ pub fn date_pattern(s: &[u8], at: usize, other: Token) -> Token
 // The time pattern at a place, as a token; where there is none, the token given.
 pub fn time_pattern(s: &[u8], at: usize, other: Token) -> Token
     requires { ⌜ at < length (now s) ⌝ }
-    ensures { λ r. ⌜ r ≡ spelled timePatterns at (drop at (now (s .entry))) other ⌝ }
+    ensures { λ r. ⌜ r ≡ spelled timePatternSpellings at (drop at (now (s .entry))) other ⌝ }
 {
     if s[at] != b'T' {
         return other;

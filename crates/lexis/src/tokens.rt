@@ -35,9 +35,9 @@ ghost use lib.ListN.{length, drop};
 ghost use Rattle.lexis.specs.Text.{byte};
 ghost use Rattle.lexis.specs.Bytes.{is, digit};
 ghost use Rattle.lexis.specs.Runs.{byteAt};
-ghost use Rattle.lexis.specs.Spelling.{keywords, booleans, datePatterns, timePatterns};
+ghost use Rattle.lexis.specs.Spelling.{keywords, booleans, datePatternSpellings, timePatternSpellings};
 ghost use Rattle.lexis.specs.Tokens.{typeName, name, word, number, sign, quoted, codeEnd, bracket, special, tokenOn, tokenAt, spelled};
-ghost use Rattle.lexis.specs.Postconditions.{wordsOf, TokenIs};
+ghost use Rattle.lexis.specs.contracts.Answers.{wordsOf, TokenIs};
 
 // A word: of the family's sort where the family spells it, else of the sort given.
 fn word(s: &[u8], at: usize, f: Words, sort: u8) -> Token
@@ -56,7 +56,8 @@ fn word(s: &[u8], at: usize, f: Words, sort: u8) -> Token
 // A time pattern, or else a word that opens with a capital.
 fn capital_token(s: &[u8], at: usize) -> Token
     requires { ⌜ at < length (now s) ⌝ }
-    ensures { λ r. ⌜ r ≡ spelled timePatterns at (drop at (now (s .entry))) (word (now (s .entry)) booleans typeName at) ⌝ }
+    ensures { λ r. ⌜ r
+        ≡ spelled timePatternSpellings at (drop at (now (s .entry))) (word (now (s .entry)) booleans typeName at) ⌝ }
 {
     let t = word(s, at, Words::Booleans, TYPE_NAME);
     time_pattern(s, at, t)
@@ -65,7 +66,8 @@ fn capital_token(s: &[u8], at: usize) -> Token
 // A date pattern, or else a word that opens with a small letter.
 fn small_token(s: &[u8], at: usize) -> Token
     requires { ⌜ at < length (now s) ⌝ }
-    ensures { λ r. ⌜ r ≡ spelled datePatterns at (drop at (now (s .entry))) (word (now (s .entry)) keywords name at) ⌝ }
+    ensures { λ r. ⌜ r
+        ≡ spelled datePatternSpellings at (drop at (now (s .entry))) (word (now (s .entry)) keywords name at) ⌝ }
 {
     let t = word(s, at, Words::Keywords, NAME);
     date_pattern(s, at, t)
@@ -94,7 +96,8 @@ fn number(s: &[u8], at: usize) -> Token
 // A `-` with a digit behind it stands at a place.
 fn negative(s: &[u8], at: usize) -> bool
     requires { ⌜ at < length (now s) ⌝ }
-    ensures { λ r. ⌜ r ≡ (eqb (byteAt (now (s .entry)) at) (byte "-") && is digit (byteAt (now (s .entry)) (at + 1))) ⌝ }
+    ensures { λ r. ⌜ r
+        ≡ (eqb (byteAt (now (s .entry)) at) (byte "-") && is digit (byteAt (now (s .entry)) (at + 1))) ⌝ }
 {
     if s[at] != b'-' {
         return false;

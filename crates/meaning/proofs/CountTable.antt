@@ -2,18 +2,18 @@
 -- This file is written by `example_tables write` of second/. Assumes nothing.
 use mathlib.Core.Path.{_≡_, refl}
 use mathlib.Core.List.{List, [], _∷_}
-use Rattle.meaning.specs.Constraints.{prohibited, optional, required, Object, object, noMore, attribute, any, nested, leaf, booleans, integers, strings, datePattern, dates, timePattern}
+use Rattle.meaning.specs.Constraints.{prohibited, optional, required, Object, noMore, any, nested, leaf, single, ranges, texts, booleans, integers, datePattern, dates, timePattern}
 use Rattle.meaning.specs.Counting.{objectRecords, objectPool, objectNumbers}
-use Rattle.meaning.proofs.Trees.{range, item, each}
+use Rattle.meaning.proofs.Trees.{range, item, objectWith, attributeWith, each}
 
 pub trees : List Object
 trees =
-    (object 1 (65 ∷ []) [] noMore)
-    ∷ (object 1 (65 ∷ 66 ∷ []) (97 ∷ 116 ∷ 49 ∷ 46 ∷ 50 ∷ []) (attribute 2 2 (97 ∷ []) any (attribute 3 2 (98 ∷ 99 ∷ []) any noMore)))
-    ∷ (object 1 (65 ∷ []) [] (attribute 2 2 (97 ∷ []) (leaf (booleans 3 1)) (attribute 4 2 (98 ∷ []) (leaf (integers (range 5 2_147_483_649 2_147_483_649 ∷ range 6 2_147_483_653 2_147_483_657 ∷ range 7 2_147_483_668 2_147_483_668 ∷ []))) (attribute 8 2 (99 ∷ []) (leaf (strings (item 9 (120 ∷ []) ∷ item 10 [] ∷ item 11 (121 ∷ 122 ∷ []) ∷ []))) noMore))))
-    ∷ (object 1 (65 ∷ []) [] (attribute 2 2 (97 ∷ []) (leaf (datePattern 3 1)) (attribute 4 2 (98 ∷ []) (leaf (timePattern 5 3)) (attribute 6 2 (99 ∷ []) (leaf (dates (range 7 20_040_101 20_040_101 ∷ range 8 20_050_101 99_991_231 ∷ []))) (attribute 9 2 (100 ∷ []) (leaf (booleans 10 2)) noMore)))))
-    ∷ (object 1 (65 ∷ []) (97 ∷ 116 ∷ 49 ∷ []) (attribute 2 2 (97 ∷ []) (nested (object 3 (66 ∷ []) (97 ∷ 116 ∷ 50 ∷ []) (attribute 4 2 (98 ∷ []) (nested (object 5 (67 ∷ []) [] (attribute 6 2 (99 ∷ []) (leaf (strings (item 7 (120 ∷ []) ∷ item 8 (121 ∷ []) ∷ []))) noMore))) (attribute 9 0 (100 ∷ []) any noMore)))) (attribute 10 1 (101 ∷ []) (leaf (integers (range 11 2_147_483_655 2_147_483_655 ∷ []))) noMore)))
-    ∷ (object 1 (65 ∷ []) [] (attribute 2 2 (97 ∷ []) (nested (object 3 (66 ∷ []) [] noMore)) (attribute 4 2 (98 ∷ []) (nested (object 5 (67 ∷ []) [] (attribute 6 2 (97 ∷ []) (leaf (integers (range 7 2_147_483_649 2_147_483_649 ∷ range 8 2_147_483_650 2_147_483_650 ∷ []))) (attribute 9 2 (98 ∷ []) any noMore)))) (attribute 10 2 (99 ∷ []) (leaf (strings (item 11 (122 ∷ []) ∷ []))) noMore))))
+    (objectWith 1 (65 ∷ []) [] noMore)
+    ∷ (objectWith 1 (65 ∷ 66 ∷ []) (97 ∷ 116 ∷ 49 ∷ 46 ∷ 50 ∷ []) (attributeWith 2 2 (97 ∷ []) any (attributeWith 3 2 (98 ∷ 99 ∷ []) any noMore)))
+    ∷ (objectWith 1 (65 ∷ []) [] (attributeWith 2 2 (97 ∷ []) (leaf (single booleans 3 1)) (attributeWith 4 2 (98 ∷ []) (leaf (ranges integers (range 5 2_147_483_649 2_147_483_649 ∷ range 6 2_147_483_653 2_147_483_657 ∷ range 7 2_147_483_668 2_147_483_668 ∷ []))) (attributeWith 8 2 (99 ∷ []) (leaf (texts (item 9 (120 ∷ []) ∷ item 10 [] ∷ item 11 (121 ∷ 122 ∷ []) ∷ []))) noMore))))
+    ∷ (objectWith 1 (65 ∷ []) [] (attributeWith 2 2 (97 ∷ []) (leaf (single datePattern 3 1)) (attributeWith 4 2 (98 ∷ []) (leaf (single timePattern 5 3)) (attributeWith 6 2 (99 ∷ []) (leaf (ranges dates (range 7 20_040_101 20_040_101 ∷ range 8 20_050_101 99_991_231 ∷ []))) (attributeWith 9 2 (100 ∷ []) (leaf (single booleans 10 2)) noMore)))))
+    ∷ (objectWith 1 (65 ∷ []) (97 ∷ 116 ∷ 49 ∷ []) (attributeWith 2 2 (97 ∷ []) (nested (objectWith 3 (66 ∷ []) (97 ∷ 116 ∷ 50 ∷ []) (attributeWith 4 2 (98 ∷ []) (nested (objectWith 5 (67 ∷ []) [] (attributeWith 6 2 (99 ∷ []) (leaf (texts (item 7 (120 ∷ []) ∷ item 8 (121 ∷ []) ∷ []))) noMore))) (attributeWith 9 0 (100 ∷ []) any noMore)))) (attributeWith 10 1 (101 ∷ []) (leaf (ranges integers (range 11 2_147_483_655 2_147_483_655 ∷ []))) noMore)))
+    ∷ (objectWith 1 (65 ∷ []) [] (attributeWith 2 2 (97 ∷ []) (nested (objectWith 3 (66 ∷ []) [] noMore)) (attributeWith 4 2 (98 ∷ []) (nested (objectWith 5 (67 ∷ []) [] (attributeWith 6 2 (97 ∷ []) (leaf (ranges integers (range 7 2_147_483_649 2_147_483_649 ∷ range 8 2_147_483_650 2_147_483_650 ∷ []))) (attributeWith 9 2 (98 ∷ []) any noMore)))) (attributeWith 10 2 (99 ∷ []) (leaf (texts (item 11 (122 ∷ []) ∷ []))) noMore))))
     ∷ []
 
 -- how many records each has, its header left out

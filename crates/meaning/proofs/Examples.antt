@@ -5,13 +5,14 @@ use mathlib.Core.Option.{none}
 use mathlib.Core.List.{[], _∷_}
 use lib.Dec.{eqb}
 use Rattle.lexis.specs.Text.{bytes}
-use Rattle.meaning.specs.Constraints.{Leaf, Object, object, attribute, leaf, prohibited, optional, required}
+use Rattle.meaning.specs.Constraints.{Leaf, Object, leaf, prohibited, optional, required}
 use Rattle.meaning.specs.Constraints
 use Rattle.meaning.specs.Data.{Datum, datum, member, Content}
 use Rattle.meaning.specs.Data
 use Rattle.meaning.specs.Verdicts.{Verdict, valid, fails}
 use Rattle.meaning.specs.Admission.{firstRange, firstText}
 use Rattle.meaning.specs.Judging.{judge}
+use Rattle.meaning.proofs.Trees.{objectWith, attributeWith}
 
 pub data Case : Type 0 where
   judges : Object → Datum → Verdict → Case
@@ -26,7 +27,7 @@ isVerdict (fails r n p) (fails reason number place) = eqb r reason && eqb n numb
 
 -- `A matches {a matches {..}}`
 abbrev pub holding : Leaf → Object
-holding l = object 1 (bytes "A") [] (attribute 2 required (bytes "a") (leaf l) Constraints.noMore)
+holding l = objectWith 1 (bytes "A") [] (attributeWith 2 required (bytes "a") (leaf l) Constraints.noMore)
 
 -- `<a=..>`
 abbrev pub given : Content → Datum

@@ -4,7 +4,7 @@ use mathlib.Core.List.{List, [], _∷_, _++_}
 use Prim.Native.Nat.{ℕ, zero, suc, _+_}
 use lib.ListN.{length, length-append, take, drop}
 use lib.Seq.{take-at, drop-at}
-use Rattle.meaning.specs.Constraints.{Range, Text, Leaf, booleans, integers, strings, datePattern, dates, timePattern, Object, object, Attributes, noMore, attribute, Value, any, nested, leaf}
+use Rattle.meaning.specs.Constraints.{Range, Text, Leaf, single, ranges, texts, Object, object, Attributes, noMore, attribute, Value, any, nested, leaf}
 use Rattle.meaning.specs.Counting.{leafRecords, objectRecords, attributeRecords, valueRecords, rangeNumbers, textNumbers, leafNumbers, objectNumbers, attributeNumbers, valueNumbers, upFrom}
 use Rattle.meaning.proofs.Numbers.{up-append}
 
@@ -18,20 +18,17 @@ NumberedTexts [] n = Unit {0}
 NumberedTexts (x ∷ xs) n = (x .number ≡ n) × NumberedTexts xs (n + 1)
 
 abbrev pub NumberedLeaf : Leaf → ℕ → Type 0
-NumberedLeaf (booleans k f) n = k ≡ n
-NumberedLeaf (integers l) n = NumberedRanges l n
-NumberedLeaf (strings l) n = NumberedTexts l n
-NumberedLeaf (datePattern k f) n = k ≡ n
-NumberedLeaf (dates l) n = NumberedRanges l n
-NumberedLeaf (timePattern k f) n = k ≡ n
+NumberedLeaf (single sort k flag) n = k ≡ n
+NumberedLeaf (ranges sort l) n = NumberedRanges l n
+NumberedLeaf (texts l) n = NumberedTexts l n
 
 unfoldable mutual
   pub NumberedObject : Object → ℕ → Type 0
-  NumberedObject (object k t c xs) n = (k ≡ n) × NumberedAttributes xs (n + 1)
+  NumberedObject (object h xs) n = (h .number ≡ n) × NumberedAttributes xs (n + 1)
 
   pub NumberedAttributes : Attributes → ℕ → Type 0
   NumberedAttributes noMore n = Unit {0}
-  NumberedAttributes (attribute k e w v more) n = (k ≡ n) × NumberedValue v (n + 1) × NumberedAttributes more (n + 1 + valueRecords v)
+  NumberedAttributes (attribute h v more) n = (h .number ≡ n) × NumberedValue v (n + 1) × NumberedAttributes more (n + 1 + valueRecords v)
 
   pub NumberedValue : Value → ℕ → Type 0
   NumberedValue any n = Unit {0}
@@ -48,22 +45,19 @@ texts-counted [] = refl
 texts-counted (x ∷ xs) = ap suc (texts-counted xs)
 
 leaf-counted : (l : Leaf) → length (leafNumbers l) ≡ leafRecords l
-leaf-counted (booleans n f) = refl
-leaf-counted (integers l) = ranges-counted l
-leaf-counted (strings l) = texts-counted l
-leaf-counted (datePattern n f) = refl
-leaf-counted (dates l) = ranges-counted l
-leaf-counted (timePattern n f) = refl
+leaf-counted (single sort n flag) = refl
+leaf-counted (ranges sort l) = ranges-counted l
+leaf-counted (texts l) = texts-counted l
 
 mutual
   unfolding objectRecords objectNumbers attributeRecords attributeNumbers valueRecords valueNumbers
 
   pub object-counted : (o : Object) → length (objectNumbers o) ≡ objectRecords o
-  object-counted (object n t c xs) = ap suc (attributes-counted xs)
+  object-counted (object h xs) = ap suc (attributes-counted xs)
 
   attributes-counted : (xs : Attributes) → length (attributeNumbers xs) ≡ attributeRecords xs
   attributes-counted noMore = refl
-  attributes-counted (attribute n e w v more) =
+  attributes-counted (attribute h v more) =
       ap suc (length-append (valueNumbers v) (attributeNumbers more) ∙ ap₂ _+_ (value-counted v) (attributes-counted more))
 
   value-counted : (v : Value) → length (valueNumbers v) ≡ valueRecords v
@@ -76,7 +70,8 @@ up-length zero n = refl
 up-length (suc k) n = ap suc (up-length k (n + 1))
 
 -- numbers that go up one by one do so in both parts of the list
-up-split : (a b n : ℕ) (xs ys : List ℕ) → length xs ≡ a → xs ++ ys ≡ upFrom n (a + b) → (xs ≡ upFrom n a) × (ys ≡ upFrom (n + a) b)
+up-split : (a b n : ℕ) (xs ys : List ℕ) → length xs ≡ a → xs ++ ys ≡ upFrom n (a + b)
+    → (xs ≡ upFrom n a) × (ys ≡ upFrom (n + a) b)
 up-split a b n xs ys h e =
     let l = up-length a n in
     let g = e ∙ up-append a b n in (
@@ -93,23 +88,21 @@ texts-numbered [] n e = tt
 texts-numbered (x ∷ xs) n e = (cc, texts-numbered xs (n + 1) (cc))
 
 leaf-numbered : (l : Leaf) (n : ℕ) → leafNumbers l ≡ upFrom n (leafRecords l) → NumberedLeaf l n
-leaf-numbered (booleans k f) n e = cc
-leaf-numbered (integers l) n e = ranges-numbered l n e
-leaf-numbered (strings l) n e = texts-numbered l n e
-leaf-numbered (datePattern k f) n e = cc
-leaf-numbered (dates l) n e = ranges-numbered l n e
-leaf-numbered (timePattern k f) n e = cc
+leaf-numbered (single sort k flag) n e = cc
+leaf-numbered (ranges sort l) n e = ranges-numbered l n e
+leaf-numbered (texts l) n e = texts-numbered l n e
 
 mutual
   unfolding NumberedObject objectRecords objectNumbers NumberedAttributes attributeRecords attributeNumbers NumberedValue valueRecords valueNumbers
 
   -- a tree whose numbers go up one by one from n is numbered from n
   pub object-numbered : (o : Object) (n : ℕ) → objectNumbers o ≡ upFrom n (objectRecords o) → NumberedObject o n
-  object-numbered (object k t c xs) n e = (cc, attributes-numbered xs (n + 1) (cc))
+  object-numbered (object h xs) n e = (cc, attributes-numbered xs (n + 1) (cc))
 
-  attributes-numbered : (xs : Attributes) (n : ℕ) → attributeNumbers xs ≡ upFrom n (attributeRecords xs) → NumberedAttributes xs n
+  attributes-numbered : (xs : Attributes) (n : ℕ) → attributeNumbers xs ≡ upFrom n (attributeRecords xs)
+      → NumberedAttributes xs n
   attributes-numbered noMore n e = tt
-  attributes-numbered (attribute k f w v more) n e =
+  attributes-numbered (attribute h v more) n e =
       let s = up-split (valueRecords v) (attributeRecords more) (n + 1) (valueNumbers v) (attributeNumbers more) (value-counted v) (cc) in
       (cc, value-numbered v (n + 1) (s .0), attributes-numbered more (n + 1 + valueRecords v) (s .1))
 

@@ -4,7 +4,8 @@ use mathlib.Core.Option.{Option, none, some}
 use mathlib.Core.List.{List, [], _∷_, _++_}
 use Prim.Native.Nat.{ℕ}
 use lib.ListN.{length}
-use Rattle.meaning.specs.Constraints.{Range, Text, Leaf, booleans, integers, strings, datePattern, dates, timePattern, Object, object, Attributes, noMore, attribute, Value, any, nested, leaf}
+use Rattle.meaning.specs.Constraints.{Range, Text, Leaf, single, ranges, texts, Object, object, Attributes, noMore, attribute, Value, any, nested, leaf}
+use Rattle.meaning.specs.Sorts.{singleRow, rangeRow, textKind}
 use Rattle.meaning.specs.Data.{Datum, datum, Members, member, Content, string, word, block}
 use Rattle.meaning.specs.Data
 
@@ -14,6 +15,13 @@ range number low high = record { number = number; low = low; high = high }
 
 abbrev pub item : ℕ → List ℕ → Text
 item number text = record { number = number; text = text }
+
+-- objects and attributes, their heads written out
+abbrev pub objectWith : (number : ℕ) (type code : List ℕ) → Attributes → Object
+objectWith number type code xs = object (record { number = number; type = type; code = code }) xs
+
+abbrev pub attributeWith : (number existence : ℕ) (name : List ℕ) → Value → Attributes → Attributes
+attributeWith number existence name v more = attribute (record { number = number; existence = existence; name = name }) v more
 
 abbrev pub sized : List ℕ → List ℕ
 sized w = length w ∷ w
@@ -27,20 +35,17 @@ textList [] = []
 textList (x ∷ xs) = x .number ∷ (sized (x .text) ++ textList xs)
 
 abbrev pub leafList : Leaf → List ℕ
-leafList (booleans n f) = 3 ∷ n ∷ f ∷ []
-leafList (integers l) = 4 ∷ length l ∷ rangeList l
-leafList (strings l) = 5 ∷ length l ∷ textList l
-leafList (datePattern n f) = 6 ∷ n ∷ f ∷ []
-leafList (dates l) = 7 ∷ length l ∷ rangeList l
-leafList (timePattern n f) = 8 ∷ n ∷ f ∷ []
+leafList (single sort n flag) = singleRow sort .kind ∷ n ∷ flag ∷ []
+leafList (ranges sort l) = rangeRow sort .kind ∷ length l ∷ rangeList l
+leafList (texts l) = textKind ∷ length l ∷ textList l
 
 unfoldable mutual
   pub objectList : Object → List ℕ
-  objectList (object n t c xs) = n ∷ (sized t ++ (sized c ++ attributesList xs))
+  objectList (object h xs) = h .number ∷ (sized (h .type) ++ (sized (h .code) ++ attributesList xs))
 
   pub attributesList : Attributes → List ℕ
   attributesList noMore = 0 ∷ []
-  attributesList (attribute n e w v more) = 1 ∷ n ∷ e ∷ (sized w ++ (valueList v ++ attributesList more))
+  attributesList (attribute h v more) = 1 ∷ h .number ∷ h .existence ∷ (sized (h .name) ++ (valueList v ++ attributesList more))
 
   pub valueList : Value → List ℕ
   valueList any = 0 ∷ []

@@ -15,14 +15,19 @@ pub record Text : Type 0 where
   pub number : ℕ
   pub text : List ℕ
 
--- flags as 'Table' has them: of Booleans 1 True, 2 False, 3 both; of patterns 1 to 5 and 1 to 4 as listed
+-- the sorts of leaves of one record, whose flag says which Booleans or which pattern
+pub data SingleSort : Type 0 where
+  booleans datePattern timePattern : SingleSort
+
+-- the sorts of lists of closed pairs
+pub data RangeSort : Type 0 where
+  integers dates : RangeSort
+
+-- a leaf by its shape: one record with a flag, a list of closed pairs, a list of strings
 pub data Leaf : Type 0 where
-  booleans : (number flag : ℕ) → Leaf
-  integers : List Range → Leaf
-  strings : List Text → Leaf
-  datePattern : (number flag : ℕ) → Leaf
-  dates : List Range → Leaf
-  timePattern : (number flag : ℕ) → Leaf
+  single : (sort : SingleSort) (number flag : ℕ) → Leaf
+  ranges : (sort : RangeSort) (items : List Range) → Leaf
+  texts : (items : List Text) → Leaf
 
 -- existence: 0 is 0..0, 1 is 0..1, 2 is 1..1
 abbrev pub prohibited : ℕ
@@ -34,14 +39,25 @@ optional = 1
 abbrev pub required : ℕ
 required = 2
 
+-- what an object and an attribute say of themselves
+pub record ObjectHead : Type 0 where
+  pub number : ℕ
+  pub type : List ℕ
+  pub code : List ℕ
+
+pub record AttributeHead : Type 0 where
+  pub number : ℕ
+  pub existence : ℕ
+  pub name : List ℕ
+
 -- an object without attributes is the one with `*`
 mutual
   pub data Object : Type 0 where
-    object : (number : ℕ) (type code : List ℕ) (attributes : Attributes) → Object
+    object : (head : ObjectHead) (attributes : Attributes) → Object
 
   pub data Attributes : Type 0 where
     noMore : Attributes
-    attribute : (number existence : ℕ) (name : List ℕ) (value : Value) (more : Attributes) → Attributes
+    attribute : (head : AttributeHead) (value : Value) (more : Attributes) → Attributes
 
   pub data Value : Type 0 where
     any : Value

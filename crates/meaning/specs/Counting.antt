@@ -3,24 +3,21 @@
 use mathlib.Core.List.{List, [], _∷_, _++_}
 use Prim.Native.Nat.{ℕ, zero, suc, _+_}
 use lib.ListN.{length}
-use Rattle.meaning.specs.Constraints.{Range, Text, Leaf, booleans, integers, strings, datePattern, dates, timePattern, Object, object, Attributes, noMore, attribute, Value, any, nested, leaf}
+use Rattle.meaning.specs.Constraints.{Range, Text, Leaf, single, ranges, texts, Object, object, Attributes, noMore, attribute, Value, any, nested, leaf}
 
 -- how many records a leaf has: one for each item
 abbrev pub leafRecords : Leaf → ℕ
-leafRecords (booleans n f) = 1
-leafRecords (integers l) = length l
-leafRecords (strings l) = length l
-leafRecords (datePattern n f) = 1
-leafRecords (dates l) = length l
-leafRecords (timePattern n f) = 1
+leafRecords (single sort n flag) = 1
+leafRecords (ranges sort l) = length l
+leafRecords (texts l) = length l
 
 unfoldable mutual
   pub objectRecords : Object → ℕ
-  objectRecords (object n t c xs) = suc (attributeRecords xs)
+  objectRecords (object h xs) = suc (attributeRecords xs)
 
   pub attributeRecords : Attributes → ℕ
   attributeRecords noMore = 0
-  attributeRecords (attribute n e w v more) = suc (valueRecords v + attributeRecords more)
+  attributeRecords (attribute h v more) = suc (valueRecords v + attributeRecords more)
 
   pub valueRecords : Value → ℕ
   valueRecords any = 0
@@ -33,20 +30,17 @@ textPool [] = []
 textPool (x ∷ xs) = x .text ++ textPool xs
 
 abbrev pub leafPool : Leaf → List ℕ
-leafPool (booleans n f) = []
-leafPool (integers l) = []
-leafPool (strings l) = textPool l
-leafPool (datePattern n f) = []
-leafPool (dates l) = []
-leafPool (timePattern n f) = []
+leafPool (single sort n flag) = []
+leafPool (ranges sort l) = []
+leafPool (texts l) = textPool l
 
 unfoldable mutual
   pub objectPool : Object → List ℕ
-  objectPool (object n t c xs) = t ++ (c ++ attributePool xs)
+  objectPool (object h xs) = h .type ++ (h .code ++ attributePool xs)
 
   pub attributePool : Attributes → List ℕ
   attributePool noMore = []
-  attributePool (attribute n e w v more) = w ++ (valuePool v ++ attributePool more)
+  attributePool (attribute h v more) = h .name ++ (valuePool v ++ attributePool more)
 
   pub valuePool : Value → List ℕ
   valuePool any = []
@@ -63,20 +57,17 @@ textNumbers [] = []
 textNumbers (x ∷ xs) = x .number ∷ textNumbers xs
 
 abbrev pub leafNumbers : Leaf → List ℕ
-leafNumbers (booleans n f) = n ∷ []
-leafNumbers (integers l) = rangeNumbers l
-leafNumbers (strings l) = textNumbers l
-leafNumbers (datePattern n f) = n ∷ []
-leafNumbers (dates l) = rangeNumbers l
-leafNumbers (timePattern n f) = n ∷ []
+leafNumbers (single sort n flag) = n ∷ []
+leafNumbers (ranges sort l) = rangeNumbers l
+leafNumbers (texts l) = textNumbers l
 
 unfoldable mutual
   pub objectNumbers : Object → List ℕ
-  objectNumbers (object n t c xs) = n ∷ attributeNumbers xs
+  objectNumbers (object h xs) = h .number ∷ attributeNumbers xs
 
   pub attributeNumbers : Attributes → List ℕ
   attributeNumbers noMore = []
-  attributeNumbers (attribute n e w v more) = n ∷ (valueNumbers v ++ attributeNumbers more)
+  attributeNumbers (attribute h v more) = h .number ∷ (valueNumbers v ++ attributeNumbers more)
 
   pub valueNumbers : Value → List ℕ
   valueNumbers any = []

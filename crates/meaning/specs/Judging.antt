@@ -7,17 +7,18 @@ use mathlib.Core.List.{List}
 use Prim.Native.Nat.{ℕ}
 use lib.Dec.{eqb}
 use Rattle.lexis.specs.Runs.{same}
-use Rattle.meaning.specs.Constraints.{Object, object, Attributes, attribute, Value, any, nested, leaf, Leaf, prohibited, required}
+use Rattle.meaning.specs.Constraints.{ObjectHead, Object, object, AttributeHead, Attributes, attribute, Value, any, nested, leaf, Leaf, prohibited, required}
 use Rattle.meaning.specs.Constraints
 use Rattle.meaning.specs.Data.{Datum, datum, Members, member, Content, string, word, block}
 use Rattle.meaning.specs.Data
 use Rattle.meaning.specs.Verdicts.{Verdict, valid, fails}
-use Rattle.meaning.specs.Admission.{Finding, unsuited, refuted, admitted, wordUnder, stringUnder, leafNumber}
+use Rattle.meaning.specs.Findings.{Finding, unsuited, refuted, admitted}
+use Rattle.meaning.specs.Admission.{wordUnder, stringUnder, leafNumber}
 
 -- one verdict after another: the first failure is told
-abbrev pub andThen : Verdict → Verdict → Verdict
-andThen valid v = v
-andThen (fails r n p) v = fails r n p
+abbrev pub thenJudge : Verdict → Verdict → Verdict
+thenJudge valid v = v
+thenJudge (fails r n p) v = fails r n p
 
 -- the place of a content's `<`
 abbrev pub placeOf : Content → ℕ
@@ -47,13 +48,13 @@ judgeLeaf l (word p w) = verdictOf (leafNumber l) p (wordUnder l w)
 judgeLeaf l (block (datum p t ms)) = fails 20 (leafNumber l) p
 
 -- an attribute's member, missing or present, given how its value judges
-abbrev pub judgeMember : (number existence place : ℕ) → Option Content → (Content → Verdict) → Verdict
-judgeMember number existence place none value = cond (eqb existence required) (fails 22 number place) valid
-judgeMember number existence place (some c) value = cond (eqb existence prohibited) (fails 23 number (placeOf c)) (value c)
+abbrev pub judgeMember : AttributeHead → (place : ℕ) → Option Content → (Content → Verdict) → Verdict
+judgeMember h place none value = cond (eqb (h .existence) required) (fails 22 (h .number) place) valid
+judgeMember h place (some c) value = cond (eqb (h .existence) prohibited) (fails 23 (h .number) (placeOf c)) (value c)
 
 -- a block under an object, given how the object's attributes judge
-abbrev pub judgeBlock : (number : ℕ) (type : List ℕ) → (ℕ → Members → Verdict) → Datum → Verdict
-judgeBlock number type attributes (datum p t ms) = cond (typeSuits type t) (attributes p ms) (fails 21 number p)
+abbrev pub judgeBlock : ObjectHead → (ℕ → Members → Verdict) → Datum → Verdict
+judgeBlock h attributes (datum p t ms) = cond (typeSuits (h .type) t) (attributes p ms) (fails 21 (h .number) p)
 
 -- a member's content under an object, given how the object judges a block; a leaf there is 20
 abbrev pub judgeContent : (number : ℕ) → (Datum → Verdict) → Content → Verdict
@@ -62,17 +63,17 @@ judgeContent number inside (word p w) = fails 20 number p
 judgeContent number inside (block d) = inside d
 
 abbrev pub objectNumber : Object → ℕ
-objectNumber (object n t c xs) = n
+objectNumber (object h xs) = h .number
 
 unfoldable mutual
   -- a datum by an object
   pub judge : Object → Datum → Verdict
-  judge (object n t c xs) d = judgeBlock n t (λ p ms. judgeAttributes xs p ms) d
+  judge (object h xs) d = judgeBlock h (λ p ms. judgeAttributes xs p ms) d
 
   -- the members of a block, whose `<` stands at a place, by attributes
   pub judgeAttributes : Attributes → ℕ → Members → Verdict
   judgeAttributes Constraints.noMore place ms = valid
-  judgeAttributes (attribute n e w v more) place ms = andThen (judgeMember n e place (memberOf w ms) (λ x. judgeValue v x)) (judgeAttributes more place ms)
+  judgeAttributes (attribute h v more) place ms = thenJudge (judgeMember h place (memberOf (h .name) ms) (λ x. judgeValue v x)) (judgeAttributes more place ms)
 
   -- a member's content by an attribute's value
   pub judgeValue : Value → Content → Verdict

@@ -2,7 +2,9 @@ pub mod Constraints
 pub mod Data
 pub mod Verdicts
 pub mod Counting
+pub mod Findings
+pub mod Sorts
 pub mod Admission
 pub mod Judging
 pub mod Moving
-pub mod Proper
+pub mod contracts

@@ -2,7 +2,7 @@
 use mathlib.Core.List.{map}
 use Prim.Native.Nat.{ℕ, _+_}
 use Rattle.meaning.specs.Verdicts.{Verdict, valid, fails}
-use Rattle.meaning.specs.Constraints.{Range, Text, Leaf, booleans, integers, strings, datePattern, dates, timePattern, Object, object, Attributes, noMore, attribute, Value, any, nested, leaf}
+use Rattle.meaning.specs.Constraints.{Range, Text, ObjectHead, AttributeHead, Leaf, single, ranges, texts, Object, object, Attributes, noMore, attribute, Value, any, nested, leaf}
 
 abbrev pub movedRange : ℕ → Range → Range
 movedRange s x = record { number = s + x .number; low = x .low; high = x .high }
@@ -11,20 +11,23 @@ abbrev pub movedText : ℕ → Text → Text
 movedText s x = record { number = s + x .number; text = x .text }
 
 abbrev pub movedLeaf : ℕ → Leaf → Leaf
-movedLeaf s (booleans n f) = booleans (s + n) f
-movedLeaf s (integers l) = integers (map (movedRange s) l)
-movedLeaf s (strings l) = strings (map (movedText s) l)
-movedLeaf s (datePattern n f) = datePattern (s + n) f
-movedLeaf s (dates l) = dates (map (movedRange s) l)
-movedLeaf s (timePattern n f) = timePattern (s + n) f
+movedLeaf s (single sort n flag) = single sort (s + n) flag
+movedLeaf s (ranges sort l) = ranges sort (map (movedRange s) l)
+movedLeaf s (texts l) = texts (map (movedText s) l)
+
+abbrev pub movedObjectHead : ℕ → ObjectHead → ObjectHead
+movedObjectHead s h = record { number = s + h .number; type = h .type; code = h .code }
+
+abbrev pub movedAttributeHead : ℕ → AttributeHead → AttributeHead
+movedAttributeHead s h = record { number = s + h .number; existence = h .existence; name = h .name }
 
 unfoldable mutual
   pub movedObject : Object → ℕ → Object
-  movedObject (object n t c xs) s = object (s + n) t c (movedAttributes xs s)
+  movedObject (object h xs) s = object (movedObjectHead s h) (movedAttributes xs s)
 
   pub movedAttributes : Attributes → ℕ → Attributes
   movedAttributes noMore s = noMore
-  movedAttributes (attribute n e w v more) s = attribute (s + n) e w (movedValue v s) (movedAttributes more s)
+  movedAttributes (attribute h v more) s = attribute (movedAttributeHead s h) (movedValue v s) (movedAttributes more s)
 
   pub movedValue : Value → ℕ → Value
   movedValue any s = any

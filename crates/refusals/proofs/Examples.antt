@@ -4,11 +4,14 @@ use mathlib.Core.List.{List}
 use Prim.Native.Nat.{ℕ}
 use lib.Dec.{eqb}
 use Rattle.lexis.specs.declared.Token.{Token}
+use Rattle.refusals.specs.declared.Refusal.{Refusal}
 use Rattle.refusals.specs.declared.Cause.{Cause}
 use Rattle.refusals.specs.declared.Cause.the-variants.{TextTooLong, Unreadable, CannotFollow, EndsEarly, TooDeep, TooLong, Impossible, OutOfRange, BadWord, EmptyInterval, TooManyItems, TooManyRecords, Overlap, RepeatedName, PoolTooLarge, OutputTooShort, NotATable, BrokenRecord, NotAnObject, NoName}
 use Rattle.refusals.specs.Refusals.{numberOf}
 use Rattle.refusals.specs.Reading.{Reading, refused, got}
-use Rattle.refusals.specs.Steps.{expect}
+use Rattle.refusals.specs.Outcomes
+use Rattle.refusals.specs.Outcomes.{Outcome, gave}
+use Rattle.refusals.specs.Expecting.{expect}
 
 -- a cause and its number, a limit and its value, a sort asked for from a place of a text on and the token taken, or the fault
 pub data Case : Type 0 where
@@ -53,3 +56,15 @@ right (numbered cause number) = eqb (numberOf cause) number
 right (limitIs limit value) = eqb limit value
 right (takes s sort from start end) = isToken (expect s sort from) sort start end
 right (faults s sort from cause place) = isFault (expect s sort from) cause place
+
+-- the number and the place of a refusal; and tests of an outcome, of its refusal and of what it gives
+abbrev pub isRefusal : Refusal → ℕ → ℕ → Bool
+isRefusal r number place = eqb (numberOf (r .cause)) number && eqb (r .place) place
+
+abbrev pub isRefused : {E A : Type 0} → Outcome E A → (E → Bool) → Bool
+isRefused (Outcomes.refused e) test = test e
+isRefused (gave a) test = false
+
+abbrev pub isGiven : {E A : Type 0} → Outcome E A → (A → Bool) → Bool
+isGiven (Outcomes.refused e) test = false
+isGiven (gave a) test = test a

@@ -1,6 +1,8 @@
 -- The laws and examples of the definitions.
 pub mod Readings
+pub mod Outcomes
 pub mod Tokens
+pub mod Parses
 pub mod StepLaws
 pub mod Examples
 pub mod RefusalTable

@@ -5,7 +5,7 @@ use mathlib.Core.Logic.{_≢_}
 use mathlib.Core.List.{List}
 use Prim.Native.Nat.{ℕ, _≤_}
 use lib.ListN.{length}
-use Rattle.refusals.specs.Reading.{Reading, refused, got, refuse, andThen, unless}
+use Rattle.refusals.specs.Reading.{Reading, refused, got, refuse, readThen}
 use Rattle.refusals.specs.Refusals.{numberOf, refusal}
 use Rattle.refusals.specs.declared.Cause.{Cause}
 use Rattle.refusals.specs.declared.Refusal.{Refusal}
@@ -14,11 +14,7 @@ unfoldable pub Holds : {A : Type 0} → (Refusal → Type 0) → (A → ℕ → 
 Holds F P (refused r) = F r
 Holds F P (got a p) = P a p
 
--- a data text's refusal: its place lies in the text or at its end
-abbrev pub DataRefusal : List ℕ → Refusal → Type 0
-DataRefusal s r = r .place ≤ length s
-
--- a constraint text's: the same, and its number is not 10
+-- a constraint text's refusal: its place lies in the text or at its end, and its number is not 10
 abbrev pub ConstraintRefusal : List ℕ → Refusal → Type 0
 ConstraintRefusal s r = (r .place ≤ length s) × (numberOf (r .cause) ≢ 10)
 
@@ -31,16 +27,13 @@ module _ {A : Type 0} (F : Refusal → Type 0) (P : A → ℕ → Type 0) where
   unfolding Holds
   got-holds a p h = h
 
-  pub cond-holds : (b : Bool) (x y : Reading A) → (b ≡ true → Holds F P x) → (b ≡ false → Holds F P y) → Holds F P (cond b x y)
+  pub cond-holds : (b : Bool) (x y : Reading A) → (b ≡ true → Holds F P x) → (b ≡ false → Holds F P y)
+      → Holds F P (cond b x y)
   cond-holds true x y f g = f refl
   cond-holds false x y f g = g refl
 
-  pub unless-holds : (fault : Bool) (cause : Cause) (place : ℕ) (more : Reading A) → F (refusal cause place) → (fault ≡ false → Holds F P more) → Holds F P (unless fault cause place more)
-  unfolding Holds
-  unless-holds true cause place more h k = h
-  unless-holds false cause place more h k = k refl
-
-  pub then-holds : {B : Type 0} (Q : B → ℕ → Type 0) (r : Reading B) (go : B → ℕ → Reading A) → Holds F Q r → ((b : B) (p : ℕ) → Q b p → Holds F P (go b p)) → Holds F P (andThen r go)
+  pub then-holds : {B : Type 0} (Q : B → ℕ → Type 0) (r : Reading B) (go : B → ℕ → Reading A) → Holds F Q r
+      → ((b : B) (p : ℕ) → Q b p → Holds F P (go b p)) → Holds F P (readThen r go)
   unfolding Holds
   then-holds Q (refused x) go h k = h
   then-holds Q (got b p) go h k = k b p h
@@ -50,11 +43,9 @@ pub record From (low high : ℕ) (p : ℕ) : Type 0 where
   pub least : low ≤ p
   pub most : p ≤ high
 
-abbrev pub Reaches : {A : Type 0} → ℕ → ℕ → A → ℕ → Type 0
-Reaches low high a p = From low high p
-
 -- what follows from a property follows of what was read
-pub holds-map : {A : Type 0} (F : Refusal → Type 0) (P Q : A → ℕ → Type 0) (r : Reading A) → ((a : A) (p : ℕ) → P a p → Q a p) → Holds F P r → Holds F Q r
+pub holds-map : {A : Type 0} (F : Refusal → Type 0) (P Q : A → ℕ → Type 0) (r : Reading A)
+    → ((a : A) (p : ℕ) → P a p → Q a p) → Holds F P r → Holds F Q r
 unfolding Holds
 holds-map F P Q (refused x) f h = h
 holds-map F P Q (got a p) f h = f a p h

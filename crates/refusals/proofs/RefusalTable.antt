@@ -10,7 +10,7 @@ use Rattle.lexis.proofs.Computes.{lexisComputes}
 use Rattle.refusals.specs.declared.Cause.the-variants.{TextTooLong, Unreadable, CannotFollow, EndsEarly, TooDeep, TooLong, Impossible, OutOfRange, BadWord, EmptyInterval, TooManyItems, TooManyRecords, Overlap, RepeatedName, PoolTooLarge, OutputTooShort, NotATable, BrokenRecord, NotAnObject, NoName}
 use Rattle.refusals.specs.Limits.{textLimit, levelLimit, itemLimit, recordLimit, poolLimit, nameLimit, codeLimit, stringLimit}
 use Rattle.refusals.specs.Refusals.{numberOf}
-use Rattle.refusals.specs.Steps.{expect}
+use Rattle.refusals.specs.Expecting.{expect}
 use Rattle.refusals.proofs.Examples.{Case, numbered, limitIs, takes, faults, right, which}
 
 pub cases : List Case

@@ -1,5 +1,7 @@
 pub mod Limits
 pub mod Refusals
 pub mod Reading
-pub mod Steps
-pub mod Answers
+pub mod Outcomes
+pub mod Expecting
+pub mod Parsing
+pub mod contracts

@@ -10,8 +10,8 @@ ghost use Prim.Native.Nat.{_≤_};
 ghost use lib.ListN.{length};
 ghost use Rattle.refusals.specs.declared.Cause.the-variants.{TooLong};
 ghost use Rattle.refusals.specs.Refusals.{refusal};
-ghost use Rattle.refusals.specs.Steps.{syntaxCause, expect};
-ghost use Rattle.refusals.specs.Answers.{causeOf, ExpectIs};
+ghost use Rattle.refusals.specs.Expecting.{syntaxCause, expect};
+ghost use Rattle.refusals.specs.contracts.Answers.{causeOf, expectedOf, ExpectIs};
 
 // A token that must stand at a place, or the refusal where another does.
 pub enum Expected {
@@ -53,15 +53,21 @@ pub fn too_long(t: Token) -> Refusal
     }
 }
 
-// A token of constraint text of the sort asked for.
-pub fn expect(s: &[u8], sort: u8, from: usize) -> Expected
-    requires { ⌜ from ≤ length (now s) ⌝ }
-    ensures { λ r. ⌜ ExpectIs (now (s .entry)) sort from (expect (now (s .entry)) sort from) r ⌝ }
+// A token, where one of a sort is asked for.
+pub fn taken(t: Token, sort: u8) -> Expected
+    ensures { λ r. ⌜ r ≡ expectedOf t sort ⌝ }
 {
-    let t = token_at(s, from);
     if t.sort == sort {
         return Expected::Taken(t);
     }
     let fault = syntax_fault(t);
     Expected::Fault(fault)
+}
+
+// A token of constraint text of the sort asked for.
+pub fn expect(s: &[u8], sort: u8, from: usize) -> Expected
+    requires { ⌜ from ≤ length (now s) ⌝ }
+    ensures { λ r. ⌜ ExpectIs (now (s .entry)) sort from (expect (now (s .entry)) sort from) r ⌝ }
+{
+    taken(token_at(s, from), sort)
 }

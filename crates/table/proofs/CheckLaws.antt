@@ -16,31 +16,31 @@ use Rattle.refusals.specs.Limits.{recordLimit, poolLimit}
 use Rattle.refusals.specs.Refusals.{refusal}
 use Rattle.refusals.specs.declared.Cause.the-variants.{NotATable, BrokenRecord}
 use Rattle.table.specs.Records.{Record, Image, recordSize, fieldCount, isMarked, decode, field, count, header, headerOf, decodes, encodes, imageOf, bytesOf}
-use Rattle.table.specs.Rows.{unnamed, rowOf}
-use Rattle.table.specs.Check.{kinds, kindAt, fieldRight, fieldsRight, obeys, clean, recordRight, broken, framed, brokenRecord, tableFault}
+use Rattle.table.specs.Rows.{shapeOf, unnamed, rowOf}
+use Rattle.table.specs.Check.{kinds, kindAt, fieldRight, fieldsRight, usesOf, flagRight, obeys, clean, allNought, recordRight, broken, framed, brokenRecord, tableFault}
 use Rattle.table.specs.Names.{recordAt}
 use Rattle.table.proofs.Checked.{RecordGood, RecordsGood, Checked}
-use Rattle.table.proofs.RecordLaws.{Fits, AllFit, ImageFits, fit-five, decode-five, bytes-marked, marked-part, drop-front, length-decodes, length-bytes, header-of-bytes, bytes-behind, image-of-bytes}
-use Rattle.table.proofs.UseLaws.{Passed, each-passed, uses-five, use-at, row-tied, fields-small}
+use Rattle.table.proofs.RecordLaws.{Fits, AllFit, ImageFits, fit-counted, decode-counted, bytes-marked, marked-part, drop-front, length-decodes, length-bytes, header-of-bytes, bytes-behind, image-of-bytes}
+use Rattle.table.proofs.UseLaws.{Passed, each-passed, uses-counted, use-at, row-tied, fields-small}
 
 module _ {m : Image} {n : ℕ} {r : Record} (g : RecordGood m n r) where
-  -- a good record passes the tests of its kind, its flag and its fields
-  good-tests : Passed (leb 1 (r .kind) ∷ leb (r .kind) 8 ∷ within (rowOf (r .kind) .least) (rowOf (r .kind) .most) (r .flag) ∷ fieldsRight m n (rowOf (r .kind) .uses) (r .fields) ∷ [])
+  -- a good record passes the tests of its kind and its flag, of its fields and of all of them
+  good-tests : Passed (flagRight (r .kind) (r .flag) ∷ fieldsRight m n (usesOf r) (r .fields) ∷ rowOf (r .kind) .across m n (r .fields) ∷ [])
   unfolding obeys
-  good-tests =
-      let w = rowOf (r .kind) in
-      each-passed (leb 1 (r .kind)) (leb (r .kind) 8 ∷ within (w .least) (w .most) (r .flag) ∷ fieldsRight m n (w .uses) (r .fields) ∷ []) (g .obeyed)
+  good-tests = each-passed (flagRight (r .kind) (r .flag)) (fieldsRight m n (usesOf r) (r .fields) ∷ rowOf (r .kind) .across m n (r .fields) ∷ []) (g .obeyed)
 
   -- its fields keep their rules
-  pub good-fields : fieldsRight m n (rowOf (r .kind) .uses) (r .fields) ≡ true
-  good-fields = good-tests .1 .1 .1 .0
+  pub good-fields : fieldsRight m n (usesOf r) (r .fields) ≡ true
+  good-fields = good-tests .1 .0
 
   -- the field at a place keeps the rule of what it is
-  pub field-at : (i : ℕ) → i < fieldCount → fieldRight m n (getD (rowOf (r .kind) .uses) i unnamed) (field r i) (field r (suc i)) ≡ true
-  field-at i h = use-at m n (rowOf (r .kind) .uses) (r .fields) i good-fields (rw (uses-five (r .kind)) h) (rw (g .five) h)
+  pub field-at : (i : ℕ) → i < fieldCount
+      → fieldRight m n (getD (usesOf r) i unnamed) (field r i) (field r (suc i)) ≡ true
+  field-at i h = use-at m n (usesOf r) (r .fields) i good-fields (rw (uses-counted (shapeOf (r .kind)) (r .fields)) h) (rw (g .counted) h)
 
 -- of good records each is good
-pub good-at : {m : Image} (i k : ℕ) (rs : List Record) (d : Record) → RecordsGood m i rs → k < length rs → RecordGood m (i + k) (getD rs k d)
+pub good-at : {m : Image} (i k : ℕ) (rs : List Record) (d : Record) → RecordsGood m i rs → k < length rs
+    → RecordGood m (i + k) (getD rs k d)
 good-at i k [] d g h = absurd (not-suc-le-zero h)
 good-at i zero (r ∷ rs) d g h = rw add-zero (g .0)
 good-at i (suc k) (r ∷ rs) d g h = rw (add-suc, ← suc-add) (good-at (suc i) k rs d (g .1) (le-of-suc-le-suc h))
@@ -63,15 +63,17 @@ record-good m (suc n) h l k =
     rw (← e) (good-at 1 n (m .records) (headerOf m) (h .records) (le-of-suc-le-suc k))
 
 -- a good record fits, where records and pool are within their limits
-pub good-fits : {m : Image} {n : ℕ} {r : Record} → RecordGood m n r → count m ≤ recordLimit → length (m .pool) ≤ poolLimit → Fits r
+pub good-fits : {m : Image} {n : ℕ} {r : Record} → RecordGood m n r → count m ≤ recordLimit
+    → length (m .pool) ≤ poolLimit → Fits r
 unfolding clean
 good-fits {m} {n} {r} g few small = record {
-  five = g .five;
-  small = fields-small m few small n false (rowOf (r .kind) .uses) (r .fields) (row-tied (r .kind)) (λ e. absurd (false≢true e)) (rw (g .five, uses-five (r .kind)) (omega arith)) (good-fields g) (g .cleaned);
+  counted = g .counted;
+  small = fields-small m few small n false (usesOf r) (r .fields) (row-tied (shapeOf (r .kind)) (r .fields)) (λ e. absurd (false≢true e)) (rw (g .counted, uses-counted (shapeOf (r .kind)) (r .fields)) (omega arith)) (good-fields g) (g .cleaned);
 }
 
 -- so do good records
-goods-fit : (m : Image) (i : ℕ) (rs : List Record) → RecordsGood m i rs → count m ≤ recordLimit → length (m .pool) ≤ poolLimit → AllFit rs
+goods-fit : (m : Image) (i : ℕ) (rs : List Record) → RecordsGood m i rs → count m ≤ recordLimit
+    → length (m .pool) ≤ poolLimit → AllFit rs
 goods-fit m i [] g few small = tt
 goods-fit m i (r ∷ rs) g few small = (good-fits (g .0) few small, goods-fit m (suc i) rs (g .1) few small)
 
@@ -108,8 +110,7 @@ pub record Framed (bs : List ℕ) : Type 0 where
   pub mark : isMarked bs ≡ true
   pub kind : header bs .kind ≡ 0
   pub flag : header bs .flag ≡ 0
-  pub fourth : field (header bs) 3 ≡ 0
-  pub fifth : field (header bs) 4 ≡ 0
+  pub rest : allNought (drop 3 (header bs .fields)) ≡ true
   pub some : 2 ≤ field (header bs) 0
   pub few : field (header bs) 0 ≤ recordLimit
   pub pool : field (header bs) 1 ≤ poolLimit
@@ -123,21 +124,20 @@ framed-is bs e =
     let h = header bs in
     let p = each-passed (leb recordSize (length bs)) (
     isMarked bs
-    ∷ (eqb (h .kind) 0 && eqb (h .flag) 0 && eqb (field h 3) 0 && eqb (field h 4) 0)
+    ∷ (eqb (h .kind) 0 && eqb (h .flag) 0 && allNought (drop 3 (h .fields)))
     ∷ within 2 recordLimit (field h 0)
     ∷ leb (field h 1) poolLimit
     ∷ eqb (length bs) (recordSize * field h 0 + field h 1)
     ∷ eqb (kindAt (imageOf bs) (field h 2)) 1
     ∷ []) e in
-    let q = each-passed (eqb (h .kind) 0) (eqb (h .flag) 0 ∷ eqb (field h 3) 0 ∷ eqb (field h 4) 0 ∷ []) (p .1 .1 .0) in
+    let q = each-passed (eqb (h .kind) 0) (eqb (h .flag) 0 ∷ allNought (drop 3 (h .fields)) ∷ []) (p .1 .1 .0) in
     let c = each-passed (leb 2 (field h 0)) (leb (field h 0) recordLimit ∷ []) (p .1 .1 .1 .0) in
     record {
       long = leb-true recordSize (length bs) (p .0);
       mark = p .1 .0;
       kind = eqb-true (h .kind) 0 (q .0);
       flag = eqb-true (h .flag) 0 (q .1 .0);
-      fourth = eqb-true (field h 3) 0 (q .1 .1 .0);
-      fifth = eqb-true (field h 4) 0 (q .1 .1 .1 .0);
+      rest = q .1 .1 .0;
       some = leb-true 2 (field h 0) (c .0);
       few = leb-true (field h 0) recordLimit (c .1 .0);
       pool = leb-true (field h 1) poolLimit (p .1 .1 .1 .1 .0);
@@ -155,8 +155,7 @@ is-framed bs f =
       f .mark,
       f .kind,
       f .flag,
-      f .fourth,
-      f .fifth,
+      f .rest,
       le-leb 2 (field h 0) (f .some),
       le-leb (field h 0) recordLimit (f .few),
       le-leb (field h 1) poolLimit (f .pool),
@@ -174,7 +173,8 @@ none-broken none e = refl
 none-broken (some n) e = no-fault (refusal BrokenRecord n) e
 
 -- records that are not broken are good
-pub unbroken-good : (m : Image) (n k : ℕ) (bs : List ℕ) → broken m n (decodes k bs) bs ≡ none → RecordsGood m n (decodes k bs)
+pub unbroken-good : (m : Image) (n k : ℕ) (bs : List ℕ) → broken m n (decodes k bs) bs ≡ none
+    → RecordsGood m n (decodes k bs)
 unfolding broken
 unbroken-good m n zero bs e = tt
 unbroken-good m n (suc k) bs e =
@@ -182,16 +182,17 @@ unbroken-good m n (suc k) bs e =
     by-cond (λ o. o ≡ none → RecordsGood m n (decodes (suc k) bs)) (recordRight m n (take recordSize bs) r)
     (λ t h.
     let p = each-passed (isMarked (take recordSize bs)) (obeys m n r ∷ clean r ∷ []) t in
-    (record { five = decode-five (take recordSize bs); obeyed = p .1 .0; cleaned = p .1 .1 .0 }, unbroken-good m (suc n) k (drop recordSize bs) h))
+    (record { counted = decode-counted (take recordSize bs); obeyed = p .1 .0; cleaned = p .1 .1 .0 }, unbroken-good m (suc n) k (drop recordSize bs) h))
     (λ t. no-fault n) e
 
 -- good records are not broken, written in either order
-pub good-unbroken : (little : Bool) (m : Image) (n : ℕ) (rs : List Record) (more : List ℕ) → RecordsGood m n rs → broken m n rs (encodes little rs ++ more) ≡ none
+pub good-unbroken : (little : Bool) (m : Image) (n : ℕ) (rs : List Record) (more : List ℕ) → RecordsGood m n rs
+    → broken m n rs (encodes little rs ++ more) ≡ none
 unfolding broken
 good-unbroken little m n [] more g = refl
 good-unbroken little m n (r ∷ rs) more g =
     let rest = encodes little rs ++ more in
-    rw (append-assoc, marked-part little r rest, g .0 .obeyed, g .0 .cleaned, drop-front little r rest (g .0 .five)) (good-unbroken little m (suc n) rs more (g .1))
+    rw (append-assoc, marked-part little r rest, g .0 .obeyed, g .0 .cleaned, drop-front little r rest (g .0 .counted)) (good-unbroken little m (suc n) rs more (g .1))
 
 module _ (bs : List ℕ) (f : Framed bs) where
   -- what has the frame holds as many records as its header says
@@ -238,14 +239,13 @@ pub bytes-framed : (little : Bool) (m : Image) → Checked m → Framed (bytesOf
 bytes-framed little m h =
     let f = image-fits m h in
     let e = header-of-bytes little m f in
-    let l = length-bytes little m (fit-five (m .records) (f .records)) in
+    let l = length-bytes little m (fit-counted (m .records) (f .records)) in
     record {
       long = rw l (omega arith);
       mark = bytes-marked little m;
       kind = ap (λ r. r .kind) e;
       flag = ap (λ r. r .flag) e;
-      fourth = ap (λ r. field r 3) e;
-      fifth = ap (λ r. field r 4) e;
+      rest = ap (λ r. allNought (drop 3 (r .fields))) e;
       some = rw e (h .some);
       few = rw e (h .few);
       pool = rw e (h .pool);

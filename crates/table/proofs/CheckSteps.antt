@@ -15,7 +15,7 @@ use Rattle.refusals.specs.Refusals.{refusal}
 use Rattle.refusals.specs.declared.Cause.the-variants.{NotATable, BrokenRecord}
 use Rattle.table.specs.Records.{recordSize, isMarked, decode, field, header, decodes, imageOf}
 use Rattle.table.specs.Check.{kindAt, obeys, clean, recordRight, broken, brokenRecord, framed, tableFault}
-use Rattle.table.specs.Answers.{recordOf, Opened, plainHeader, countsRight, faultOf}
+use Rattle.table.specs.contracts.Answers.{recordOf, Opened, plainHeader, countsRight, faultOf}
 use Rattle.table.specs.declared.records.Entry.{Entry}
 use Rattle.table.specs.declared.records.Frame.{Frame}
 use Rattle.table.specs.declared.check.CheckAnswer.{CheckAnswer}
@@ -53,7 +53,8 @@ module _ (bs : List ℕ) where
           root-told r g er = rw (framed-chain, ← ep, not-false p gp, ← ec, not-false c g, ← er)
 
 -- counts that are right open the table
-pub counts-open : (bs : List ℕ) (h : Entry) (c : Bool) → recordOf h ≡ decode (take recordSize bs) → c ≡ countsRight h (length bs) → not c ≡ false
+pub counts-open : (bs : List ℕ) (h : Entry) (c : Bool) → recordOf h ≡ decode (take recordSize bs)
+    → c ≡ countsRight h (length bs) → not c ≡ false
     → Opened bs (record { count = h .a; pool = h .b })
 counts-open bs h c q e g =
     let few = leb (h .a) recordLimit in
@@ -73,10 +74,12 @@ counts-open bs h c q e g =
 
 -- a record: its mark and its rules
 module _ (bs : List ℕ) (n at : ℕ) (k : Bool) (ea : at ≡ recordSize * n) (e : k ≡ isMarked (drop at bs)) where
-  pub record-unmarked : k ≡ false → k ≡ recordRight (imageOf bs) n (take recordSize (drop (recordSize * n) bs)) (decode (take recordSize (drop (recordSize * n) bs)))
+  pub record-unmarked : k ≡ false
+      → k ≡ recordRight (imageOf bs) n (take recordSize (drop (recordSize * n) bs)) (decode (take recordSize (drop (recordSize * n) bs)))
   record-unmarked h = rw (← ea, marked-in bs at, ← e, h)
 
-  pub record-ruled : (x : Entry) (r : Bool) → k ≡ true → recordOf x ≡ decode (take recordSize (drop at bs)) → r ≡ (obeys (imageOf bs) n (recordOf x) && clean (recordOf x))
+  pub record-ruled : (x : Entry) (r : Bool) → k ≡ true → recordOf x ≡ decode (take recordSize (drop at bs))
+      → r ≡ (obeys (imageOf bs) n (recordOf x) && clean (recordOf x))
       → r ≡ recordRight (imageOf bs) n (take recordSize (drop (recordSize * n) bs)) (decode (take recordSize (drop (recordSize * n) bs)))
   record-ruled x r h q g = rw (← ea, marked-in bs at, ← e, h, ← q) g
 
@@ -85,24 +88,28 @@ pub record Reached (bs : List ℕ) (f : Frame) (n : ℕ) : Type 0 where
   pub low : 1 ≤ n
   pub high : n ≤ f .count
   pub opened : Opened bs f
-  pub is : broken (imageOf bs) n (decodes (f .count - n) (drop (recordSize * n) bs)) (drop (recordSize * n) bs) ≡ broken (imageOf bs) 1 (imageOf bs .records) (drop recordSize bs)
+  pub is : broken (imageOf bs) n (decodes (f .count - n) (drop (recordSize * n) bs))
+      (drop (recordSize * n) bs) ≡ broken (imageOf bs) 1 (imageOf bs .records) (drop recordSize bs)
 
 pub reach-first : (bs : List ℕ) (f : Frame) → Opened bs f → Reached bs f 1
 unfolding imageOf
 reach-first bs f o = record { low = omega arith; high = omega arith; opened = o; is = rw (o .records) }
 
 module _ (bs : List ℕ) (f : Frame) (n : ℕ) (i : Reached bs f n) where
-  pub reach-end : f .count ≤ n → faultOf Passed ≡ brokenRecord (broken (imageOf bs) 1 (imageOf bs .records) (drop recordSize bs))
+  pub reach-end : f .count ≤ n
+      → faultOf Passed ≡ brokenRecord (broken (imageOf bs) 1 (imageOf bs .records) (drop recordSize bs))
   unfolding broken
   reach-end h =
       let z : f .count - n ≡ 0 = omega arith in
       ap brokenRecord (rw z at (i .is))
 
-  module _ (r : Bool) (h : n < f .count) (e : r ≡ recordRight (imageOf bs) n (take recordSize (drop (recordSize * n) bs)) (decode (take recordSize (drop (recordSize * n) bs)))) where
+  module _ (r : Bool) (h : n < f .count)
+      (e : r ≡ recordRight (imageOf bs) n (take recordSize (drop (recordSize * n) bs)) (decode (take recordSize (drop (recordSize * n) bs)))) where
     one-more : f .count - n ≡ suc (f .count - (n + 1))
     one-more = omega arith
 
-    pub reach-fault : not r ≡ true → faultOf (Refused (refusal BrokenRecord n)) ≡ brokenRecord (broken (imageOf bs) 1 (imageOf bs .records) (drop recordSize bs))
+    pub reach-fault : not r ≡ true
+        → faultOf (Refused (refusal BrokenRecord n)) ≡ brokenRecord (broken (imageOf bs) 1 (imageOf bs .records) (drop recordSize bs))
     unfolding broken
     reach-fault g = ap brokenRecord (rw (one-more, ← e, not-true r g) at (i .is))
 
@@ -128,7 +135,9 @@ module _ (bs : List ℕ) (b : Bool) (e : b ≡ framed bs) where
     pub table-open : (f : Frame) → (f .count ≡ field (header bs) 0) × (f .pool ≡ field (header bs) 1) → Opened bs f
     table-open f q = framed-opened bs f (framed-is bs passed) (q .0) (q .1)
 
-    pub table-told : (a : CheckAnswer) → faultOf a ≡ brokenRecord (broken (imageOf bs) 1 (imageOf bs .records) (drop recordSize bs)) → faultOf a ≡ tableFault bs
+    pub table-told : (a : CheckAnswer)
+        → faultOf a ≡ brokenRecord (broken (imageOf bs) 1 (imageOf bs .records) (drop recordSize bs))
+        → faultOf a ≡ tableFault bs
     unfolding tableFault
     table-told a q = rw passed q
 

@@ -10,7 +10,7 @@ use Rattle.table.specs.Check.{kindAt, obeys, clean}
 
 -- a record with its number
 pub record RecordGood (m : Image) (n : ℕ) (r : Record) : Type 0 where
-  pub five : length (r .fields) ≡ fieldCount
+  pub counted : length (r .fields) ≡ fieldCount
   pub obeyed : obeys m n r ≡ true
   pub cleaned : clean r ≡ true
 

@@ -6,14 +6,14 @@ use mathlib.Core.List.{List, []}
 use Prim.Native.Nat.{ℕ}
 use lib.Dec.{eqb}
 use Rattle.lexis.specs.Runs.{same}
-use Rattle.refusals.specs.Refusals.{numberOf}
+use Rattle.refusals.proofs.Examples.{isRefusal, isRefused, isGiven}
 use Rattle.refusals.specs.declared.Refusal.{Refusal}
 use Rattle.meaning.specs.Constraints.{Object}
 use Rattle.meaning.proofs.Trees.{objectList}
 use Rattle.table.specs.Order.{put, get}
 use Rattle.table.specs.Records.{Record, numberSize, isLittle, isMarked, decode, encode, imageOf, bytesOf}
 use Rattle.table.specs.Check.{tableFault}
-use Rattle.table.specs.Names.{NameAnswer, refused, named, nameAnswer, partOf}
+use Rattle.table.specs.Names.{nameAnswer, sliceBytes}
 use Rattle.table.specs.Trees.{objectAt}
 
 abbrev pub alike : Bool → Bool → Bool
@@ -50,7 +50,7 @@ pub data CheckCase : Type 0 where
 
 abbrev pub isFault : Option Refusal → ℕ → ℕ → Bool
 isFault none number place = false
-isFault (some r) number place = eqb (numberOf (r .cause)) number && eqb (r .place) place
+isFault (some r) number place = isRefusal r number place
 
 abbrev pub noFault : Option Refusal → Bool
 noFault none = true
@@ -66,17 +66,10 @@ pub data NameCase : Type 0 where
   names : List ℕ → (n : ℕ) → (start length : ℕ) → (name : List ℕ) → NameCase
   noName : List ℕ → (n : ℕ) → (number place : ℕ) → NameCase
 
-abbrev pub isName : NameAnswer → ℕ → ℕ → Bool
-isName (refused r) start length = false
-isName (named p) start length = eqb (p .start) start && eqb (p .length) length
-
-abbrev pub isRefused : NameAnswer → ℕ → ℕ → Bool
-isRefused (refused r) number place = isFault (some r) number place
-isRefused (named p) number place = false
-
 unfoldable pub nameRight : NameCase → Bool
-nameRight (names bs n start length name) = isName (nameAnswer bs n) start length && same (partOf bs (nameAnswer bs n)) name
-nameRight (noName bs n number place) = isRefused (nameAnswer bs n) number place && same (partOf bs (nameAnswer bs n)) []
+nameRight (names bs n start length name) =
+    isGiven (nameAnswer bs n) (λ p. eqb (p .start) start && eqb (p .length) length) && same (sliceBytes bs (nameAnswer bs n)) name
+nameRight (noName bs n number place) = isRefused (nameAnswer bs n) (λ r. isRefusal r number place) && same (sliceBytes bs (nameAnswer bs n)) []
 
 -- the tree of an object of the table
 pub data TreeCase : Type 0 where

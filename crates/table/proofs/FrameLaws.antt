@@ -9,7 +9,7 @@ use lib.Seq.{drop-drop, getD-take, getD-drop}
 use Rattle.table.specs.Records.{Record, recordSize, decode, field, count, header, headerOf, decodes, imageOf}
 use Rattle.table.specs.Check.{kinds, kindAt}
 use Rattle.table.specs.Names.{recordAt}
-use Rattle.table.specs.Answers.{recordOf, Opened}
+use Rattle.table.specs.contracts.Answers.{recordOf, Opened}
 use Rattle.table.specs.declared.records.Entry.{Entry}
 use Rattle.table.specs.declared.records.Frame.{Frame}
 use Rattle.table.proofs.RecordLaws.{length-decodes}
@@ -17,7 +17,8 @@ use Rattle.table.proofs.CheckLaws.{Framed, kind-record}
 use Rattle.table.proofs.CheckLaws.{length-kinds}
 
 -- the record so many records on decodes the bytes there
-pub decodes-at : (k j : ℕ) (bs : List ℕ) (d : Record) → j < k → getD (decodes k bs) j d ≡ decode (take recordSize (drop (recordSize * j) bs))
+pub decodes-at : (k j : ℕ) (bs : List ℕ) (d : Record) → j < k
+    → getD (decodes k bs) j d ≡ decode (take recordSize (drop (recordSize * j) bs))
 decodes-at zero j bs d h = absurd (not-suc-le-zero h)
 decodes-at (suc k) zero bs d h = refl
 decodes-at (suc k) (suc j) bs d h =
@@ -40,7 +41,8 @@ module _ (bs : List ℕ) (f : Frame) (o : Opened bs f) where
   pool-opened = rw (length-take, length-drop, ← (o .records), ← (o .bytes)) (omega arith)
 
   -- the record with a number decodes the 24 bytes at 24 times the number
-  pub record-opened : (n : ℕ) → 1 ≤ n → n < f .count → recordAt (imageOf bs) n ≡ decode (take recordSize (drop (recordSize * n) bs))
+  pub record-opened : (n : ℕ) → 1 ≤ n → n < f .count
+      → recordAt (imageOf bs) n ≡ decode (take recordSize (drop (recordSize * n) bs))
   unfolding imageOf
   record-opened zero h l = absurd (not-suc-le-zero h)
   record-opened (suc n) h l =
@@ -60,11 +62,13 @@ module _ (bs : List ℕ) (f : Frame) (o : Opened bs f) where
       List·getD-eq-default (0 ∷ kinds (imageOf bs .records)) 0 {n = n} (omega arith)
 
 -- bytes that have the frame are opened by the counts in their header
-pub framed-opened : (bs : List ℕ) (f : Frame) → Framed bs → f .count ≡ field (header bs) 0 → f .pool ≡ field (header bs) 1 → Opened bs f
+pub framed-opened : (bs : List ℕ) (f : Frame) → Framed bs → f .count ≡ field (header bs) 0
+    → f .pool ≡ field (header bs) 1 → Opened bs f
 framed-opened bs f h c p = record { records = c; bytes = p; some = rw c (h .some); few = rw c (h .few); small = rw p (h .pool); whole = rw (c, p) (h .whole) }
 
 -- the counts, as they are read
-pub counts-read : (bs : List ℕ) (e : Entry) → recordOf e ≡ decode (take recordSize bs) → (e .a ≡ field (header bs) 0) × (e .b ≡ field (header bs) 1)
+pub counts-read : (bs : List ℕ) (e : Entry) → recordOf e ≡ decode (take recordSize bs)
+    → (e .a ≡ field (header bs) 0) × (e .b ≡ field (header bs) 1)
 counts-read bs e q = (ap (λ r. field r 0) q, ap (λ r. field r 1) q)
 
 -- the kind at a number, as it is read
@@ -72,7 +76,8 @@ module _ (bs : List ℕ) (f : Frame) (n : ℕ) (o : Opened bs f) where
   pub kind-none : f .count ≤ n → 0 ≡ kindAt (imageOf bs) n
   kind-none h = sym (kind-past bs f o n h)
 
-  pub kind-byte : (at : ℕ) → (n ≡ 0 → ⊥) → n < f .count → at ≡ recordSize * n → getD bs (at + 2) 0 ≡ kindAt (imageOf bs) n
+  pub kind-byte : (at : ℕ) → (n ≡ 0 → ⊥) → n < f .count → at ≡ recordSize * n
+      → getD bs (at + 2) 0 ≡ kindAt (imageOf bs) n
   kind-byte at h l e = rw e (sym (kind-opened bs f o n (omega arith) l))
 
 pub ruleset frame-steps = (counts-read, kind-none, kind-byte)

@@ -19,3 +19,4 @@ pub mod KindSteps
 pub mod CheckSteps
 pub mod NameSteps
 pub mod WriteSteps
+pub mod CopySteps

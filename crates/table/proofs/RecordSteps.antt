@@ -10,7 +10,7 @@ use lib.Seq.{take-take, drop-drop, getD-take, getD-drop}
 use borrow.Author.Tests.{eq-eqb, ne-eqb}
 use Rattle.table.specs.Order.{get, put}
 use Rattle.table.specs.Records.{recordSize, numberSize, mark, isLittle, isMarked, decode}
-use Rattle.table.specs.Answers.{recordOf, ordered, orderedAs}
+use Rattle.table.specs.contracts.Answers.{recordOf, ordered, orderedAs}
 use Rattle.table.specs.declared.records.Entry.{Entry}
 use Rattle.table.proofs.OrderLaws.{get-put}
 use Rattle.table.proofs.OrderSteps.{number-ordered}
@@ -33,7 +33,8 @@ module _ (bs : List ℕ) (at : ℕ) where
   pub marked-in : isMarked (take recordSize (drop at bs)) ≡ isMarked (drop at bs)
   marked-in = ap (λ x. eqb (get true x) mark || eqb (get false x) mark) (take-take 2 recordSize (drop at bs) (omega arith))
 
-  number-in : (little : Bool) (j : ℕ) → j + numberSize ≤ recordSize → get little (take numberSize (drop j (take recordSize (drop at bs)))) ≡ get little (take numberSize (drop (at + j) bs))
+  number-in : (little : Bool) (j : ℕ) → j + numberSize ≤ recordSize
+      → get little (take numberSize (drop j (take recordSize (drop at bs)))) ≡ get little (take numberSize (drop (at + j) bs))
   number-in little j h = ap (get little) (part-in numberSize j recordSize (drop at bs) h ∙ ap (take numberSize) (drop-drop j at bs))
 
   -- the record that is read is the one that the bytes decode to
@@ -61,10 +62,13 @@ module _ (bs : List ℕ) (at : ℕ) where
 
 -- a record in an order: as it is, or with each number swapped
 module _ (r : Entry) (little : Bool) where
-  pub ordered-same : little ≡ true → r .a < 2 ^ 32 → r .b < 2 ^ 32 → r .c < 2 ^ 32 → r .d < 2 ^ 32 → r .e < 2 ^ 32 → recordOf r ≡ orderedAs little (recordOf r)
+  pub ordered-same : little ≡ true → r .a < 2 ^ 32 → r .b < 2 ^ 32 → r .c < 2 ^ 32 → r .d < 2 ^ 32 → r .e < 2 ^ 32
+      → recordOf r ≡ orderedAs little (recordOf r)
   ordered-same l ha hb hc hd he = rw l (rw (get-put true 4 (r .a) ha, get-put true 4 (r .b) hb, get-put true 4 (r .c) hc, get-put true 4 (r .d) hd, get-put true 4 (r .e) he))
 
-  pub ordered-swapped : (a b c d e : ℕ) → little ≡ false → a ≡ get false (put true 4 (r .a)) → b ≡ get false (put true 4 (r .b)) → c ≡ get false (put true 4 (r .c)) → d ≡ get false (put true 4 (r .d)) → e ≡ get false (put true 4 (r .e))
+  pub ordered-swapped : (a b c d e : ℕ) → little ≡ false → a ≡ get false (put true 4 (r .a))
+      → b ≡ get false (put true 4 (r .b)) → c ≡ get false (put true 4 (r .c)) → d ≡ get false (put true 4 (r .d))
+      → e ≡ get false (put true 4 (r .e))
       → recordOf (record { kind = r .kind; flag = r .flag; a = a; b = b; c = c; d = d; e = e }) ≡ orderedAs little (recordOf r)
   ordered-swapped a b c d e l ea eb ec ed ee = rw (l, ea, eb, ec, ed, ee)
 

@@ -9,22 +9,24 @@ use lib.Seq.{sets}
 use Rattle.lexis.proofs.Stores.{sets-behind}
 use Rattle.table.specs.Order.{put}
 use Rattle.table.specs.Records.{mark, encode, field}
-use Rattle.table.specs.Answers.{recordOf, orderedAs}
+use Rattle.table.specs.contracts.Answers.{recordOf, orderedAs}
 use Rattle.table.specs.declared.records.Entry.{Entry}
 use Rattle.table.proofs.OrderLaws.{length-put}
 use Rattle.table.proofs.OrderSteps.{put-ordered}
 
 -- the mark, byte by byte, with the kind and the flag
-pub head-put : (s : List ℕ) (at : ℕ) (little : Bool) (kind flag a b : ℕ) → a ≡ cond little 0xAD 0xC0 → b ≡ cond (not little) 0xAD 0xC0
+pub head-put : (s : List ℕ) (at : ℕ) (little : Bool) (kind flag a b : ℕ) → a ≡ cond little 0xAD 0xC0
+    → b ≡ cond (not little) 0xAD 0xC0
     → set (set (set (set s at a) (at + 1) b) (at + 2) kind) (at + 3) flag ≡ sets s at (put little 2 mark ++ (kind ∷ flag ∷ []))
 head-put s at true kind flag a b p q = rw (p, q) (simp towards-suc)
 head-put s at false kind flag a b p q = rw (p, q) (simp towards-suc)
 
 -- a number behind what is written
-number-put : (s a b xs : List ℕ) (at k : ℕ) (little : Bool) (n : ℕ) → a ≡ sets s at xs → length xs ≡ k → b ≡ sets a (at + k) (put little 4 n) → b ≡ sets s at (xs ++ put little 4 n)
+number-put : (s a b xs : List ℕ) (at k : ℕ) (little : Bool) (n : ℕ) → a ≡ sets s at xs → length xs ≡ k
+    → b ≡ sets a (at + k) (put little 4 n) → b ≡ sets s at (xs ++ put little 4 n)
 number-put s a b xs at k little n p l q = rw (q, p) (sets-behind xs (put little 4 n) s at (at + k) (ap (λ j. at + j) l))
 
--- the head and the five numbers make up the record
+-- the head and the numbers make up the record
 record-put : (s s0 s1 s2 s3 s4 s5 : List ℕ) (at : ℕ) (little : Bool) (r : Entry)
     → s0 ≡ sets s at (put little 2 mark ++ (r .kind ∷ r .flag ∷ []))
     → s1 ≡ sets s0 (at + 4) (put little 4 (r .a)) → s2 ≡ sets s1 (at + 8) (put little 4 (r .b)) → s3 ≡ sets s2 (at + 12) (put little 4 (r .c))
@@ -45,7 +47,8 @@ record-put s s0 s1 s2 s3 s4 s5 at little r e0 e1 e2 e3 e4 e5 =
     rw w5 (simp (append-assoc, append-nil))
 
 -- the numbers may be put in order first, and then be written lowest first
-pub record-ordered : (s s0 s1 s2 s3 s4 s5 : List ℕ) (at : ℕ) (little : Bool) (r t : Entry) → recordOf t ≡ orderedAs little (recordOf r)
+pub record-ordered : (s s0 s1 s2 s3 s4 s5 : List ℕ) (at : ℕ) (little : Bool) (r t : Entry)
+    → recordOf t ≡ orderedAs little (recordOf r)
     → s0 ≡ sets s at (put little 2 mark ++ (r .kind ∷ r .flag ∷ []))
     → s1 ≡ sets s0 (at + 4) (put true 4 (t .a)) → s2 ≡ sets s1 (at + 8) (put true 4 (t .b)) → s3 ≡ sets s2 (at + 12) (put true 4 (t .c))
     → s4 ≡ sets s3 (at + 16) (put true 4 (t .d)) → s5 ≡ sets s4 (at + 20) (put true 4 (t .e))

@@ -15,8 +15,9 @@ use Rattle.refusals.specs.Limits.{recordLimit, poolLimit}
 use Rattle.refusals.specs.Refusals.{refusal}
 use Rattle.refusals.specs.declared.Refusal.{Refusal}
 use Rattle.refusals.specs.declared.Cause.the-variants.{NotATable, BrokenRecord}
+use Rattle.meaning.specs.Constraints.{RangeSort, integers, dates}
 use Rattle.table.specs.Records.{Record, Image, recordSize, isMarked, field, count, header, imageOf}
-use Rattle.table.specs.Rows.{Use, unnamed, place, length, link, integers, dates, high, rowOf}
+use Rattle.table.specs.Rows.{shapeOf, objectKind, isKnown, Use, unnamed, place, length, link, low, high, rowOf}
 
 -- the kinds of records
 abbrev pub kinds : List Record → List ℕ
@@ -27,14 +28,18 @@ kinds (r ∷ rs) = r .kind ∷ kinds rs
 abbrev pub kindAt : Image → ℕ → ℕ
 kindAt m n = getD (0 ∷ kinds (m .records)) n 0
 
+-- the rule of a closed pair
+unfoldable pub pairRight : RangeSort → ℕ → ℕ → Bool
+pairRight integers x y = ltb x (2 ^ 32) && ltb y (2 ^ 32) && leb (twosComplement x) (twosComplement y)
+pairRight dates x y = real x && real y && leb x y
+
 -- the rule of a field x, before the field next, of the record with number n
 unfoldable pub fieldRight : Image → ℕ → Use → ℕ → ℕ → Bool
 fieldRight m n unnamed x next = true
 fieldRight m n (place least most) x next = within least most next && cond (eqb next 0) (eqb x 0) (leb (x + next) (ListN.length (m .pool)))
 fieldRight m n length x next = true
 fieldRight m n (link ks) x next = eqb x 0 || ltb n x && ltb x (count m) && among (kindAt m x) ks
-fieldRight m n integers x next = ltb x (2 ^ 32) && ltb next (2 ^ 32) && leb (twosComplement x) (twosComplement next)
-fieldRight m n dates x next = real x && real next && leb x next
+fieldRight m n (low sort) x next = pairRight sort x next
 fieldRight m n high x next = true
 
 abbrev pub fieldsRight : Image → ℕ → List Use → List ℕ → Bool
@@ -48,8 +53,7 @@ isNought unnamed x = eqb x 0
 isNought (place least most) x = true
 isNought length x = true
 isNought (link ks) x = true
-isNought integers x = true
-isNought dates x = true
+isNought (low sort) x = true
 isNought high x = true
 
 abbrev pub restNought : List Use → List ℕ → Bool
@@ -57,12 +61,20 @@ restNought [] xs = true
 restNought (u ∷ us) [] = true
 restNought (u ∷ us) (x ∷ xs) = isNought u x && restNought us xs
 
--- the rules of a record: its kind, its flag and its named fields; and that its other fields are 0
+-- what a record's fields are
+abbrev pub usesOf : Record → List Use
+usesOf r = rowOf (r .kind) .uses (r .fields)
+
+-- the rules of a record's kind and flag
+abbrev pub flagRight : ℕ → ℕ → Bool
+flagRight kind flag = isKnown (shapeOf kind) && within (rowOf kind .least) (rowOf kind .most) flag
+
+-- the rules of a record: its kind, its flag, each named field and all of them; and that its other fields are 0
 unfoldable pub obeys : Image → ℕ → Record → Bool
-obeys m n r = within 1 8 (r .kind) && within (rowOf (r .kind) .least) (rowOf (r .kind) .most) (r .flag) && fieldsRight m n (rowOf (r .kind) .uses) (r .fields)
+obeys m n r = flagRight (r .kind) (r .flag) && fieldsRight m n (usesOf r) (r .fields) && rowOf (r .kind) .across m n (r .fields)
 
 unfoldable pub clean : Record → Bool
-clean r = restNought (rowOf (r .kind) .uses) (r .fields)
+clean r = restNought (usesOf r) (r .fields)
 
 -- a record's bytes, its number and what they decode to: the mark, the rules, the other fields
 abbrev pub recordRight : Image → ℕ → List ℕ → Record → Bool
@@ -75,17 +87,22 @@ broken m n (r ∷ rs) bs =
     let more = broken m (suc n) rs (drop recordSize bs) in
     cond (recordRight m n (take recordSize bs) r) more (some n)
 
+-- numbers that are all 0
+abbrev pub allNought : List ℕ → Bool
+allNought [] = true
+allNought (x ∷ xs) = eqb x 0 && allNought xs
+
 -- the length, the header and the root
 unfoldable pub framed : List ℕ → Bool
 framed bs =
     let h = header bs in
     leb recordSize (ListN.length bs)
     && isMarked bs
-    && (eqb (h .kind) 0 && eqb (h .flag) 0 && eqb (field h 3) 0 && eqb (field h 4) 0)
+    && (eqb (h .kind) 0 && eqb (h .flag) 0 && allNought (drop 3 (h .fields)))
     && within 2 recordLimit (field h 0)
     && leb (field h 1) poolLimit
     && eqb (ListN.length bs) (recordSize * field h 0 + field h 1)
-    && eqb (kindAt (imageOf bs) (field h 2)) 1
+    && eqb (kindAt (imageOf bs) (field h 2)) objectKind
 
 abbrev pub brokenRecord : Option ℕ → Option Refusal
 brokenRecord none = none

@@ -4,4 +4,4 @@ pub mod Rows
 pub mod Check
 pub mod Names
 pub mod Trees
-pub mod Answers
+pub mod contracts

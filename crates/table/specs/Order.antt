@@ -9,9 +9,9 @@ abbrev pub lowestFirst : ℕ → ℕ → List ℕ
 lowestFirst zero n = []
 lowestFirst (suc width) n = n % 256 ∷ lowestFirst width (n / 256)
 
-abbrev pub valueOf : List ℕ → ℕ
-valueOf [] = 0
-valueOf (x ∷ xs) = x + 256 * valueOf xs
+abbrev pub bytesValue : List ℕ → ℕ
+bytesValue [] = 0
+bytesValue (x ∷ xs) = x + 256 * bytesValue xs
 
 -- the order is the one parameter: whether the lowest byte comes first
 abbrev pub inOrder : Bool → List ℕ → List ℕ
@@ -22,4 +22,4 @@ abbrev pub put : Bool → ℕ → ℕ → List ℕ
 put little width n = inOrder little (lowestFirst width n)
 
 abbrev pub get : Bool → List ℕ → ℕ
-get little xs = valueOf (inOrder little xs)
+get little xs = bytesValue (inOrder little xs)

@@ -2,20 +2,21 @@
 -- two-byte mark .., kind, flag, five 32-bit numbers a b c d e"; header: "a count, b pool bytes, c root". Assumes nothing.
 use mathlib.Core.Bool.{Bool, true, false, _||_}
 use mathlib.Core.List.{List, [], _∷_, _++_}
-use Prim.Native.Nat.{ℕ, zero, suc, _*_, _-_}
+use Prim.Native.Nat.{ℕ, zero, suc, _+_, _*_, _-_}
 use lib.Dec.{eqb}
 use lib.ListN.{length, getD, take, drop}
 use Rattle.table.specs.Order.{put, get}
 
--- bytes of a record, bytes of a number, numbers of a record
-abbrev pub recordSize : ℕ
-recordSize = 24
-
+-- bytes of a number, and numbers of a record
 abbrev pub numberSize : ℕ
 numberSize = 4
 
 abbrev pub fieldCount : ℕ
 fieldCount = 5
+
+-- bytes of a record: its mark, kind and flag, and its numbers
+abbrev pub recordSize : ℕ
+recordSize = 4 + numberSize * fieldCount
 
 -- the mark, as a number of two bytes in the record's own order
 abbrev pub mark : ℕ
@@ -50,6 +51,16 @@ putAll little (x ∷ xs) = put little numberSize x ++ putAll little xs
 unfoldable pub encode : Bool → Record → List ℕ
 encode little r = put little 2 mark ++ (r .kind ∷ r .flag ∷ putAll little (r .fields))
 
+-- a list filled up to so many
+abbrev pub padded : {A : Type 0} → A → ℕ → List A → List A
+padded z zero xs = []
+padded z (suc n) [] = z ∷ padded z n []
+padded z (suc n) (x ∷ xs) = x ∷ padded z n xs
+
+-- a record of these fields, the others 0
+abbrev pub make : ℕ → ℕ → List ℕ → Record
+make kind flag xs = record { kind = kind; flag = flag; fields = padded 0 fieldCount xs }
+
 -- a field by its place: 0 is a, 4 is e
 abbrev pub field : Record → ℕ → ℕ
 field r i = getD (r .fields) i 0
@@ -65,7 +76,7 @@ abbrev pub count : Image → ℕ
 count m = suc (length (m .records))
 
 abbrev pub headerOf : Image → Record
-headerOf m = record { kind = 0; flag = 0; fields = count m ∷ length (m .pool) ∷ m .root ∷ 0 ∷ 0 ∷ [] }
+headerOf m = make 0 0 (count m ∷ length (m .pool) ∷ m .root ∷ [])
 
 -- so many records, one after the other
 abbrev pub decodes : ℕ → List ℕ → List Record
@@ -75,6 +86,10 @@ decodes (suc n) bs = decode (take recordSize bs) ∷ decodes n (drop recordSize 
 abbrev pub encodes : Bool → List Record → List ℕ
 encodes little [] = []
 encodes little (r ∷ rs) = encode little r ++ encodes little rs
+
+-- the record with a number, of bytes that hold records, the header's first
+abbrev pub recordIn : List ℕ → ℕ → Record
+recordIn bs n = decode (take recordSize (drop (recordSize * n) bs))
 
 -- the table that bytes hold, and a table's bytes
 abbrev pub header : List ℕ → Record

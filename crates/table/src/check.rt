@@ -1,4 +1,7 @@
 // The check of a table: its length, its header and its root, and then each record.
+use crate::layout::HEADER_KIND;
+use crate::layout::OBJECT_KIND;
+use crate::layout::RECORD_SIZE;
 use crate::records::Entry;
 use crate::records::Frame;
 use crate::records::POOL_MOST;
@@ -16,7 +19,7 @@ ghost use Prim.Native.Nat.{_*_, _<_};
 ghost use lib.ListN.{length, take, drop};
 ghost use Rattle.table.specs.Records.{recordSize, decode, imageOf};
 ghost use Rattle.table.specs.Check.{recordRight, broken, brokenRecord, framed, tableFault};
-ghost use Rattle.table.specs.Answers.{Opened, plainHeader, countsRight, faultOf};
+ghost use Rattle.table.specs.contracts.Answers.{Opened, plainHeader, countsRight, faultOf};
 
 // What the check answers.
 pub enum CheckAnswer {
@@ -28,7 +31,7 @@ pub enum CheckAnswer {
 fn plain_header(h: Entry) -> bool
     ensures { λ r. ⌜ r ≡ plainHeader h ⌝ }
 {
-    h.kind == 0 && (h.flag == 0 && (h.d == 0 && h.e == 0))
+    h.kind == HEADER_KIND && (h.flag == 0 && (h.d == 0 && h.e == 0))
 }
 
 // The header's counts are within their limits, and make up a table of so many bytes.
@@ -37,14 +40,14 @@ fn counts_right(h: Entry, length: usize) -> bool
 {
     2 <= h.a
         && (h.a <= RECORD_MOST
-            && (h.b <= POOL_MOST && length == 24 * (h.a as usize) + (h.b as usize)))
+            && (h.b <= POOL_MOST && length == RECORD_SIZE * (h.a as usize) + (h.b as usize)))
 }
 
 // The table's length, header and root are right.
 fn is_framed(table: &[u8]) -> bool
     ensures { λ r. ⌜ r ≡ framed (now (table .entry)) ⌝ }
 {
-    if table.len() < 24 {
+    if table.len() < RECORD_SIZE {
         return false;
     }
     if !is_marked(table, 0) {
@@ -61,14 +64,17 @@ fn is_framed(table: &[u8]) -> bool
         count: h.a,
         pool: h.b,
     };
-    kind_at(table, frame, RecordNumber(h.c)) == 1
+    kind_at(table, frame, RecordNumber(h.c)) == OBJECT_KIND
 }
 
 // The record with a number bears a mark and keeps the rules.
 fn record_right(table: &[u8], frame: Frame, n: RecordNumber) -> bool
     requires { ⌜ Opened (now table) frame ⌝ }
     requires { ⌜ n .0 < frame .count ⌝ }
-    ensures { λ r. ⌜ r ≡ recordRight (imageOf (now (table .entry))) (n .0) (take recordSize (drop (recordSize * n .0) (now (table .entry)))) (decode (take recordSize (drop (recordSize * n .0) (now (table .entry))))) ⌝ }
+    ensures { λ r. ⌜ r
+        ≡ recordRight (imageOf (now (table .entry))) (n .0)
+        (take recordSize (drop (recordSize * n .0) (now (table .entry))))
+        (decode (take recordSize (drop (recordSize * n .0) (now (table .entry))))) ⌝ }
 {
     let at = n.start();
     is_marked(table, at) && rules_kept(table, frame, n, read(table, at))
@@ -77,7 +83,9 @@ fn record_right(table: &[u8], frame: Frame, n: RecordNumber) -> bool
 // The lowest record at fault, if there is one.
 fn check_records(table: &[u8], frame: Frame) -> CheckAnswer
     requires { ⌜ Opened (now table) frame ⌝ }
-    ensures { λ r. ⌜ faultOf r ≡ brokenRecord (broken (imageOf (now (table .entry))) 1 (imageOf (now (table .entry)) .records) (drop recordSize (now (table .entry)))) ⌝ }
+    ensures { λ r. ⌜ faultOf r
+        ≡ brokenRecord
+        (broken (imageOf (now (table .entry))) 1 (imageOf (now (table .entry)) .records) (drop recordSize (now (table .entry)))) ⌝ }
 {
     let count = frame.count;
     let mut n: u32 = 1;

@@ -14,10 +14,11 @@ ghost use mathlib.Core.Option.{none};
 ghost use mathlib.Core.List.{[], _∷_};
 ghost use Prim.Native.Nat.{_<_, _≤_};
 ghost use Rattle.lexis.specs.Bytes.{among};
+ghost use Rattle.refusals.specs.Outcomes.{gave};
 ghost use Rattle.table.specs.Records.{imageOf};
 ghost use Rattle.table.specs.Check.{tableFault};
-ghost use Rattle.table.specs.Names.{nameIn, nameAnswer, partOf};
-ghost use Rattle.table.specs.Answers.{Opened, answerOf, partAt};
+ghost use Rattle.table.specs.Names.{nameSlice, nameOutcome, nameAnswer, sliceBytes};
+ghost use Rattle.table.specs.contracts.Answers.{Opened, answerOf};
 
 // What a request for a name answers: the part of the table that is the name, or why there is none.
 pub enum NameResult {
@@ -42,7 +43,7 @@ fn has_name(kind: u8) -> bool
 fn name_part(table: &[u8], frame: Frame, n: RecordNumber) -> NameResult
     requires { ⌜ Opened (now table) frame ⌝ }
     requires { ⌜ (1 ≤ n .0) × (n .0 < frame .count) ⌝ }
-    ensures { λ r. ⌜ answerOf r ≡ partAt (imageOf (now (table .entry))) (n .0) ⌝ }
+    ensures { λ r. ⌜ answerOf r ≡ gave (nameSlice (imageOf (now (table .entry))) (n .0)) ⌝ }
 {
     let e = read(table, n.start());
     NameResult::Named {
@@ -54,7 +55,7 @@ fn name_part(table: &[u8], frame: Frame, n: RecordNumber) -> NameResult
 // The name of a record, in a table that passes the check.
 fn name_in(table: &[u8], n: RecordNumber) -> NameResult
     requires { ⌜ tableFault (now table) ≡ none ⌝ }
-    ensures { λ r. ⌜ answerOf r ≡ nameIn (imageOf (now (table .entry))) (n .0) ⌝ }
+    ensures { λ r. ⌜ answerOf r ≡ nameOutcome (imageOf (now (table .entry))) (n .0) ⌝ }
 {
     let frame = frame_of(table);
     if !has_name(kind_at(table, frame, n)) {
@@ -78,7 +79,7 @@ pub fn name_refusal(table: &[u8], record: u32) -> NameResult
 
 // The name of a record, which is the part of the table itself; with a refusal, an empty part.
 pub fn name<'a>(table: &'a [u8], record: u32) -> &'a [u8]
-    ensures { λ r. ⌜ now r ≡ partOf (now (table .entry)) (nameAnswer (now (table .entry)) «record») ⌝ }
+    ensures { λ r. ⌜ now r ≡ sliceBytes (now (table .entry)) (nameAnswer (now (table .entry)) «record») ⌝ }
 {
     match name_refusal(table, record) {
         NameResult::Named { start, length } => {

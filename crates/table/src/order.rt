@@ -5,7 +5,7 @@ ghost use mathlib.Core.List.{[], _∷_};
 ghost use Prim.Native.Nat.{_+_, _%_, _≤_};
 ghost use lib.ListN.{length, take, drop};
 ghost use lib.Seq.{sets};
-ghost use Rattle.table.specs.Order.{valueOf, get, put};
+ghost use Rattle.table.specs.Order.{bytesValue, get, put};
 
 // A byte, as a number.
 fn wide(byte: u8) -> u32
@@ -23,14 +23,14 @@ fn lowest(n: u32) -> u8
 
 // The number of two bytes, the lowest first.
 fn joined2(a: u8, b: u8) -> u32
-    ensures { λ r. ⌜ r ≡ valueOf (a ∷ b ∷ []) ⌝ }
+    ensures { λ r. ⌜ r ≡ bytesValue (a ∷ b ∷ []) ⌝ }
 {
     wide(a) + 256 * wide(b)
 }
 
 // The number of four bytes, the lowest first.
 fn joined4(a: u8, b: u8, c: u8, d: u8) -> u32
-    ensures { λ r. ⌜ r ≡ valueOf (a ∷ b ∷ c ∷ d ∷ []) ⌝ }
+    ensures { λ r. ⌜ r ≡ bytesValue (a ∷ b ∷ c ∷ d ∷ []) ⌝ }
 {
     joined2(a, b) + 65536 * joined2(c, d)
 }

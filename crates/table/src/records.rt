@@ -1,4 +1,13 @@
 // Records, their numbers, and places in the pool.
+use crate::layout::A_AT;
+use crate::layout::B_AT;
+use crate::layout::C_AT;
+use crate::layout::D_AT;
+use crate::layout::E_AT;
+use crate::layout::FLAG_AT;
+use crate::layout::KIND_AT;
+use crate::layout::MARK;
+use crate::layout::RECORD_SIZE;
 use crate::order::get16;
 use crate::order::get32;
 use crate::order::swapped;
@@ -9,7 +18,7 @@ ghost use Prim.Native.Nat.{_+_, _*_, _<_, _≤_, _^_};
 ghost use lib.ListN.{length, take, drop};
 ghost use Rattle.table.specs.Records.{recordSize, isLittle, isMarked, decode, field, header, imageOf};
 ghost use Rattle.table.specs.Check.{kindAt};
-ghost use Rattle.table.specs.Answers.{recordOf, orderedAs, Opened};
+ghost use Rattle.table.specs.contracts.Answers.{plainEntry, recordOf, orderedAs, Opened};
 
 // The most records of a table and the most bytes of its pool, as the header holds them.
 pub const RECORD_MOST: u32 = RECORD_LIMIT as u32;
@@ -41,7 +50,7 @@ impl RecordNumber {
     pub fn start(self) -> usize
         ensures { λ r. ⌜ r ≡ recordSize * self .0 ⌝ }
     {
-        24 * (self.0 as usize)
+        RECORD_SIZE * (self.0 as usize)
     }
 }
 
@@ -58,12 +67,9 @@ impl PoolPlace {
     pub fn start(self, count: u32) -> usize
         ensures { λ r. ⌜ r ≡ recordSize * count + self .0 ⌝ }
     {
-        24 * (count as usize) + (self.0 as usize)
+        RECORD_SIZE * (count as usize) + (self.0 as usize)
     }
 }
-
-// The mark, as a number of 16 bits in the record's own order.
-const MARK: u32 = 0xC0AD;
 
 // The record at a place has its lowest bytes first.
 pub fn is_little(s: &[u8], at: usize) -> bool
@@ -92,7 +98,22 @@ pub struct Entry {
     pub e: u32,
 }
 
-// A record with the bytes of each number, the lowest first, taken in the order told. The order is tested once for all five.
+// A record of a kind and a flag whose numbers are 0.
+pub fn plain(kind: u8, flag: u8) -> Entry
+    ensures { λ r. ⌜ r ≡ plainEntry kind flag ⌝ }
+{
+    Entry {
+        kind,
+        flag,
+        a: 0,
+        b: 0,
+        c: 0,
+        d: 0,
+        e: 0,
+    }
+}
+
+// A record with the bytes of each number, the lowest first, taken in the order told. The order is tested once for all of them.
 pub fn ordered(r: Entry, little: bool) -> Entry
     ensures { λ t. ⌜ recordOf t ≡ orderedAs little (recordOf r) ⌝ }
 {
@@ -117,13 +138,13 @@ pub fn read(s: &[u8], at: usize) -> Entry
 {
     let little = is_little(s, at);
     let r = Entry {
-        kind: s[at + 2],
-        flag: s[at + 3],
-        a: get32(s, at + 4, true),
-        b: get32(s, at + 8, true),
-        c: get32(s, at + 12, true),
-        d: get32(s, at + 16, true),
-        e: get32(s, at + 20, true),
+        kind: s[at + KIND_AT],
+        flag: s[at + FLAG_AT],
+        a: get32(s, at + A_AT, true),
+        b: get32(s, at + B_AT, true),
+        c: get32(s, at + C_AT, true),
+        d: get32(s, at + D_AT, true),
+        e: get32(s, at + E_AT, true),
     };
     ordered(r, little)
 }
@@ -137,7 +158,8 @@ pub struct Frame {
 // The counts in a table's header.
 pub fn frame_of(table: &[u8]) -> Frame
     requires { ⌜ recordSize ≤ length (now table) ⌝ }
-    ensures { λ r. ⌜ (r .count ≡ field (header (now (table .entry))) 0) × (r .pool ≡ field (header (now (table .entry))) 1) ⌝ }
+    ensures { λ r. ⌜ (r .count ≡ field (header (now (table .entry))) 0)
+        × (r .pool ≡ field (header (now (table .entry))) 1) ⌝ }
 {
     let h = read(table, 0);
     Frame {
@@ -157,6 +179,6 @@ pub fn kind_at(table: &[u8], frame: Frame, n: RecordNumber) -> u8
     if frame.count <= n.0 {
         return 0;
     }
-    let at = n.start() + 2;
+    let at = n.start() + KIND_AT;
     table[at]
 }

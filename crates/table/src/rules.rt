@@ -1,4 +1,5 @@
 // The rules of a record's flag and fields.
+use crate::layout::ATTRIBUTE_KIND;
 use crate::records::Entry;
 use crate::records::Frame;
 use crate::records::PoolPlace;
@@ -12,16 +13,17 @@ ghost use mathlib.Core.Path.{_≡_};
 ghost use mathlib.Core.Bool.{_&&_};
 ghost use mathlib.Core.List.{[], _∷_};
 ghost use lib.Dec.{ltb};
-ghost use Rattle.lexis.specs.Bytes.{within, among};
+ghost use Rattle.lexis.specs.Bytes.{among};
 ghost use Rattle.values.specs.Integers.{twosComplement};
 ghost use Rattle.table.specs.Records.{imageOf};
-ghost use Rattle.table.specs.Rows.{place, link, integers, dates, items, nothing, rowOf};
-ghost use Rattle.table.specs.Check.{fieldRight, restNought, obeys, clean};
-ghost use Rattle.table.specs.Answers.{recordOf, Opened, PlaceIs, PairIs, fieldsKept, nextRight};
+ghost use Rattle.table.specs.Rows.{objectKind, link, items, noneNamed};
+ghost use Rattle.meaning.specs.Constraints.{integers, dates};
+ghost use Rattle.table.specs.Check.{pairRight, fieldRight, restNought, flagRight, obeys, clean};
+ghost use Rattle.table.specs.contracts.Answers.{recordOf, Opened, RecordPlaceIs, fieldsKept, nextRight};
 
 // The kind is a record's, and the flag one of the kind's.
 fn flag_right(kind: u8, flag: u8) -> bool
-    ensures { λ r. ⌜ r ≡ (within 1 8 kind && within (rowOf kind .least) (rowOf kind .most) flag) ⌝ }
+    ensures { λ r. ⌜ r ≡ flagRight kind flag ⌝ }
 {
     match kind {
         0 => false,
@@ -54,7 +56,7 @@ fn flag_right(kind: u8, flag: u8) -> bool
 
 // A place and a length in a pool of so many bytes: the length is within its limits, and length 0 has place 0.
 fn place_right(pool: u32, place: PoolPlace, length: u32, least: u32, most: u32) -> bool
-    ensures { λ r. ⌜ PlaceIs pool least most (place .0) length r ⌝ }
+    ensures { λ r. ⌜ RecordPlaceIs pool least most (place .0) length r ⌝ }
 {
     if length < least {
         return false;
@@ -77,14 +79,14 @@ fn distance(x: u32) -> u64
 
 // The low end of a pair of integers is at most the high one.
 fn integers_right(low: u32, high: u32) -> bool
-    ensures { λ r. ⌜ PairIs integers low high r ⌝ }
+    ensures { λ r. ⌜ r ≡ pairRight integers low high ⌝ }
 {
     distance(low) <= distance(high)
 }
 
 // Both ends of a pair of dates are days, and the low one is not the later.
 fn dates_right(low: u32, high: u32) -> bool
-    ensures { λ r. ⌜ PairIs dates low high r ⌝ }
+    ensures { λ r. ⌜ r ≡ pairRight dates low high ⌝ }
 {
     real(low) && (real(high) && low <= high)
 }
@@ -106,7 +108,7 @@ fn link_right(table: &[u8], frame: Frame, n: RecordNumber, to: RecordNumber, kin
 
 // The kind is an object's or a leaf's first item's.
 fn is_value(kind: u8) -> bool
-    ensures { λ r. ⌜ r ≡ among kind (1 ∷ items) ⌝ }
+    ensures { λ r. ⌜ r ≡ among kind (objectKind ∷ items) ⌝ }
 {
     match kind {
         0 => false,
@@ -120,7 +122,7 @@ fn is_value(kind: u8) -> bool
 // A link is 0, or leads up to an object or an item.
 fn value_link_right(table: &[u8], frame: Frame, n: RecordNumber, to: RecordNumber) -> bool
     requires { ⌜ Opened (now table) frame ⌝ }
-    ensures { λ r. ⌜ r ≡ fieldRight (imageOf (now (table .entry))) (n .0) (link (1 ∷ items)) (to .0) 0 ⌝ }
+    ensures { λ r. ⌜ r ≡ fieldRight (imageOf (now (table .entry))) (n .0) (link (objectKind ∷ items)) (to .0) 0 ⌝ }
 {
     to.0 == 0 || (leads_up(frame, n, to) && is_value(kind_at(table, frame, to)))
 }
@@ -140,7 +142,7 @@ fn object_right(table: &[u8], frame: Frame, n: RecordNumber, e: Entry) -> bool
 {
     place_right(frame.pool, PoolPlace(e.a), e.b, 1, NAME_MOST)
         && (place_right(frame.pool, PoolPlace(e.c), e.d, 0, CODE_MOST)
-            && link_right(table, frame, n, RecordNumber(e.e), 2))
+            && link_right(table, frame, n, RecordNumber(e.e), ATTRIBUTE_KIND))
 }
 
 // An attribute: its name, its object or first item, and the next attribute.
@@ -151,7 +153,7 @@ fn attribute_right(table: &[u8], frame: Frame, n: RecordNumber, e: Entry) -> boo
 {
     place_right(frame.pool, PoolPlace(e.a), e.b, 1, NAME_MOST)
         && (value_link_right(table, frame, n, RecordNumber(e.c))
-            && (link_right(table, frame, n, RecordNumber(e.d), 2) && e.e == 0))
+            && (link_right(table, frame, n, RecordNumber(e.d), ATTRIBUTE_KIND) && e.e == 0))
 }
 
 // What follows an item's value: the next item, of the same kind, and nothing else.
@@ -191,7 +193,7 @@ fn interval_right(table: &[u8], frame: Frame, n: RecordNumber, e: Entry) -> bool
 
 // No field is named, so each is 0.
 fn unused(e: Entry) -> bool
-    ensures { λ r. ⌜ r ≡ restNought nothing (recordOf e .fields) ⌝ }
+    ensures { λ r. ⌜ r ≡ restNought noneNamed (recordOf e .fields) ⌝ }
 {
     e.a == 0 && (e.b == 0 && (e.c == 0 && (e.d == 0 && e.e == 0)))
 }

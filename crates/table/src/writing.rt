@@ -1,4 +1,11 @@
 // A record, written in either order.
+use crate::layout::A_AT;
+use crate::layout::B_AT;
+use crate::layout::C_AT;
+use crate::layout::D_AT;
+use crate::layout::E_AT;
+use crate::layout::FLAG_AT;
+use crate::layout::KIND_AT;
 use crate::order::put32;
 use crate::records::Entry;
 use crate::records::ordered;
@@ -10,7 +17,7 @@ ghost use lib.ListN.{length};
 ghost use lib.Seq.{sets};
 ghost use Rattle.table.specs.Order.{put};
 ghost use Rattle.table.specs.Records.{recordSize, mark, encode};
-ghost use Rattle.table.specs.Answers.{recordOf};
+ghost use Rattle.table.specs.contracts.Answers.{recordOf};
 
 // A byte of the mark, the lowest or the highest.
 fn mark_byte(lowest: bool) -> u8
@@ -26,8 +33,8 @@ fn put_head(out: &mut [u8], at: usize, little: bool, kind: u8, flag: u8)
 {
     out[at] = mark_byte(little);
     out[at + 1] = mark_byte(!little);
-    out[at + 2] = kind;
-    out[at + 3] = flag;
+    out[at + KIND_AT] = kind;
+    out[at + FLAG_AT] = flag;
 }
 
 // A record, written at a place.
@@ -37,9 +44,9 @@ pub fn put_record(out: &mut [u8], at: usize, little: bool, r: Entry)
 {
     let t = ordered(r, little);
     put_head(out, at, little, r.kind, r.flag);
-    put32(out, at + 4, true, t.a);
-    put32(out, at + 8, true, t.b);
-    put32(out, at + 12, true, t.c);
-    put32(out, at + 16, true, t.d);
-    put32(out, at + 20, true, t.e);
+    put32(out, at + A_AT, true, t.a);
+    put32(out, at + B_AT, true, t.b);
+    put32(out, at + C_AT, true, t.c);
+    put32(out, at + D_AT, true, t.d);
+    put32(out, at + E_AT, true, t.e);
 }

@@ -84,7 +84,8 @@ pub record Follows (p q : ℕ) : Type 0 where
   pub nearest : (r : ℕ) → real r ≡ true → p < r → q ≤ r
 
 -- the next after a day within its month, after a month's last, after a year's last
-day-step : (y m d : ℕ) → y ≤ 9999 → 1 ≤ m → m ≤ 12 → 1 ≤ d → d < monthDays y m → Follows (packed y m d) (packed y m (d + 1))
+day-step : (y m d : ℕ) → y ≤ 9999 → 1 ≤ m → m ≤ 12 → 1 ≤ d → d < monthDays y m
+    → Follows (packed y m d) (packed y m (d + 1))
 day-step y m d hy l h k i = record {
   real-here = real-packed y m d hy l h k (omega arith);
   real-next = real-packed y m (d + 1) hy l h (omega arith) (omega arith);

@@ -62,7 +62,8 @@ module _ (p : ℕ) where
   unfolding real
   real-zero l h = rw (le-leb p 99_991_231 l, lt-leb 1 (p % 100) h)
 
-  pub real-month : (n : ℕ) → n ≡ monthDays (p / 10_000) (p / 100 % 100) → p ≤ 99_991_231 → 1 ≤ p % 100 → leb (p % 100) n ≡ real p
+  pub real-month : (n : ℕ) → n ≡ monthDays (p / 10_000) (p / 100 % 100) → p ≤ 99_991_231 → 1 ≤ p % 100
+      → leb (p % 100) n ≡ real p
   unfolding real
   real-month n e l h = rw (le-leb p 99_991_231 l, le-leb 1 (p % 100) h, e)
 

@@ -63,7 +63,8 @@ unfolding spellDate shaped
 date-shaped p = simp last-digit
 
 -- four digits and two digits hold their number
-four-value : (n : ℕ) → n < 10_000 → valueOf 0 (lastDigit (n / 1000) ∷ lastDigit (n / 100) ∷ lastDigit (n / 10) ∷ lastDigit n ∷ []) ≡ n
+four-value : (n : ℕ) → n < 10_000
+    → valueOf 0 (lastDigit (n / 1000) ∷ lastDigit (n / 100) ∷ lastDigit (n / 10) ∷ lastDigit n ∷ []) ≡ n
 unfolding valueOf
 four-value n h =
     let a : n / 10 / 10 ≡ n / 100 = omega arith in
@@ -75,7 +76,8 @@ two-value : (n : ℕ) → n < 100 → valueOf 0 (lastDigit (n / 10) ∷ lastDigi
 unfolding valueOf
 two-value n h = omega arith
 
-date-value : (p : ℕ) → p < 100_000_000 → packed (digitsAt 0 4 (spellDate p)) (digitsAt 5 2 (spellDate p)) (digitsAt 8 2 (spellDate p)) ≡ p
+date-value : (p : ℕ) → p < 100_000_000
+    → packed (digitsAt 0 4 (spellDate p)) (digitsAt 5 2 (spellDate p)) (digitsAt 8 2 (spellDate p)) ≡ p
 unfolding spellDate
 date-value p h = rw (four-value (yearOf p) (omega arith), two-value (monthOf p) (omega arith), two-value (dayOf p) (omega arith)) (omega arith)
 

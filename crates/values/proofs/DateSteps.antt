@@ -9,7 +9,7 @@ use lib.ListN.{length}
 use Rattle.lexis.specs.Text.{bytes}
 use Rattle.values.specs.Calendar.{packed, real}
 use Rattle.values.specs.Dates.{Date, exactly, realDate, dateOf}
-use Rattle.values.specs.Answers.{DigitsAre, yearDate, monthDate, dayDate}
+use Rattle.values.specs.contracts.Answers.{DigitsAre, yearDate, monthDate, dayDate}
 use Rattle.values.proofs.ShapeSteps.{exactly-long}
 
 -- a day that the calendar has
@@ -21,7 +21,8 @@ module _ (parts day : ℕ) (r : Bool) (h : r ≡ real day) where
   real-not q = rw (← h, q)
 
 -- bytes of a shape reach as far as it
-pub exactly-reaches : (shape w : List ℕ) (r : Bool) (n : ℕ) → r ≡ exactly shape w → r ≡ true → n ≤ length shape → n ≤ length w
+pub exactly-reaches : (shape w : List ℕ) (r : Bool) (n : ℕ) → r ≡ exactly shape w → r ≡ true → n ≤ length shape
+    → n ≤ length w
 exactly-reaches shape w r n h q l = let e = exactly-long shape w r h q in omega arith
 
 -- a date's parts, packed

@@ -35,7 +35,8 @@ pub complement-fits : (x : ℕ) → twosComplement x < 2 ^ 32
 complement-fits x = omega arith
 
 -- a value not below 0 stands for itself, and one below 0 for 2 ^ 32 less its distance from 0
-pub complement-value : (x : ℕ) → x ≤ greatest → (nought ≤ x → twosComplement x ≡ x - nought) × (x < nought → twosComplement x ≡ 2 ^ 32 - (nought - x))
+pub complement-value : (x : ℕ) → x ≤ greatest
+    → (nought ≤ x → twosComplement x ≡ x - nought) × (x < nought → twosComplement x ≡ 2 ^ 32 - (nought - x))
 complement-value x h = omega arith
 
 -- two's complement undoes itself

@@ -14,10 +14,10 @@ use mir.Val.{Fits}
 use Rattle.lexis.specs.Text.{byte}
 use Rattle.lexis.specs.Bytes.{within, among, blanks, marks, sortOf, is, blank, digit, small, capital, mark, other}
 use Rattle.lexis.specs.Runs.{past, all}
-use Rattle.lexis.specs.Postconditions.{PlaceIs}
+use Rattle.lexis.specs.contracts.Answers.{PlaceIs}
 use Rattle.lexis.proofs.Cases.{either, and-left, and-right}
 use Rattle.values.specs.Integers.{valueOf, nought, greatest, plain, negative, notNegative, integerOf, pair, magnitude, inside, around}
-use Rattle.values.specs.Answers.{DigitIs, integerAnswer, digitsFrom, plainNumber, shortInteger}
+use Rattle.values.specs.contracts.Answers.{DigitIs, integerAnswer, digitsFrom, plainNumber, shortInteger}
 use Rattle.values.specs.Words.{reads}
 use Rattle.values.specs.declared.integers.Number.{Number}
 use Rattle.values.specs.declared.integers.Number.the-variants.{Value, Nothing}
@@ -61,7 +61,8 @@ module _ (n i : ℕ) (ds : List ℕ) (x : Option ℕ) (now : digitsFrom n (drop 
 
 -- plain digits
 module _ (ds : List ℕ) where
-  plain-digits : 1 ≤ length ds → cond (eqb (getD ds 0 0) (byte "0")) (eqb (length ds) 1) true ≡ true → digitsFrom 0 ds ≡ plainNumber ds
+  plain-digits : 1 ≤ length ds → cond (eqb (getD ds 0 0) (byte "0")) (eqb (length ds) 1) true ≡ true
+      → digitsFrom 0 ds ≡ plainNumber ds
   unfolding digitsFrom plainNumber
   plain-digits h q = rw (le-leb 1 (length ds) h, q) (simp and-true)
 
@@ -148,7 +149,8 @@ integer-empty [] h = refl
 integer-empty (b ∷ bs) h = absurd (omega arith)
 
 module _ (w : List ℕ) (a : Option ℕ) where
-  pub integer-minus : (length w ≡ 0 → ⊥) → getD w 0 0 ≡ byte "-" → a ≡ negative (take (length w - 1) (drop 1 w)) → a ≡ integerOf w
+  pub integer-minus : (length w ≡ 0 → ⊥) → getD w 0 0 ≡ byte "-" → a ≡ negative (take (length w - 1) (drop 1 w))
+      → a ≡ integerOf w
   unfolding integerOf
   integer-minus n q e =
       let l = length-drop 1 w in
@@ -164,7 +166,8 @@ unfolding past all
 all-past f at [] = eq-eqb at (at + 0) (omega arith)
 all-past f at (b ∷ bs) = by-byte (all-past f (at + 1) bs) (f b) refl
   where
-    by-byte : eqb (past f (at + 1) bs) (at + 1 + length bs) ≡ all f bs → (k : Bool) → f b ≡ k → eqb (past f at (b ∷ bs)) (at + length (b ∷ bs)) ≡ all f (b ∷ bs)
+    by-byte : eqb (past f (at + 1) bs) (at + 1 + length bs) ≡ all f bs → (k : Bool) → f b ≡ k
+        → eqb (past f at (b ∷ bs)) (at + length (b ∷ bs)) ≡ all f (b ∷ bs)
     by-byte ih true e = let n : at + length (b ∷ bs) ≡ at + 1 + length bs = omega arith in rw (e, n) ih
     by-byte ih false e = rw e (ne-eqb at (at + length (b ∷ bs)) (λ z. omega arith))
 

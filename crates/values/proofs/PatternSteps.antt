@@ -32,7 +32,8 @@ same-truth false true h = h
 same-truth false false h = refl
 
 -- a test that agrees with a pattern up to three parts, and refuses more, is the pattern's
-agrees : (test : ℕ → Bool) (ps : List Part) → allBelow 4 (λ i. Bool·beq (test i) (fits ps i)) ≡ true → ((n : ℕ) → 3 < n → test n ≡ false) → length ps ≤ 3
+agrees : (test : ℕ → Bool) (ps : List Part) → allBelow 4 (λ i. Bool·beq (test i) (fits ps i)) ≡ true
+    → ((n : ℕ) → 3 < n → test n ≡ false) → length ps ≤ 3
     → (n : ℕ) → test n ≡ fits ps n
 agrees test ps e more h n =
     by-order n 3
@@ -44,7 +45,8 @@ module _ (ps : List Part) (h : length ps ≤ 3) where
   single : (k : ℕ) → k ≤ 3 → allBelow 4 (λ i. Bool·beq (eqb i k) (fits ps i)) ≡ true → (n : ℕ) → eqb n k ≡ fits ps n
   single k l e = agrees (λ n. eqb n k) ps e (λ n g. ne-eqb n k (omega arith)) h
 
-  range : (low high : ℕ) → high ≤ 3 → allBelow 4 (λ i. Bool·beq (within low high i) (fits ps i)) ≡ true → (n : ℕ) → within low high n ≡ fits ps n
+  range : (low high : ℕ) → high ≤ 3 → allBelow 4 (λ i. Bool·beq (within low high i) (fits ps i)) ≡ true → (n : ℕ)
+      → within low high n ≡ fits ps n
   range low high l e = agrees (within low high) ps e (λ n g. let f = lt-leb n high (omega arith) in rw (f, and-false)) h
 
 module _ (flag parts : ℕ) where

@@ -13,7 +13,7 @@ use Rattle.lexis.proofs.Cases.{and-left, and-right}
 use Rattle.lexis.proofs.Places.{drop-in}
 use Rattle.values.specs.Integers.{valueOf}
 use Rattle.values.specs.Dates.{exactly, digitsAt}
-use Rattle.values.specs.Answers.{DigitIs, DigitsAre}
+use Rattle.values.specs.contracts.Answers.{DigitIs, DigitsAre}
 
 -- a shape, to the end
 module _ (shape w : List ℕ) where
@@ -49,7 +49,8 @@ exactly-same (x ∷ xs) (b ∷ bs) h =
     rw (n, eqb·suc-suc (length bs) (length xs), ← more) (and-swap (eqb (length bs) (length xs)) (eqb x b) (shaped xs bs))
 
 -- two digits, and four
-pub two-are : (w : List ℕ) (at x y : ℕ) → at + 2 ≤ length w → DigitIs (getD w at 0) x → DigitIs (getD w (at + 1) 0) y → DigitsAre w at 2 3_000 (x * 10 + y)
+pub two-are : (w : List ℕ) (at x y : ℕ) → at + 2 ≤ length w → DigitIs (getD w at 0) x → DigitIs (getD w (at + 1) 0) y
+    → DigitsAre w at 2 3_000 (x * 10 + y)
 unfolding valueOf
 two-are w at x y h a b =
     let ha = a .fits in
@@ -67,7 +68,8 @@ four-is (p ∷ q ∷ []) x y h a b = absurd (omega arith)
 four-is (p ∷ q ∷ r ∷ []) x y h a b = absurd (omega arith)
 four-is (p ∷ q ∷ r ∷ s ∷ t) x y h a b = omega arith
 
-pub four-are : (w : List ℕ) (x y : ℕ) → 4 ≤ length w → DigitsAre w 0 2 3_000 x → DigitsAre w 2 2 3_000 y → DigitsAre w 0 4 400_000 (x * 100 + y)
+pub four-are : (w : List ℕ) (x y : ℕ) → 4 ≤ length w → DigitsAre w 0 2 3_000 x → DigitsAre w 2 2 3_000 y
+    → DigitsAre w 0 4 400_000 (x * 100 + y)
 four-are w x y h a b =
     let ha = a .fits in
     let hb = b .fits in

@@ -16,7 +16,7 @@ use Rattle.lexis.proofs.Places.{shaped-long}
 use Rattle.values.specs.Integers.{valueOf}
 use Rattle.values.specs.Dates.{digitsAt, exactly}
 use Rattle.values.specs.Times.{zone, hours, minutes, seconds, goodTime, timeOf}
-use Rattle.values.specs.Answers.{DigitsAre, eastZone, westZone, hourTime, minuteTime, secondTime}
+use Rattle.values.specs.contracts.Answers.{DigitsAre, eastZone, westZone, hourTime, minuteTime, secondTime}
 use Rattle.values.proofs.ShapeSteps.{exactly-long, exactly-same}
 use Rattle.values.proofs.DateSteps.{exactly-reaches}
 
@@ -25,10 +25,12 @@ pub up-to-is : (w : List ℕ) (at n most : ℕ) → DigitsAre w at 2 3_000 n →
 up-to-is w at n most d = rw (d .is)
 
 -- bytes of a shape reach as far as it, and spell no minutes behind it
-pub exactly-reaches-not : (shape w : List ℕ) (r : Bool) (n : ℕ) → r ≡ exactly shape w → not r ≡ false → n ≤ length shape → n ≤ length w
+pub exactly-reaches-not : (shape w : List ℕ) (r : Bool) (n : ℕ) → r ≡ exactly shape w → not r ≡ false → n ≤ length shape
+    → n ≤ length w
 exactly-reaches-not shape w r n h q l = exactly-reaches shape w r n h (not-false r q) l
 
-pub shaped-reaches : (shape w : List ℕ) (r : Bool) (n : ℕ) → r ≡ shaped shape w → r ≡ true → n ≤ length shape → n ≤ length w
+pub shaped-reaches : (shape w : List ℕ) (r : Bool) (n : ℕ) → r ≡ shaped shape w → r ≡ true → n ≤ length shape
+    → n ≤ length w
 shaped-reaches shape w r n h q l = let e = shaped-long shape w (sym h ∙ q) in omega arith
 
 no-minutes : (z : List ℕ) → length z ≡ 3 → digitsAt 4 2 z ≡ 0
@@ -160,7 +162,8 @@ module _ (w : List ℕ) (a : Option ℕ) (g r : Bool) (h : r ≡ shaped (bytes "
       unfolding timeOf
       time-hours q e f = rw (← h, n, ← i, m, ← j, q, ← e) f
 
-pub time-none : (w : List ℕ) (r s t : Bool) → r ≡ shaped (bytes "dd:dd:dd") w → r ≡ false → s ≡ shaped (bytes "dd:dd") w → s ≡ false
+pub time-none : (w : List ℕ) (r s t : Bool) → r ≡ shaped (bytes "dd:dd:dd") w → r ≡ false → s ≡ shaped (bytes "dd:dd") w
+    → s ≡ false
     → t ≡ shaped (bytes "dd") w → t ≡ false → none ≡ timeOf w
 unfolding timeOf
 time-none w r s t h n i m j q = rw (← h, n, ← i, m, ← j, q)

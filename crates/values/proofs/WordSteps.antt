@@ -10,7 +10,7 @@ use Rattle.values.specs.Integers.{integerOf}
 use Rattle.values.specs.Dates.{exactly, dateOf}
 use Rattle.values.specs.Times.{timeOf}
 use Rattle.values.specs.Words.{booleanOf, reads, good}
-use Rattle.values.specs.Answers.{integerAnswer, shortInteger, dateAnswer, timeAnswer, booleanAnswer}
+use Rattle.values.specs.contracts.Answers.{integerAnswer, shortInteger, dateAnswer, timeAnswer, booleanAnswer}
 use Rattle.values.specs.declared.integers.Number.{Number}
 use Rattle.values.specs.declared.integers.Number.the-variants as number
 use Rattle.values.specs.declared.dates.Day.{Day}

@@ -4,4 +4,4 @@ pub mod Dates
 pub mod Times
 pub mod Patterns
 pub mod Words
-pub mod Answers
+pub mod contracts

@@ -3,7 +3,7 @@ ghost use mathlib.Core.Path.{_≡_};
 ghost use Prim.Native.Nat.{_≤_};
 ghost use lib.ListN.{length};
 ghost use Rattle.values.specs.Dates.{realDate, dateOf};
-ghost use Rattle.values.specs.Answers.{yearDate, monthDate, dayDate, dateAnswer};
+ghost use Rattle.values.specs.contracts.Answers.{yearDate, monthDate, dayDate, dateAnswer};
 use crate::calendar::packed;
 use crate::calendar::real;
 use crate::shapes::exactly;

@@ -2,7 +2,7 @@
 ghost use mathlib.Core.Path.{_≡_};
 ghost use mathlib.Core.Bool.{true};
 ghost use Rattle.values.specs.Integers.{integerOf, negative, notNegative, twosComplement, magnitude, inside, pair, around};
-ghost use Rattle.values.specs.Answers.{integerAnswer, digitsFrom, plainNumber, shortInteger};
+ghost use Rattle.values.specs.contracts.Answers.{integerAnswer, digitsFrom, plainNumber, shortInteger};
 use crate::shapes::digit_value;
 use lexis::runs::Class;
 use lexis::runs::past_run;

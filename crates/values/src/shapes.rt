@@ -4,7 +4,7 @@ ghost use mathlib.Core.Path.{_≡_};
 ghost use Prim.Native.Nat.{_+_, _≤_};
 ghost use lib.ListN.{length};
 ghost use Rattle.values.specs.Dates.{exactly};
-ghost use Rattle.values.specs.Answers.{DigitIs, DigitsAre};
+ghost use Rattle.values.specs.contracts.Answers.{DigitIs, DigitsAre};
 
 // What a digit counts.
 pub fn digit_value(b: u8) -> u32

@@ -5,7 +5,7 @@ ghost use lib.Dec.{leb};
 ghost use lib.ListN.{length};
 ghost use Rattle.values.specs.Dates.{digitsAt};
 ghost use Rattle.values.specs.Times.{zone, goodTime, timeOf};
-ghost use Rattle.values.specs.Answers.{eastZone, westZone, hourTime, minuteTime, secondTime, timeAnswer};
+ghost use Rattle.values.specs.contracts.Answers.{eastZone, westZone, hourTime, minuteTime, secondTime, timeAnswer};
 use crate::shapes::exactly;
 use crate::shapes::two_digits;
 use lexis::runs::shaped;

@@ -1,7 +1,7 @@
 // Words: what they read as.
 ghost use mathlib.Core.Path.{_≡_};
 ghost use Rattle.values.specs.Words.{booleanOf, good};
-ghost use Rattle.values.specs.Answers.{booleanAnswer};
+ghost use Rattle.values.specs.contracts.Answers.{booleanAnswer};
 use crate::dates::Day;
 use crate::dates::date_of;
 use crate::integers::Number;

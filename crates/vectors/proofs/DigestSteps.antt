@@ -17,7 +17,8 @@ pub digest-first : (bytes : List ℕ) → InDigest bytes 0 0
 digest-first bytes = record { high = omega arith; small = omega arith; is = refl }
 
 module _ (bytes : List ℕ) (sum i : ℕ) (inv : InDigest bytes sum i) where
-  pub digest-on : (b : ℕ) → i < length bytes → b ≡ getD bytes i 0 → InDigest bytes ((sum * 257 + b + 1) % 4_294_967_291) (i + 1)
+  pub digest-on : (b : ℕ) → i < length bytes → b ≡ getD bytes i 0
+      → InDigest bytes ((sum * 257 + b + 1) % 4_294_967_291) (i + 1)
   unfolding digestFrom
   digest-on b h e = record { high = omega arith; small = omega arith; is = rw (e) (rw (drop-in bytes i h) at (inv .is)) }
 

@@ -10,8 +10,8 @@ use Rattle.table.specs.Order.{get}
 use Rattle.vectors.specs.declared.reading.Head.{Head}
 
 -- what a case begins with, by six bytes of which so many were read: its kind, its order, and a number with the highest byte first; kind 0 where there are fewer
-abbrev pub headOf : List ℕ → ℕ → Head
-headOf bs n =
+abbrev pub caseHead : List ℕ → ℕ → Head
+caseHead bs n =
     cond (ltb n 6) (record { kind = 0; little = false; number = 0 })
     (record { kind = getD bs 0 0; little = eqb (getD bs 1 0) 1; number = get false (take 4 (drop 2 bs)) })
 
@@ -19,7 +19,7 @@ headOf bs n =
 pub record HeadRead (r : Head) : Type 0 where
   pub bytes : List ℕ
   pub count : ℕ
-  pub is : r ≡ headOf bytes count
+  pub is : r ≡ caseHead bytes count
 
 -- r lies between a place and the buffer's end, and the buffer is as long as before
 pub record Grown (at : ℕ) (before after : List ℕ) (r : ℕ) : Type 0 where

@@ -2,8 +2,23 @@
 use crate::output::say;
 use crate::output::say_number;
 use crate::output::say_refusal;
+use compile::CompileResult;
 use judge::JudgeResult;
-use merge::MergeResult;
+use table_merge::MergeResult;
+
+// What compiling answers; how long the table is, 0 where there is none.
+pub fn say_compile(answer: CompileResult) -> usize {
+    match answer {
+        CompileResult::Done { length } => {
+            say_number(b" length ", length as u64);
+            return length;
+        }
+        CompileResult::Refused(refusal) => {
+            say_refusal(refusal);
+            return 0;
+        }
+    }
+}
 
 // What a merge answers.
 pub fn say_merge(answer: MergeResult) {

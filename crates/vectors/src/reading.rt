@@ -10,7 +10,12 @@ ghost use Prim.Native.Nat.{_≤_};
 ghost use mathlib.Core.Path.{_≡_};
 ghost use lib.ListN.{length};
 ghost use Rattle.io.specs.Counts.{Counts};
-ghost use Rattle.vectors.specs.Reading.{headOf, HeadRead, Grown, cut, Copied};
+ghost use Rattle.vectors.specs.Reading.{caseHead, HeadRead, Grown, cut, Copied};
+
+// Room for the largest table and a record more, and for a text that is too long.
+pub const TABLE_ROOM: usize = 65_568;
+
+pub const TEXT_ROOM: usize = 16_400;
 
 // What a case begins with. Kind 0 says that no case is left.
 pub struct Head {
@@ -22,7 +27,7 @@ pub struct Head {
 // What six bytes say that a case begins with; none where fewer were read.
 fn head_of(head: &[u8], n: usize) -> Head
     requires { ⌜ 6 ≤ length (now head) ⌝ }
-    ensures { λ r. ⌜ r ≡ headOf (now (head .entry)) n ⌝ }
+    ensures { λ r. ⌜ r ≡ caseHead (now (head .entry)) n ⌝ }
 {
     if n < 6 {
         return Head {

@@ -1,5 +1,4 @@
 -- `compile::compile` meets its contract. Assumes nothing.
-use Prim.Native.Nat.{ℕ}
 use lib.ListN.{length-replicate}
 use borrow.Author.Needs.{needs}
 use Rattle.compile.proofs.TableSteps.{compile-done, compile-long, compile-refused, compile-inside, compile-room}

@@ -1,7 +1,7 @@
 -- `judge::judge_on` meets its contract. Assumes nothing.
 use borrow.Author.Needs.{needs}
 use Rattle.judge.proofs.JudgeSteps.{text-refused, text-under, text-judged}
-use Rattle.tape.proofs.MemoLaws.{memo-zeros}
+use Rattle.judge_tape.proofs.MemoLaws.{memo-zeros}
 use Rattle.judge.proofs.judge_on.Statement.{statement}
 use Rattle.judge.proofs.judge_on.Tie as tie
 

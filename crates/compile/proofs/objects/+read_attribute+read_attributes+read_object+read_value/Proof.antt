@@ -20,13 +20,13 @@ use Rattle.compile.proofs.objects.+read_attribute+read_attributes+read_
 use Rattle.compile.proofs.objects.read_value.Reads as read-value
 use Rattle.compile.proofs.objects.read_value.Kinds as read-value-kinds
 use Rattle.compile.proofs.objects.+read_attribute+read_attributes+read_object+read_value.Lts-read_value as read-value-lts
-use Rattle.emission.proofs.heads.close_attribute.Reads as close-attribute-reads
-use Rattle.emission.proofs.heads.keep_name.Reads as keep-name-reads
-use Rattle.emission.proofs.heads.open_object.Reads as open-object-reads
-use Rattle.emission.proofs.leaves.write_leaf.Reads as write-leaf-reads
+use Rattle.compile_emission.proofs.heads.close_attribute.Reads as close-attribute-reads
+use Rattle.compile_emission.proofs.heads.keep_name.Reads as keep-name-reads
+use Rattle.compile_emission.proofs.heads.open_object.Reads as open-object-reads
+use Rattle.compile_emission.proofs.leaves.write_leaf.Reads as write-leaf-reads
 use Rattle.compile.proofs.objects.close_object.Reads as close-object-reads
-use Rattle.constraint.proofs.heads.attribute_head.Reads as attribute-head-reads
-use Rattle.constraint.proofs.heads.object_head.Reads as object-head-reads
+use Rattle.cadl_objects.proofs.heads.attribute_head.Reads as attribute-head-reads
+use Rattle.cadl_objects.proofs.heads.object_head.Reads as object-head-reads
 use Rattle.lexis.proofs.tokens.token_at.Reads as token-at-reads
 use Rattle.compile.proofs.objects.+read_attribute+read_attributes+read_object+read_value.{
   statement,
@@ -108,31 +108,40 @@ read-object-calls t = (object-head-reads.Asked, object-head-reads.Learnt, token-
 abbrev read-value-calls : ℕ → read-value-lts.Claims
 read-value-calls t = (token-at-reads.Asked, token-at-reads.Learnt, read-object-below t, read-object.Post, write-leaf-reads.Asked, write-leaf-reads.Learnt)
 
-read-attribute-attribute-head-requires : (t : ℕ) → read-attribute-lts.Need-attribute-head-requires (read-attribute-calls t) (read-attribute-at t) read-attribute.Post
+read-attribute-attribute-head-requires : (t : ℕ)
+    → read-attribute-lts.Need-attribute-head-requires (read-attribute-calls t) (read-attribute-at t) read-attribute.Post
 read-attribute-attribute-head-requires t c κs = search (counted, attribute-spans, needs)
 
-read-attribute-enum-known-fault : (t : ℕ) → read-attribute-lts.Need-enum-known-fault (read-attribute-calls t) (read-attribute-at t) read-attribute.Post
+read-attribute-enum-known-fault : (t : ℕ)
+    → read-attribute-lts.Need-enum-known-fault (read-attribute-calls t) (read-attribute-at t) read-attribute.Post
 read-attribute-enum-known-fault t c = search needs
 
-read-attribute-returns : (t : ℕ) → read-attribute-lts.Need-returns (read-attribute-calls t) (read-attribute-at t) read-attribute.Post
+read-attribute-returns : (t : ℕ)
+    → read-attribute-lts.Need-returns (read-attribute-calls t) (read-attribute-at t) read-attribute.Post
 read-attribute-returns t c = search attribute-faulty
 
-read-attribute-enum-known-start : (t : ℕ) → read-attribute-lts.Need-enum-known-start (read-attribute-calls t) (read-attribute-at t) read-attribute.Post
+read-attribute-enum-known-start : (t : ℕ)
+    → read-attribute-lts.Need-enum-known-start (read-attribute-calls t) (read-attribute-at t) read-attribute.Post
 read-attribute-enum-known-start t c = search needs
 
-read-attribute-keep-name-requires : (t : ℕ) → read-attribute-lts.Need-keep-name-requires (read-attribute-calls t) (read-attribute-at t) read-attribute.Post
+read-attribute-keep-name-requires : (t : ℕ)
+    → read-attribute-lts.Need-keep-name-requires (read-attribute-calls t) (read-attribute-at t) read-attribute.Post
 read-attribute-keep-name-requires t c κs = search name-room
 
-read-attribute-add-read-value : (t : ℕ) → read-attribute-lts.Need-add-read-value (read-attribute-calls t) (read-attribute-at t) read-attribute.Post
+read-attribute-add-read-value : (t : ℕ)
+    → read-attribute-lts.Need-add-read-value (read-attribute-calls t) (read-attribute-at t) read-attribute.Post
 read-attribute-add-read-value t c = search needs
 
-read-attribute-read-value-requires : (t : ℕ) → read-attribute-lts.Need-read-value-requires (read-attribute-calls t) (read-attribute-at t) read-attribute.Post
+read-attribute-read-value-requires : (t : ℕ)
+    → read-attribute-lts.Need-read-value-requires (read-attribute-calls t) (read-attribute-at t) read-attribute.Post
 read-attribute-read-value-requires t c κs = (search needs, search value-stacked)
 
-read-attribute-enum-known-fault-2 : (t : ℕ) → read-attribute-lts.Need-enum-known-fault-2 (read-attribute-calls t) (read-attribute-at t) read-attribute.Post
+read-attribute-enum-known-fault-2 : (t : ℕ)
+    → read-attribute-lts.Need-enum-known-fault-2 (read-attribute-calls t) (read-attribute-at t) read-attribute.Post
 read-attribute-enum-known-fault-2 t c = search needs
 
-read-attribute-returns-2 : (t : ℕ) → read-attribute-lts.Need-returns-2 (read-attribute-calls t) (read-attribute-at t) read-attribute.Post
+read-attribute-returns-2 : (t : ℕ)
+    → read-attribute-lts.Need-returns-2 (read-attribute-calls t) (read-attribute-at t) read-attribute.Post
 read-attribute-returns-2 t c =
     let pre = c .before .before .before .before .before .before .before .before .before .before .before .before .before .before .before .before .before .pre .1 in
     let e = c .before .before .before .before .before .before .before .before .before .before .before .before .before .attribute-head .ensures in
@@ -142,7 +151,8 @@ read-attribute-returns-2 t c =
     let k = c .before .fault2 .given .1 in
     search value-refused
 
-read-attribute-enum-known-q : (t : ℕ) → read-attribute-lts.Need-enum-known-q (read-attribute-calls t) (read-attribute-at t) read-attribute.Post
+read-attribute-enum-known-q : (t : ℕ)
+    → read-attribute-lts.Need-enum-known-q (read-attribute-calls t) (read-attribute-at t) read-attribute.Post
 read-attribute-enum-known-q t c = search needs
 
 read-attribute-close-attribute-requires :
@@ -156,7 +166,8 @@ read-attribute-close-attribute-requires t c κs =
     let k = c .before .before .q .given .1 in
     value-closing pre e g put _ _ _ d k
 
-read-attribute-returns-3 : (t : ℕ) → read-attribute-lts.Need-returns-3 (read-attribute-calls t) (read-attribute-at t) read-attribute.Post
+read-attribute-returns-3 : (t : ℕ)
+    → read-attribute-lts.Need-returns-3 (read-attribute-calls t) (read-attribute-at t) read-attribute.Post
 read-attribute-returns-3 t c =
     let pre = c .before .before .before .before .before .before .before .before .before .before .before .before .before .before .before .before .before .before .before .pre .1 in
     let e = c .before .before .before .before .before .before .before .before .before .before .before .before .before .before .before .attribute-head .ensures in
@@ -174,69 +185,87 @@ read-attributes-Inv-loop s little levels first records₀ bytes₀ names₀ q₀
 abbrev read-attributes-μ-loop : read-attributes-lts.MeasureT-loop
 read-attributes-μ-loop s little levels first records₀ bytes₀ names₀ q₀ top₀ records bytes names q top = length s - q .place
 
-read-attributes-loop-holds : (t : ℕ) → read-attributes-lts.Need-loop-holds (read-attributes-calls t) (read-attributes-at t) read-attributes.Post read-attributes-Inv-loop read-attributes-μ-loop
+read-attributes-loop-holds : (t : ℕ)
+    → read-attributes-lts.Need-loop-holds (read-attributes-calls t) (read-attributes-at t) read-attributes.Post read-attributes-Inv-loop read-attributes-μ-loop
 read-attributes-loop-holds t c = attributes-start _ _ _ _ _ _ (c .before .pre .1)
 
 read-attributes-read-attribute-requires :
     (t : ℕ) → read-attributes-lts.Need-read-attribute-requires (read-attributes-calls t) (read-attributes-at t) read-attributes.Post read-attributes-Inv-loop read-attributes-μ-loop
 read-attributes-read-attribute-requires t c κs = (search needs, search needs)
 
-read-attributes-enum-known-fault : (t : ℕ) → read-attributes-lts.Need-enum-known-fault (read-attributes-calls t) (read-attributes-at t) read-attributes.Post read-attributes-Inv-loop read-attributes-μ-loop
+read-attributes-enum-known-fault : (t : ℕ)
+    → read-attributes-lts.Need-enum-known-fault (read-attributes-calls t) (read-attributes-at t) read-attributes.Post read-attributes-Inv-loop read-attributes-μ-loop
 read-attributes-enum-known-fault t c = search needs
 
-read-attributes-returns : (t : ℕ) → read-attributes-lts.Need-returns (read-attributes-calls t) (read-attributes-at t) read-attributes.Post read-attributes-Inv-loop read-attributes-μ-loop
+read-attributes-returns : (t : ℕ)
+    → read-attributes-lts.Need-returns (read-attributes-calls t) (read-attributes-at t) read-attributes.Post read-attributes-Inv-loop read-attributes-μ-loop
 read-attributes-returns t c = search attributes-not
 
-read-attributes-enum-known-behind : (t : ℕ) → read-attributes-lts.Need-enum-known-behind (read-attributes-calls t) (read-attributes-at t) read-attributes.Post read-attributes-Inv-loop read-attributes-μ-loop
+read-attributes-enum-known-behind : (t : ℕ)
+    → read-attributes-lts.Need-enum-known-behind (read-attributes-calls t) (read-attributes-at t) read-attributes.Post read-attributes-Inv-loop read-attributes-μ-loop
 read-attributes-enum-known-behind t c = search needs
 
-read-attributes-returns-2 : (t : ℕ) → read-attributes-lts.Need-returns-2 (read-attributes-calls t) (read-attributes-at t) read-attributes.Post read-attributes-Inv-loop read-attributes-μ-loop
+read-attributes-returns-2 : (t : ℕ)
+    → read-attributes-lts.Need-returns-2 (read-attributes-calls t) (read-attributes-at t) read-attributes.Post read-attributes-Inv-loop read-attributes-μ-loop
 read-attributes-returns-2 t c = search attributes-last
 
-read-attributes-enum-known-behind-2 : (t : ℕ) → read-attributes-lts.Need-enum-known-behind-2 (read-attributes-calls t) (read-attributes-at t) read-attributes.Post read-attributes-Inv-loop read-attributes-μ-loop
+read-attributes-enum-known-behind-2 : (t : ℕ)
+    → read-attributes-lts.Need-enum-known-behind-2 (read-attributes-calls t) (read-attributes-at t) read-attributes.Post read-attributes-Inv-loop read-attributes-μ-loop
 read-attributes-enum-known-behind-2 t c = search needs
 
-read-attributes-add-top : (t : ℕ) → read-attributes-lts.Need-add-top (read-attributes-calls t) (read-attributes-at t) read-attributes.Post read-attributes-Inv-loop read-attributes-μ-loop
+read-attributes-add-top : (t : ℕ)
+    → read-attributes-lts.Need-add-top (read-attributes-calls t) (read-attributes-at t) read-attributes.Post read-attributes-Inv-loop read-attributes-μ-loop
 read-attributes-add-top t c = search (attributes-fits, needs)
 
-read-attributes-loop-less : (t : ℕ) → read-attributes-lts.Need-loop-less (read-attributes-calls t) (read-attributes-at t) read-attributes.Post read-attributes-Inv-loop read-attributes-μ-loop
+read-attributes-loop-less : (t : ℕ)
+    → read-attributes-lts.Need-loop-less (read-attributes-calls t) (read-attributes-at t) read-attributes.Post read-attributes-Inv-loop read-attributes-μ-loop
 read-attributes-loop-less t c = search attributes-less
 
-read-attributes-loop-again : (t : ℕ) → read-attributes-lts.Need-loop-again (read-attributes-calls t) (read-attributes-at t) read-attributes.Post read-attributes-Inv-loop read-attributes-μ-loop
+read-attributes-loop-again : (t : ℕ)
+    → read-attributes-lts.Need-loop-again (read-attributes-calls t) (read-attributes-at t) read-attributes.Post read-attributes-Inv-loop read-attributes-μ-loop
 read-attributes-loop-again t c =
     let inv = c .before .before .before .before .before .before .before .loop .inv in
     let d = c .before .before .before .read-attribute .ensures in
     let g = c .known-told3 .given .1 in
     search attributes-next
 
-read-object-object-head-requires : (t : ℕ) → read-object-lts.Need-object-head-requires (read-object-calls t) (read-object-at t) read-object.Post
+read-object-object-head-requires : (t : ℕ)
+    → read-object-lts.Need-object-head-requires (read-object-calls t) (read-object-at t) read-object.Post
 read-object-object-head-requires t c κs = search (counted, needs)
 
-read-object-enum-known-fault : (t : ℕ) → read-object-lts.Need-enum-known-fault (read-object-calls t) (read-object-at t) read-object.Post
+read-object-enum-known-fault : (t : ℕ)
+    → read-object-lts.Need-enum-known-fault (read-object-calls t) (read-object-at t) read-object.Post
 read-object-enum-known-fault t c = search needs
 
 read-object-returns : (t : ℕ) → read-object-lts.Need-returns (read-object-calls t) (read-object-at t) read-object.Post
 read-object-returns t c = search object-faulty
 
-read-object-enum-known-a : (t : ℕ) → read-object-lts.Need-enum-known-a (read-object-calls t) (read-object-at t) read-object.Post
+read-object-enum-known-a : (t : ℕ)
+    → read-object-lts.Need-enum-known-a (read-object-calls t) (read-object-at t) read-object.Post
 read-object-enum-known-a t c = search needs
 
-read-object-token-at-requires : (t : ℕ) → read-object-lts.Need-token-at-requires (read-object-calls t) (read-object-at t) read-object.Post
+read-object-token-at-requires : (t : ℕ)
+    → read-object-lts.Need-token-at-requires (read-object-calls t) (read-object-at t) read-object.Post
 read-object-token-at-requires t c κs = search object-inside
 
-read-object-open-object-requires : (t : ℕ) → read-object-lts.Need-open-object-requires (read-object-calls t) (read-object-at t) read-object.Post
+read-object-open-object-requires : (t : ℕ)
+    → read-object-lts.Need-open-object-requires (read-object-calls t) (read-object-at t) read-object.Post
 read-object-open-object-requires t c κs = search (object-past, needs)
 
-read-object-close-object-requires : (t : ℕ) → read-object-lts.Need-close-object-requires (read-object-calls t) (read-object-at t) read-object.Post
+read-object-close-object-requires : (t : ℕ)
+    → read-object-lts.Need-close-object-requires (read-object-calls t) (read-object-at t) read-object.Post
 read-object-close-object-requires t c κs = search needs
 
-read-object-returns-2 : (t : ℕ) → read-object-lts.Need-returns-2 (read-object-calls t) (read-object-at t) read-object.Post
+read-object-returns-2 : (t : ℕ)
+    → read-object-lts.Need-returns-2 (read-object-calls t) (read-object-at t) read-object.Post
 read-object-returns-2 t c = search object-any
 
-read-object-sub-read-attributes : (t : ℕ) → read-object-lts.Need-sub-read-attributes (read-object-calls t) (read-object-at t) read-object.Post
+read-object-sub-read-attributes : (t : ℕ)
+    → read-object-lts.Need-sub-read-attributes (read-object-calls t) (read-object-at t) read-object.Post
 read-object-sub-read-attributes t c = search object-level
 
-read-object-read-attributes-requires : (t : ℕ) → read-object-lts.Need-read-attributes-requires (read-object-calls t) (read-object-at t) read-object.Post
+read-object-read-attributes-requires : (t : ℕ)
+    → read-object-lts.Need-read-attributes-requires (read-object-calls t) (read-object-at t) read-object.Post
 read-object-read-attributes-requires t c κs =
     let pre = c .before .before .before .before .before .before .before .before .before .before .before .before .before .before .pre .1 in
     let e = c .before .before .before .before .before .before .before .before .before .before .before .before .object-head .ensures in
@@ -246,7 +275,8 @@ read-object-read-attributes-requires t c κs =
     let l = object-level {top = _} pre e g in
     (omega arith, search object-more)
 
-read-object-returns-3 : (t : ℕ) → read-object-lts.Need-returns-3 (read-object-calls t) (read-object-at t) read-object.Post
+read-object-returns-3 : (t : ℕ)
+    → read-object-lts.Need-returns-3 (read-object-calls t) (read-object-at t) read-object.Post
 read-object-returns-3 t c =
     let pre = c .before .before .before .before .before .before .before .before .before .before .before .before .before .before .before .pre .1 in
     let e = c .before .before .before .before .before .before .before .before .before .before .before .before .before .object-head .ensures in
@@ -257,19 +287,22 @@ read-object-returns-3 t c =
     let d = c .read-attributes .ensures in
     search object-attributes
 
-read-value-token-at-requires : (t : ℕ) → read-value-lts.Need-token-at-requires (read-value-calls t) (read-value-at t) read-value.Post
+read-value-token-at-requires : (t : ℕ)
+    → read-value-lts.Need-token-at-requires (read-value-calls t) (read-value-at t) read-value.Post
 read-value-token-at-requires t c κs = search needs
 
 read-value-returns : (t : ℕ) → read-value-lts.Need-returns (read-value-calls t) (read-value-at t) read-value.Post
 read-value-returns t c = search value-any
 
-read-value-read-object-requires : (t : ℕ) → read-value-lts.Need-read-object-requires (read-value-calls t) (read-value-at t) read-value.Post
+read-value-read-object-requires : (t : ℕ)
+    → read-value-lts.Need-read-object-requires (read-value-calls t) (read-value-at t) read-value.Post
 read-value-read-object-requires t c κs = (search needs, search needs)
 
 read-value-returns-2 : (t : ℕ) → read-value-lts.Need-returns-2 (read-value-calls t) (read-value-at t) read-value.Post
 read-value-returns-2 t c = search value-object
 
-read-value-write-leaf-requires : (t : ℕ) → read-value-lts.Need-write-leaf-requires (read-value-calls t) (read-value-at t) read-value.Post
+read-value-write-leaf-requires : (t : ℕ)
+    → read-value-lts.Need-write-leaf-requires (read-value-calls t) (read-value-at t) read-value.Post
 read-value-write-leaf-requires t c κs = search needs
 
 read-value-returns-3 : (t : ℕ) → read-value-lts.Need-returns-3 (read-value-calls t) (read-value-at t) read-value.Post

@@ -2,7 +2,7 @@
 use Prim.Native.Nat.{_-_}
 use lib.ListN.{length, drop}
 use borrow.Author.Needs.{needs}
-use Rattle.lexis.specs.Postconditions.{admits, beginsBy}
+use Rattle.lexis.specs.contracts.Answers.{admits, beginsBy}
 use Rattle.lexis.proofs.RunSteps.{InWord, begins-short, word-first, word-end, word-out, word-on}
 use Rattle.lexis.proofs.runs.begins.Statement.{statement}
 use Rattle.lexis.proofs.runs.begins.Tie as tie

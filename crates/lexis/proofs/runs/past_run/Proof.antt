@@ -3,7 +3,7 @@ use Prim.Native.Nat.{_-_}
 use lib.ListN.{length, drop}
 use borrow.Author.Needs.{needs}
 use Rattle.lexis.specs.Runs.{past}
-use Rattle.lexis.specs.Postconditions.{testOf}
+use Rattle.lexis.specs.contracts.Answers.{testOf}
 use Rattle.lexis.proofs.RunSteps.{InRun, run-first, run-end, run-out, run-on}
 use Rattle.lexis.proofs.runs.past_run.Statement.{statement}
 use Rattle.lexis.proofs.runs.past_run.Tie as tie

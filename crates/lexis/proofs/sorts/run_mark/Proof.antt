@@ -2,7 +2,7 @@
 use mathlib.Core.Path.{refl}
 use mathlib.Core.Bool.{true}
 use native.Mathlib.Omega.{arith}
-use Rattle.lexis.specs.Postconditions.{runMark}
+use Rattle.lexis.specs.contracts.Answers.{runMark}
 use Rattle.lexis.proofs.ByteLaws.{agree, mark-last}
 use Rattle.lexis.proofs.sorts.run_mark.Statement.{statement}
 use Rattle.lexis.proofs.sorts.run_mark.Tie as tie

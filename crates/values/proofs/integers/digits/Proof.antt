@@ -4,7 +4,7 @@ use mathlib.Core.Path.{_≡_, refl}
 use Prim.Native.Nat.{_-_}
 use lib.ListN.{length, drop}
 use borrow.Author.Needs.{needs}
-use Rattle.values.specs.Answers.{digitsFrom}
+use Rattle.values.specs.contracts.Answers.{digitsFrom}
 use Rattle.values.proofs.IntegerSteps.{steps}
 use Rattle.values.proofs.integers.digits.Statement.{statement}
 use Rattle.values.proofs.integers.digits.Tie as tie

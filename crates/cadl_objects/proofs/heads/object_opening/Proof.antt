@@ -1,0 +1,9 @@
+-- `cadl_objects::heads::object_opening` meets its contract. Assumes nothing.
+use Rattle.cadl_objects.proofs.OpeningSteps.{opening-steps}
+use borrow.Author.Needs.{needs}
+use Rattle.cadl_objects.proofs.heads.object_opening.Statement.{statement}
+use Rattle.cadl_objects.proofs.heads.object_opening.Tie as tie
+
+pub object-opening-spec : {M : Type 1} → statement M
+object-opening-spec =
+    tie.close (tie.spec (λ c κs. search needs) (λ c κs. search needs) (λ c. search needs) (λ c. search (opening-steps, needs)) (λ c. search needs) (λ c. search (opening-steps, needs)))

@@ -1,0 +1,4 @@
+pub mod Existence
+pub mod Objects
+pub mod Texts
+pub mod contracts

@@ -1,8 +1,0 @@
--- `constraint::existence::existence_from` meets its contract. Assumes nothing.
-use Rattle.constraint.proofs.ExistenceSteps.{existence-steps}
-use borrow.Author.Needs.{needs}
-use Rattle.constraint.proofs.existence.existence_from.Statement.{statement}
-use Rattle.constraint.proofs.existence.existence_from.Tie as tie
-
-pub existence-from-spec : {M : Type 1} → statement M
-existence-from-spec = tie.close (tie.spec (λ c κs. search needs) (λ c. search (existence-steps, needs)) (λ c. search (existence-steps, needs)))

@@ -1,9 +1,0 @@
--- `constraint::heads::object_opening` meets its contract. Assumes nothing.
-use Rattle.constraint.proofs.OpeningSteps.{opening-steps}
-use borrow.Author.Needs.{needs}
-use Rattle.constraint.proofs.heads.object_opening.Statement.{statement}
-use Rattle.constraint.proofs.heads.object_opening.Tie as tie
-
-pub object-opening-spec : {M : Type 1} → statement M
-object-opening-spec =
-    tie.close (tie.spec (λ c κs. search needs) (λ c κs. search needs) (λ c. search needs) (λ c. search (opening-steps, needs)) (λ c. search needs) (λ c. search (opening-steps, needs)))

@@ -1,4 +1,0 @@
-pub mod Existence
-pub mod Objects
-pub mod Texts
-pub mod Answers

@@ -1,8 +1,0 @@
--- `emission::rows::range_entry` meets its contract. Assumes nothing.
-use borrow.Author.Needs.{needs}
-use Rattle.emission.proofs.WritingSteps.{range-row}
-use Rattle.emission.proofs.rows.range_entry.Statement.{statement}
-use Rattle.emission.proofs.rows.range_entry.Tie as tie
-
-pub range-entry-spec : {M : Type 1} → statement M
-range-entry-spec = tie.close (tie.spec (λ c κs. search needs) (λ c κs. search needs) (λ c. search range-row))

@@ -1,4 +1,0 @@
-pub mod Faults
-pub mod DataFaults
-pub mod LeafFaults
-pub mod ConstraintFaults

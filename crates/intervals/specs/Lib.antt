@@ -1,2 +1,0 @@
-pub mod Intervals
-pub mod Answers

@@ -1,4 +1,0 @@
-pub mod Merge
-pub mod Answer
-pub mod Lists
-pub mod Answers

@@ -1,0 +1,3 @@
+pub mod Faults
+pub mod DataFaults
+pub mod ConstraintFaults

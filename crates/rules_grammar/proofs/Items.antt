@@ -1,0 +1,723 @@
+-- A leaf is read exactly where the grammar derives it, before the `}` behind it. Assumes nothing.
+use mathlib.Core.Path.{_≡_, refl, sym, _∙_, subst}
+use mathlib.Core.Logic.{_≢_}
+use mathlib.Core.Bool.{Bool, true, false, cond, not, _||_, _&&_}
+use mathlib.Core.Option.{Option, none, some}
+use mathlib.Core.List.{List, [], _∷_, List·Memᴰ, List·Memᴰ·head, List·Memᴰ·tail}
+use Prim.Native.Nat.{ℕ, zero, suc, _≤_, _+_, _-_}
+use native.Mathlib.Omega.{arith}
+use lib.Dec.{eqb, leb, ltb}
+use lib.ListN.{length}
+use borrow.Author.Tests.{eqb-true, eqb-false, ltb-false, le-ltb, leb-true, le-leb, lt-leb, eq-eqb, ne-eqb}
+use Rattle.lexis.specs.Bytes.{within}
+use Rattle.lexis.specs.Runs.{listed}
+use Rattle.lexis.specs.Spelling.{bar, dots, less, greater, atMost, atLeast, plusMinus, comma, trueWord, falseWord, closeBrace}
+use Rattle.lexis.specs.Tokens.{tokenAt, integer, date, string, spelling, inner}
+use Rattle.lexis.specs.declared.Token.{Token}
+use Rattle.lexis.proofs.Cases.{and-left, and-right, by-cond}
+use Rattle.values.specs.Integers.{Pair, pair, inside, around}
+use Rattle.refusals.specs.Limits.{recordLimit, stringLimit, itemLimit}
+use Rattle.refusals.specs.Reading.{Reading, got}
+use Rattle.refusals.specs.Parsing.{firstIn}
+use Rattle.refusals.specs.declared.Cause.the-variants.{Impossible, OutOfRange, EmptyInterval, TooLong, TooManyItems, TooManyRecords, Overlap}
+use Rattle.refusals.specs.Expecting.{syntaxCause, expect}
+use Rattle.meaning.specs.Constraints.{Range, Text, Leaf, booleans, datePattern, timePattern, single}
+use Rattle.meaning.specs.Constraints
+use Rattle.cadl_intervals.specs.Intervals.{Ends, ends, undecided, kindBy, least, most, after, literalValue, possible, empty, closed, Interval}
+use Rattle.cadl_intervals.specs.contracts.Told.{withLiteral, between, interval}
+use Rattle.cadl_intervals.specs.contracts.Told
+use Rattle.cadl_items.specs.Ranges.{Start, meet, overlaps, Ranges, range}
+use Rattle.cadl_items.specs.contracts.Told.{start, item, ranges, startString, strings, leaf}
+use Rattle.cadl_items.specs.Leaves.{isBoolean, booleanFlag, rangeLeaf}
+use Rattle.cadl_intervals.proofs.IntervalParts.{literal-is, up-is, above-is, spread-is, from-is, between-is, interval-is}
+use Rattle.cadl_items.proofs.LeafParts.{start-is, ranges-none, ranges-some, start-string-is, strings-none, strings-some, second-is, boolean-is, leaf-is}
+use Rattle.rules_grammar.specs.DataGrammar.{Distinct, noName, newName}
+use Rattle.rules_grammar.specs.LeafGrammar.{NextToken, next, DerivesLiteral, literal, DerivesEnds, DerivesItem, aValue, anInterval, DerivesItems, lastItem, moreItems, Meet, Apart, noItem, newItem, DerivesStrings, lastString, moreStrings, textsIn, Boolean, aTrue, aFalse, DerivesLeaf}
+use Rattle.rules_grammar.specs.LeafGrammar
+use Rattle.rules_grammar.proofs.Leaves.{true-or-false, false-true, or-cases, or-left, or-right, and-both}
+use Rattle.rules_grammar.proofs.Given.{Gives, got-gives, refuse-gives, cond-gives, unless-gives, then-gives, given, gives-map}
+use Rattle.rules_grammar.proofs.Derived.{not-listed, listed-not, other, head-new, tail-new}
+
+-- the kinds of lists, and how a list's kind is decided
+pub data Kind : ℕ → Type 0 where
+  isInteger : Kind integer
+  isDate : Kind date
+
+data Asked : ℕ → Type 0 where
+  unasked : Asked undecided
+  asked : {k : ℕ} → Kind k → Asked k
+
+data Suits : ℕ → ℕ → Type 0 where
+  kept : {k : ℕ} → Kind k → Suits k k
+  newly : {k : ℕ} → Kind k → Suits undecided k
+
+suits-kind : {k j : ℕ} → Suits k j → Kind j
+suits-kind (kept x) = x
+suits-kind (newly x) = x
+
+decided : {k : ℕ} → Asked k → (t : Token) → Suits k (kindBy k t)
+decided unasked t = by-cond (Suits undecided) (eqb (t .sort) date) (λ e. newly isDate) (λ e. newly isInteger)
+decided (asked isInteger) t = kept isInteger
+decided (asked isDate) t = kept isDate
+
+-- what each part of the reader gives
+pub data Took (s : List ℕ) (sort from : ℕ) : Token → ℕ → Type 0 where
+  took : {t : Token} → NextToken s from sort t → Took s sort from t (t .end)
+
+data LiteralGiven (s : List ℕ) (kind from : ℕ) : ℕ → ℕ → Type 0 where
+  literalGiven : {v : ℕ} {t : Token} → DerivesLiteral s kind from v t → LiteralGiven s kind from v (t .end)
+
+data UpGiven (s : List ℕ) (kind low from : ℕ) : Ends → ℕ → Type 0 where
+  closedUp : {b : ℕ} {u : Token} → DerivesLiteral s kind from b u
+      → UpGiven s kind low from (ends kind low b false) (u .end)
+  openUp : {b : ℕ} {l u : Token} → NextToken s from less l → DerivesLiteral s kind (l .end) b u
+      → UpGiven s kind low from (ends kind low b true) (u .end)
+
+data EndsGiven (s : List ℕ) (kind from : ℕ) : Ends → ℕ → Type 0 where
+  endsGiven : {k p : ℕ} {e : Ends} → Suits kind k → DerivesEnds s k from e p → e .kind ≡ k → EndsGiven s kind from e p
+
+data ItemGiven (s : List ℕ) (kind from : ℕ) : Interval → ℕ → Type 0 where
+  itemGiven : {i : Interval} {p : ℕ} → Suits kind (i .kind) → DerivesItem s (i .kind) from (i .pair) p
+      → ItemGiven s kind from i p
+
+data RangesGiven (s : List ℕ) (left kind n : ℕ) (seen : List Pair) (from : ℕ) : Ranges → ℕ → Type 0 where
+  rangesGiven : {r : Ranges} {p : ℕ} → Suits kind (r .kind) → DerivesItems s (r .kind) n from (r .items) p
+      → length (r .items) ≤ left → Apart seen (r .items) → RangesGiven s left kind n seen from r p
+
+data StringsGiven (s : List ℕ) (left n : ℕ) (seen : List (List ℕ)) (from : ℕ) : List Text → ℕ → Type 0 where
+  stringsGiven : {l : List Text} {p : ℕ} → DerivesStrings s n from l p → length l ≤ left → Distinct seen (textsIn l)
+      → StringsGiven s left n seen from l p
+
+data StringGiven (s : List ℕ) (from : ℕ) : Token → ℕ → Type 0 where
+  stringGiven : {t : Token} → NextToken s from string t → length (inner s t) ≤ stringLimit
+      → StringGiven s from t (t .end)
+
+no-overlap : (x : Pair) (ys : List Pair) → overlaps x ys ≡ false → (y : Pair) → List·Memᴰ y ys → ¬ Meet x y
+no-overlap x ys h y m k = false-true (sym h ∙ meets ys m)
+  where
+    meets : (zs : List Pair) → List·Memᴰ y zs → overlaps x zs ≡ true
+    meets (z ∷ zs) (List·Memᴰ·head e) =
+        or-left (meet x z) (overlaps x zs) (subst (λ (w : Pair). meet x w ≡ true) e (and-both (leb (x .low) (y .high)) (leb (y .low) (x .high)) (le-leb _ _ (k .low)) (le-leb _ _ (k .high))))
+    meets (z ∷ zs) (List·Memᴰ·tail n) = or-right (meet x z) (overlaps x zs) (meets zs n)
+
+apart-overlap : (x : Pair) (ys : List Pair) → ((y : Pair) → List·Memᴰ y ys → ¬ Meet x y) → overlaps x ys ≡ false
+apart-overlap x [] h = refl
+apart-overlap x (y ∷ ys) h =
+    true-or-false (meet x y || overlaps x ys)
+    (λ e. or-cases (meet x y) (overlaps x ys) e
+    (λ f. absurd (h y (List·Memᴰ·head refl) (record { low = leb-true _ _ (and-left (leb (x .low) (y .high)) (leb (y .low) (x .high)) f); high = leb-true _ _ (and-right (leb (x .low) (y .high)) (leb (y .low) (x .high)) f) })))
+    (λ f. absurd (false-true (sym (apart-overlap x ys (λ z m. h z (List·Memᴰ·tail m))) ∙ f))))
+    (λ e. e)
+
+module _ (s : List ℕ) where
+  pub expect-gives : (sort from : ℕ) → Gives (Took s sort from) (expect s sort from)
+  unfolding expect
+  expect-gives sort from =
+      let t = tokenAt s from in
+      let P = Took s sort from in
+      cond-gives P (eqb (t .sort) sort) _ _ (λ e. got-gives P t (t .end) (took (next (eqb-true _ _ e)))) (λ e. refuse-gives P (syntaxCause t) (t .start))
+
+  literal-gives : (kind from : ℕ) → Gives (LiteralGiven s kind from) (Told.literal s kind from)
+  literal-gives kind from =
+      rw (literal-is s kind from) (then-gives (LiteralGiven s kind from) (Took s kind from) (expect s kind from) _ (expect-gives kind from) (λ t p x. go x (literalValue kind (spelling s t)) refl))
+    where
+      go : {t : Token} {p : ℕ} → Took s kind from t p → (o : Option ℕ) → literalValue kind (spelling s t) ≡ o
+          → Gives (LiteralGiven s kind from) (firstIn (possible t o))
+      go {t} x none e = refuse-gives (LiteralGiven s kind from) Impossible (t .start)
+      go {t} (took n) (some v) e = got-gives (LiteralGiven s kind from) v (t .end) (literalGiven (literal n e))
+
+  up-gives : (kind low from : ℕ) → Gives (UpGiven s kind low from) (Told.upTo s kind low from)
+  up-gives kind low from =
+      let t = tokenAt s from in
+      let P = UpGiven s kind low from in
+      rw (up-is s kind low from) (cond-gives P (eqb (t .sort) less) _ _
+      (λ e. then-gives P (LiteralGiven s kind (t .end)) (Told.literal s kind (t .end)) _ (literal-gives kind (t .end)) (λ b p x. opened (next (eqb-true _ _ e)) x))
+      (λ e. then-gives P (LiteralGiven s kind from) (Told.literal s kind from) _ (literal-gives kind from) (λ b p x. shut x)))
+    where
+      opened : {l : Token} {b p : ℕ} → NextToken s from less l → LiteralGiven s kind (l .end) b p
+          → Gives (UpGiven s kind low from) (got (ends kind low b true) p)
+      opened n (literalGiven x) = got-gives (UpGiven s kind low from) _ _ (openUp n x)
+
+      shut : {b p : ℕ} → LiteralGiven s kind from b p → Gives (UpGiven s kind low from) (got (ends kind low b false) p)
+      shut (literalGiven x) = got-gives (UpGiven s kind low from) _ _ (closedUp x)
+
+  -- behind `|>a` and behind `|a`
+  above-gives : {kind k from a : ℕ} {g t : Token} → Suits kind k → NextToken s from greater g
+      → DerivesLiteral s k (g .end) a t
+      → Gives (EndsGiven s kind from) (Told.above s k a (t .end))
+  above-gives {kind} {k} {from} {a} {g} {t} q n x =
+      let d = tokenAt s (t .end) in
+      let P = EndsGiven s kind from in
+      rw (above-is s k a (t .end)) (cond-gives P (eqb (d .sort) dots) _ _
+      (λ e. gives-map (UpGiven s k (after k a) (d .end)) P _ (λ f p y. made (next (eqb-true _ _ e)) y) (up-gives k (after k a) (d .end)))
+      (λ e. got-gives P (ends k (after k a) (most k) false) (t .end) (endsGiven q (LeafGrammar.above n x) refl)))
+    where
+      made : {d : Token} {f : Ends} {p : ℕ} → NextToken s (t .end) dots d → UpGiven s k (after k a) (d .end) f p
+          → EndsGiven s kind from f p
+      made m (closedUp y) = endsGiven q (LeafGrammar.openLow n x m y) refl
+      made m (openUp l y) = endsGiven q (LeafGrammar.openBoth n x m l y) refl
+
+  from-gives : {kind k from a : ℕ} {t : Token} → Suits kind k → DerivesLiteral s k from a t
+      → Gives (EndsGiven s kind from) (Told.from s k a (t .end))
+  from-gives {kind} {k} {from} {a} {t} q x =
+      let d = tokenAt s (t .end) in
+      let P = EndsGiven s kind from in
+      rw (from-is s k a (t .end), spread-is s a (d .end)) (cond-gives P (eqb (d .sort) dots) _ _
+      (λ e. gives-map (UpGiven s k a (d .end)) P _ (λ f p y. made (next (eqb-true _ _ e)) y) (up-gives k a (d .end)))
+      (λ e. cond-gives P (eqb (d .sort) plusMinus) _ _
+      (λ f. cond-gives P (eqb k date) _ _ (λ g. refuse-gives P (syntaxCause d) (d .start))
+      (λ g. then-gives P (LiteralGiven s integer (d .end)) (Told.literal s integer (d .end)) _ (literal-gives integer (d .end)) (λ v p y.
+      unless-gives P (cond (inside a v) false true) OutOfRange (tokenAt s (d .end) .start) _ (λ i.
+      got-gives P (ends integer (around a v .low) (around a v .high) false) p (spreads (next (eqb-true _ _ f)) (whole k (suits-kind q) g) y (held (inside a v) i))))))
+      (λ f. got-gives P (ends k a a false) (t .end) (endsGiven q (LeafGrammar.point x) refl))))
+    where
+      made : {d : Token} {f : Ends} {p : ℕ} → NextToken s (t .end) dots d → UpGiven s k a (d .end) f p
+          → EndsGiven s kind from f p
+      made m (closedUp y) = endsGiven q (LeafGrammar.closedEnds x m y) refl
+      made m (openUp l y) = endsGiven q (LeafGrammar.openHigh x m l y) refl
+
+      whole : (j : ℕ) → Kind j → eqb j date ≡ false → j ≡ integer
+      whole j isInteger g = refl
+      whole j isDate g = absurd (false-true (sym g))
+
+      held : (b : Bool) → cond b false true ≡ false → b ≡ true
+      held true i = refl
+      held false i = sym i
+
+      spreads : {m : Token} {v p : ℕ} → NextToken s (t .end) plusMinus m → k ≡ integer
+          → LiteralGiven s integer (m .end) v p → inside a v ≡ true
+          → EndsGiven s kind from (ends integer (around a v .low) (around a v .high) false) p
+      spreads m e (literalGiven y) i = endsGiven q (LeafGrammar.spread e x m y i) (sym e)
+
+  with-gives : (kind at : ℕ) (go : ℕ → ℕ → ℕ → Reading Ends) (P : Ends → ℕ → Type 0) → Asked kind
+      → ((k a : ℕ) (t : Token) → Suits kind k → DerivesLiteral s k at a t → Gives P (go k a (t .end)))
+      → Gives P (withLiteral s kind at go)
+  with-gives kind at go P w f =
+      let k = kindBy kind (tokenAt s at) in
+      then-gives P (LiteralGiven s k at) (Told.literal s k at) _ (literal-gives k at) (λ a p x. made (decided w (tokenAt s at)) x)
+    where
+      made : {k a p : ℕ} → Suits kind k → LiteralGiven s k at a p → Gives P (go k a p)
+      made {k} {a} q (literalGiven {t = t} x) = f k a t q x
+
+  between-gives : (kind at : ℕ) → Asked kind → Gives (EndsGiven s kind at) (between s kind at)
+  between-gives kind at w =
+      let t = tokenAt s at in
+      let P = EndsGiven s kind at in
+      rw (between-is s kind at) (cond-gives P (eqb (t .sort) greater) _ _
+      (λ e. with-gives kind (t .end) (Told.above s) P w (λ k a u q x. above-gives q (next (eqb-true _ _ e)) x))
+      (λ e. cond-gives P (eqb (t .sort) less) _ _
+      (λ f. with-gives kind (t .end) (λ k a p. got (ends k (least k) a true) p) P w (λ k a u q x. got-gives P _ _ (endsGiven q (LeafGrammar.below (next (eqb-true _ _ f)) x) refl)))
+      (λ f. cond-gives P (eqb (t .sort) atMost) _ _
+      (λ g. with-gives kind (t .end) (λ k a p. got (ends k (least k) a false) p) P w (λ k a u q x. got-gives P _ _ (endsGiven q (LeafGrammar.upTo (next (eqb-true _ _ g)) x) refl)))
+      (λ g. cond-gives P (eqb (t .sort) atLeast) _ _
+      (λ h. with-gives kind (t .end) (λ k a p. got (ends k a (most k) false) p) P w (λ k a u q x. got-gives P _ _ (endsGiven q (LeafGrammar.from (next (eqb-true _ _ h)) x) refl)))
+      (λ h. with-gives kind at (Told.from s) P w (λ k a u q x. from-gives q x))))))
+
+data StartGiven (s : List ℕ) (kind from : ℕ) : Start → ℕ → Type 0 where
+  barStart : {place : ℕ} {o : Token} → NextToken s from bar o
+      → StartGiven s kind from (record { place = place; single = false; value = 0 }) (o .end)
+  valueStart : {place v : ℕ} {t : Token} → Suits kind integer → DerivesLiteral s integer from v t
+      → StartGiven s kind from (record { place = place; single = true; value = v }) (t .end)
+
+-- a kind that a value may have
+value-suits : {k : ℕ} → Asked k → eqb k date ≡ false → Suits k integer
+value-suits unasked e = newly isInteger
+value-suits (asked isInteger) e = kept isInteger
+value-suits (asked isDate) e = absurd (false-true (sym e))
+
+-- a decided kind stays
+no-kind : ¬ Kind undecided
+no-kind = elim [ ]
+
+one-kind : {k j : ℕ} → Kind k → Suits k j → k ≡ j
+one-kind x (kept y) = refl
+one-kind x (newly y) = absurd (no-kind x)
+
+first-kind : {k j i : ℕ} → Suits k j → Suits j i → Suits k i
+first-kind {k} x y = subst (Suits k) (one-kind (suits-kind x) y) x
+
+not-true-false : (b : Bool) → not b ≡ true → b ≡ false
+not-true-false true e = sym e
+not-true-false false e = refl
+
+module _ (s : List ℕ) where
+  start-gives : (kind from : ℕ) → Asked kind → Gives (StartGiven s kind from) (start s kind from)
+  start-gives kind from w =
+      let t = tokenAt s from in
+      let P = StartGiven s kind from in
+      rw (start-is s kind from) (cond-gives P (eqb (t .sort) bar) _ _
+      (λ e. got-gives P (record { place = t .start; single = false; value = 0 }) (t .end) (barStart (next (eqb-true _ _ e))))
+      (λ e. cond-gives P (eqb (t .sort) integer && not (eqb kind date)) _ _
+      (λ f. then-gives P (LiteralGiven s integer from) (Told.literal s integer from) _ (literal-gives s integer from) (λ v p x.
+      got-gives P (record { place = t .start; single = true; value = v }) p (made (value-suits w (not-true-false (eqb kind date) (and-right (eqb (t .sort) integer) (not (eqb kind date)) f))) x)))
+      (λ f. refuse-gives P (syntaxCause t) (t .start))))
+    where
+      made : {place v p : ℕ} → Suits kind integer → LiteralGiven s integer from v p
+          → StartGiven s kind from (record { place = place; single = true; value = v }) p
+      made q (literalGiven x) = valueStart q x
+
+  interval-gives : (kind from : ℕ) (o : Token) → NextToken s from bar o → Asked kind
+      → Gives (ItemGiven s kind from) (interval s kind (o .end))
+  interval-gives kind from o n w =
+      let P = ItemGiven s kind from in
+      rw (interval-is s kind (o .end)) (then-gives P (EndsGiven s kind (o .end)) (between s kind (o .end)) _ (between-gives s kind (o .end) w) (λ e p x.
+      then-gives P (Took s bar p) (expect s bar p) _ (expect-gives s bar p) (λ t q y.
+      unless-gives P (empty e) EmptyInterval (t .start) _ (λ z. got-gives P (record { kind = e .kind; pair = closed e }) q (made x y z)))))
+    where
+      made : {e : Ends} {p q : ℕ} {t : Token} → EndsGiven s kind (o .end) e p → Took s bar p t q → empty e ≡ false
+          → ItemGiven s kind from (record { kind = e .kind; pair = closed e }) q
+      made {e} {p} (endsGiven j d f) (took b) z = itemGiven (subst (Suits kind) (sym f) j) (anInterval n (subst (λ k. DerivesEnds s k (o .end) e p) (sym f) d) b z)
+
+  item-gives : (kind from p : ℕ) (x : Start) → Asked kind → StartGiven s kind from x p
+      → Gives (ItemGiven s kind from) (item s kind x p)
+  item-gives kind from p x w (barStart {o = o} n) = interval-gives kind from o n w
+  item-gives kind from p x w (valueStart q l) = got-gives (ItemGiven s kind from) _ _ (itemGiven q (aValue refl l))
+
+  ranges-gives : (left kind n : ℕ) (seen : List Pair) (from : ℕ) → Asked kind
+      → Gives (RangesGiven s left kind n seen from) (ranges s left kind n seen from)
+  ranges-gives zero kind n seen from w =
+      let P = RangesGiven s 0 kind n seen from in
+      rw (ranges-none s kind n seen from) (then-gives P (StartGiven s kind from) (start s kind from) _ (start-gives kind from w) (λ x p y. refuse-gives P TooManyItems (x .place)))
+  ranges-gives (suc left) kind n seen from w =
+      let P = RangesGiven s (suc left) kind n seen from in
+      rw (ranges-some s left kind n seen from) (then-gives P (StartGiven s kind from) (start s kind from) _ (start-gives kind from w) (λ x p y.
+      unless-gives P (eqb n recordLimit) TooManyRecords (x .place) _ (λ a.
+      then-gives P (ItemGiven s kind from) (item s kind x p) _ (item-gives kind from p x w y) (λ i q z.
+      unless-gives P (overlaps (i .pair) seen) Overlap (x .place) _ (λ b.
+      cond-gives P (eqb (tokenAt s q .sort) comma) _ _
+      (λ e. then-gives P (RangesGiven s left (i .kind) (n + 1) (i .pair ∷ seen) (tokenAt s q .end)) (ranges s left (i .kind) (n + 1) (i .pair ∷ seen) (tokenAt s q .end)) _
+      (ranges-gives left (i .kind) (n + 1) (i .pair ∷ seen) (tokenAt s q .end) (asked (item-kind z)))
+      (λ l r u. got-gives P (record { kind = l .kind; items = range n (i .pair) ∷ l .items }) r (more (eqb-false _ _ a) z (no-overlap (i .pair) seen b) (next (eqb-true _ _ e)) u)))
+      (λ e. got-gives P (record { kind = i .kind; items = range n (i .pair) ∷ [] }) q (last (eqb-false _ _ a) z (no-overlap (i .pair) seen b))))))))
+    where
+      item-kind : {i : Interval} {q : ℕ} → ItemGiven s kind from i q → Kind (i .kind)
+      item-kind (itemGiven j d) = suits-kind j
+
+      last : {i : Interval} {q : ℕ} → n ≢ recordLimit → ItemGiven s kind from i q
+          → ((y : Pair) → List·Memᴰ y seen → ¬ Meet (i .pair) y)
+          → RangesGiven s (suc left) kind n seen from (record { kind = i .kind; items = range n (i .pair) ∷ [] }) q
+      last a (itemGiven j d) b = rangesGiven j (lastItem a d) (omega arith) (newItem b noItem)
+
+      more : {i : Interval} {q r : ℕ} {c : Token} {l : Ranges} → n ≢ recordLimit → ItemGiven s kind from i q
+          → ((y : Pair) → List·Memᴰ y seen → ¬ Meet (i .pair) y) → NextToken s q comma c
+          → RangesGiven s left (i .kind) (n + 1) (i .pair ∷ seen) (c .end) l r
+          → RangesGiven s (suc left) kind n seen from (record { kind = l .kind; items = range n (i .pair) ∷ l .items }) r
+      more {i} {q} a (itemGiven j d) b m (rangesGiven f g h k) =
+          rangesGiven (first-kind j f) (moreItems a (subst (λ u. DerivesItem s u from (i .pair) q) (one-kind (suits-kind j) f) d) m g) (omega arith) (newItem b k)
+
+  string-gives : (from : ℕ) → Gives (StringGiven s from) (startString s from)
+  string-gives from =
+      let P = StringGiven s from in
+      rw (start-string-is s from) (then-gives P (Took s string from) (expect s string from) _ (expect-gives s string from) (λ t p x.
+      unless-gives P (ltb stringLimit (length (inner s t))) TooLong (t .start) _ (λ l. got-gives P t p (made x (ltb-false _ _ l)))))
+    where
+      made : {t : Token} {p : ℕ} → Took s string from t p → length (inner s t) ≤ stringLimit → StringGiven s from t p
+      made (took n) l = stringGiven n l
+
+  strings-gives : (left n : ℕ) (seen : List (List ℕ)) (from : ℕ)
+      → Gives (StringsGiven s left n seen from) (strings s left n seen from)
+  unfolding textsIn
+  strings-gives zero n seen from =
+      let P = StringsGiven s 0 n seen from in
+      rw (strings-none s n seen from) (then-gives P (StringGiven s from) (startString s from) _ (string-gives from) (λ t p x. refuse-gives P TooManyItems (t .start)))
+  strings-gives (suc left) n seen from =
+      let P = StringsGiven s (suc left) n seen from in
+      rw (strings-some s left n seen from) (then-gives P (StringGiven s from) (startString s from) _ (string-gives from) (λ t p x.
+      unless-gives P (eqb n recordLimit) TooManyRecords (t .start) _ (λ a.
+      unless-gives P (listed (inner s t) seen) Overlap (t .start) _ (λ b.
+      cond-gives P (eqb (tokenAt s p .sort) comma) _ _
+      (λ e. then-gives P (StringsGiven s left (n + 1) (inner s t ∷ seen) (tokenAt s p .end)) (strings s left (n + 1) (inner s t ∷ seen) (tokenAt s p .end)) _
+      (strings-gives left (n + 1) (inner s t ∷ seen) (tokenAt s p .end))
+      (λ l r u. got-gives P (record { number = n; text = inner s t } ∷ l) r (more x (eqb-false _ _ a) (listed-not _ _ b) (next (eqb-true _ _ e)) u)))
+      (λ e. got-gives P (record { number = n; text = inner s t } ∷ []) p (last x (eqb-false _ _ a) (listed-not _ _ b)))))))
+    where
+      last : {t : Token} {p : ℕ} → StringGiven s from t p → n ≢ recordLimit → ¬ List·Memᴰ (inner s t) seen
+          → StringsGiven s (suc left) n seen from (record { number = n; text = inner s t } ∷ []) p
+      last (stringGiven m l) a b = stringsGiven (lastString m l a) (omega arith) (newName b noName)
+
+      more : {t d : Token} {p r : ℕ} {l : List Text} → StringGiven s from t p → n ≢ recordLimit
+          → ¬ List·Memᴰ (inner s t) seen → NextToken s p comma d
+          → StringsGiven s left (n + 1) (inner s t ∷ seen) (d .end) l r
+          → StringsGiven s (suc left) n seen from (record { number = n; text = inner s t } ∷ l) r
+      more (stringGiven m l) a b e (stringsGiven f g h) = stringsGiven (moreStrings m l a e f) (omega arith) (newName b h)
+
+  boolean-of : (from : ℕ) → isBoolean (tokenAt s from) ≡ true
+      → Boolean s from (booleanFlag (tokenAt s from)) (tokenAt s from)
+  boolean-of from h =
+      let t = tokenAt s from in
+      by-cond (λ (b : ℕ). Boolean s from b t) (eqb (t .sort) trueWord) (λ e. aTrue (next (eqb-true _ _ e)))
+      (λ e. or-cases (eqb (t .sort) trueWord) (eqb (t .sort) falseWord) h (λ f. absurd (false-true (sym e ∙ f))) (λ f. aFalse (next (eqb-true _ _ f))))
+
+  leaf-gives : (n from : ℕ) → Gives (DerivesLeaf s n from) (leaf s n from)
+  leaf-gives n from =
+      let t = tokenAt s from in
+      let u = tokenAt s (t .end) in
+      let v = tokenAt s (u .end) in
+      let P = DerivesLeaf s n from in
+      rw (leaf-is s n from, boolean-is s n t, second-is s n (booleanFlag t) (u .end)) (cond-gives P (isBoolean t) _ _
+      (λ e. unless-gives P (eqb n recordLimit) TooManyRecords (t .start) _ (λ a.
+      cond-gives P (eqb (u .sort) comma) _ _
+      (λ f. cond-gives P (isBoolean v) _ _
+      (λ g. unless-gives P (eqb (booleanFlag v) (booleanFlag t)) Overlap (v .start) _ (λ b.
+      got-gives P (single booleans n 3) (v .end) (LeafGrammar.twoBooleans (eqb-false _ _ a) (boolean-of from e) (next (eqb-true _ _ f)) (boolean-of (u .end) g) (eqb-false _ _ b))))
+      (λ g. refuse-gives P (syntaxCause v) (v .start)))
+      (λ f. got-gives P (single booleans n (booleanFlag t)) (t .end) (LeafGrammar.oneBoolean (eqb-false _ _ a) (boolean-of from e)))))
+      (λ e. cond-gives P (eqb (t .sort) integer || eqb (t .sort) bar) _ _
+      (λ f. then-gives P (RangesGiven s itemLimit undecided n [] from) (ranges s itemLimit undecided n [] from) _ (ranges-gives itemLimit undecided n [] from unasked) (λ l p x. got-gives P (rangeLeaf l) p (items x)))
+      (λ f. cond-gives P (eqb (t .sort) string) _ _
+      (λ g. then-gives P (StringsGiven s itemLimit n [] from) (strings s itemLimit n [] from) _ (strings-gives itemLimit n [] from) (λ l p x. got-gives P (Constraints.texts l) p (texts x)))
+      (λ g. cond-gives P (within 31 35 (t .sort)) _ _
+      (λ h. unless-gives P (eqb n recordLimit) TooManyRecords (t .start) _ (λ a.
+      let x : 31 ≤ t .sort = leb-true _ _ (and-left (leb 31 (t .sort)) (leb (t .sort) 35) h) in
+      let y : t .sort ≤ 35 = leb-true _ _ (and-right (leb 31 (t .sort)) (leb (t .sort) 35) h) in
+      got-gives P (single datePattern n (t .sort - 30)) (t .end) (LeafGrammar.aDatePattern (eqb-false _ _ a) (omega arith) (omega arith) (next (omega arith)))))
+      (λ h. cond-gives P (within 41 44 (t .sort)) _ _
+      (λ i. unless-gives P (eqb n recordLimit) TooManyRecords (t .start) _ (λ a.
+      let x : 41 ≤ t .sort = leb-true _ _ (and-left (leb 41 (t .sort)) (leb (t .sort) 44) i) in
+      let y : t .sort ≤ 44 = leb-true _ _ (and-right (leb 41 (t .sort)) (leb (t .sort) 44) i) in
+      got-gives P (single timePattern n (t .sort - 40)) (t .end) (LeafGrammar.aTimePattern (eqb-false _ _ a) (omega arith) (omega arith) (next (omega arith)))))
+      (λ i. refuse-gives P (syntaxCause t) (t .start)))))))
+    where
+      by-kind : (k : ℕ) (l : List Range) (p : ℕ) → Kind k → DerivesItems s k n from l p → length l ≤ itemLimit
+          → Apart [] l → DerivesLeaf s n from (rangeLeaf (record { kind = k; items = l })) p
+      by-kind k l p isInteger d a b = LeafGrammar.integerItems d a b
+      by-kind k l p isDate d a b = LeafGrammar.dateItems d a b
+
+      items : {l : Ranges} {p : ℕ} → RangesGiven s itemLimit undecided n [] from l p
+          → DerivesLeaf s n from (rangeLeaf l) p
+      items {l} {p} (rangesGiven j d a b) = by-kind (l .kind) (l .items) p (suits-kind j) d a b
+
+      texts : {l : List Text} {p : ℕ} → StringsGiven s itemLimit n [] from l p
+          → DerivesLeaf s n from (Constraints.texts l) p
+      texts (stringsGiven d a b) = LeafGrammar.stringItems d a b
+
+-- the other way round: what is derived is read
+pub expect-got : {s : List ℕ} {sort from : ℕ} {t : Token} → NextToken s from sort t
+    → expect s sort from ≡ got t (t .end)
+unfolding expect
+expect-got {sort = sort} (next e) = rw (other e sort, eq-eqb sort sort refl)
+
+literal-got : {s : List ℕ} {kind from v : ℕ} {t : Token} → DerivesLiteral s kind from v t
+    → Told.literal s kind from ≡ got v (t .end)
+literal-got {s} {kind} {from} (literal n e) = rw (literal-is s kind from, expect-got n, e)
+
+literal-sort : {s : List ℕ} {kind from v : ℕ} {t : Token} → DerivesLiteral s kind from v t → tokenAt s from .sort ≡ kind
+literal-sort (literal (next e) h) = e
+
+-- the kind that a literal decides
+kind-got : {k j : ℕ} (t : Token) → Suits k j → t .sort ≡ j → kindBy k t ≡ j
+kind-got t (kept isInteger) e = refl
+kind-got t (kept isDate) e = refl
+kind-got t (newly isInteger) e = rw (other e date)
+kind-got t (newly isDate) e = rw (other e date)
+
+with-got : (s : List ℕ) (kind k at a : ℕ) (t : Token) (go : ℕ → ℕ → ℕ → Reading Ends) → Suits kind k
+    → DerivesLiteral s k at a t → withLiteral s kind at go ≡ go k a (t .end)
+with-got s kind k at a t go q x = rw (kind-got (tokenAt s at) q (literal-sort x), literal-got x)
+
+-- a literal's token is no mark
+mark-not : {k : ℕ} → Kind k → (a m : ℕ) → a ≡ k → eqb integer m ≡ false → eqb date m ≡ false → eqb a m ≡ false
+mark-not isInteger a m e f g = other e m ∙ f
+mark-not isDate a m e f g = other e m ∙ g
+
+closed-got : {s : List ℕ} {kind from b : ℕ} {u : Token} (low : ℕ) → Kind kind → DerivesLiteral s kind from b u
+    → Told.upTo s kind low from ≡ got (ends kind low b false) (u .end)
+closed-got {s} {kind} {from} low q x = rw (up-is s kind low from, mark-not q _ less (literal-sort x) refl refl, literal-got x)
+
+open-got : {s : List ℕ} {kind from b : ℕ} {l u : Token} (low : ℕ) → NextToken s from less l
+    → DerivesLiteral s kind (l .end) b u
+    → Told.upTo s kind low from ≡ got (ends kind low b true) (u .end)
+open-got {s} {kind} {from} low (next e) x = rw (up-is s kind low from, other e less, literal-got x)
+
+-- what stands first between the bars
+between-greater : {s : List ℕ} {at : ℕ} {g : Token} (kind : ℕ) → NextToken s at greater g
+    → between s kind at ≡ withLiteral s kind (g .end) (Told.above s)
+between-greater {s} {at} kind (next e) = rw (between-is s kind at, other e greater)
+
+between-less : {s : List ℕ} {at : ℕ} {g : Token} (kind : ℕ) → NextToken s at less g
+    → between s kind at ≡ withLiteral s kind (g .end) (λ k a p. got (ends k (least k) a true) p)
+between-less {s} {at} kind (next e) = rw (between-is s kind at, other e greater, other e less)
+
+between-most : {s : List ℕ} {at : ℕ} {g : Token} (kind : ℕ) → NextToken s at atMost g
+    → between s kind at ≡ withLiteral s kind (g .end) (λ k a p. got (ends k (least k) a false) p)
+between-most {s} {at} kind (next e) = rw (between-is s kind at, other e greater, other e less, other e atMost)
+
+between-least : {s : List ℕ} {at : ℕ} {g : Token} (kind : ℕ) → NextToken s at atLeast g
+    → between s kind at ≡ withLiteral s kind (g .end) (λ k a p. got (ends k a (most k) false) p)
+between-least {s} {at} kind (next e) = rw (between-is s kind at, other e greater, other e less, other e atMost, other e atLeast)
+
+between-literal : {s : List ℕ} {k at a : ℕ} {t : Token} (kind : ℕ) → Kind k → DerivesLiteral s k at a t
+    → between s kind at ≡ withLiteral s kind at (Told.from s)
+between-literal {s} {k} {at} kind q x =
+    let e = literal-sort x in
+    rw (between-is s kind at, mark-not q _ greater e refl refl, mark-not q _ less e refl refl, mark-not q _ atMost e refl refl, mark-not q _ atLeast e refl refl)
+
+-- what stands behind `|>a`, and behind `|a`
+above-dots : {s : List ℕ} {at : ℕ} {d : Token} (k a : ℕ) → NextToken s at dots d
+    → Told.above s k a at ≡ Told.upTo s k (after k a) (d .end)
+above-dots {s} {at} k a (next e) = rw (above-is s k a at, other e dots)
+
+above-bar : {s : List ℕ} {at : ℕ} {d : Token} (k a : ℕ) → NextToken s at bar d
+    → Told.above s k a at ≡ got (ends k (after k a) (most k) false) at
+above-bar {s} {at} k a (next e) = rw (above-is s k a at, other e dots)
+
+from-dots : {s : List ℕ} {at : ℕ} {d : Token} (k a : ℕ) → NextToken s at dots d
+    → Told.from s k a at ≡ Told.upTo s k a (d .end)
+from-dots {s} {at} k a (next e) = rw (from-is s k a at, other e dots)
+
+from-bar : {s : List ℕ} {at : ℕ} {d : Token} (k a : ℕ) → NextToken s at bar d
+    → Told.from s k a at ≡ got (ends k a a false) at
+from-bar {s} {at} k a (next e) = rw (from-is s k a at, other e dots, other e plusMinus)
+
+from-spread : {s : List ℕ} {at v : ℕ} {m u : Token} (k a : ℕ) → k ≡ integer → NextToken s at plusMinus m
+    → DerivesLiteral s integer (m .end) v u → inside a v ≡ true
+    → Told.from s k a at ≡ got (ends integer (around a v .low) (around a v .high) false) (u .end)
+from-spread {s} {at} k a i (next e) x h = rw (from-is s k a at, other e dots, other e plusMinus, other i date, spread-is s a (tokenAt s at .end), literal-got x, h)
+
+module _ (s : List ℕ) (kind k : ℕ) (q : Suits kind k) where
+  greater-got : (at a : ℕ) (g t : Token) → NextToken s at greater g → DerivesLiteral s k (g .end) a t
+      → between s kind at ≡ Told.above s k a (t .end)
+  greater-got at a g t n x = between-greater kind n ∙ with-got s kind k (g .end) a t (Told.above s) q x
+
+  literal-first : (at a : ℕ) (t : Token) → DerivesLiteral s k at a t → between s kind at ≡ Told.from s k a (t .end)
+  literal-first at a t x = between-literal kind (suits-kind q) x ∙ with-got s kind k at a t (Told.from s) q x
+
+  ends-got : (at p : ℕ) (z : Token) (e : Ends) → DerivesEnds s k at e p → NextToken s p bar z
+      → between s kind at ≡ got e p
+  ends-got at p z e (LeafGrammar.point {a = a} {t = t} x) b = literal-first at a t x ∙ from-bar k a b
+  ends-got at p z e (LeafGrammar.closedEnds {a = a} {t = t} x d y) b = literal-first at a t x ∙ (from-dots k a d ∙ closed-got a (suits-kind q) y)
+  ends-got at p z e (LeafGrammar.openHigh {a = a} {t = t} x d l y) b = literal-first at a t x ∙ (from-dots k a d ∙ open-got a l y)
+  ends-got at p z e (LeafGrammar.openLow {a = a} {g = g} {t = t} n x d y) b = greater-got at a g t n x ∙ (above-dots k a d ∙ closed-got (after k a) (suits-kind q) y)
+  ends-got at p z e (LeafGrammar.openBoth {a = a} {g = g} {t = t} n x d l y) b = greater-got at a g t n x ∙ (above-dots k a d ∙ open-got (after k a) l y)
+  ends-got at p z e (LeafGrammar.spread {a = a} {t = t} i x m y h) b = literal-first at a t x ∙ from-spread k a i m y h
+  ends-got at p z e (LeafGrammar.below {a = a} {l = g} {t = t} n x) b = between-less kind n ∙ with-got s kind k (g .end) a t (λ j v r. got (ends j (least j) v true) r) q x
+  ends-got at p z e (LeafGrammar.above {a = a} {g = g} {t = t} n x) b = greater-got at a g t n x ∙ above-bar k a b
+  ends-got at p z e (LeafGrammar.upTo {a = a} {l = g} {t = t} n x) b = between-most kind n ∙ with-got s kind k (g .end) a t (λ j v r. got (ends j (least j) v false) r) q x
+  ends-got at p z e (LeafGrammar.from {a = a} {g = g} {t = t} n x) b = between-least kind n ∙ with-got s kind k (g .end) a t (λ j v r. got (ends j v (most j) false) r) q x
+
+ends-kind : {s : List ℕ} {k at p : ℕ} {e : Ends} → DerivesEnds s k at e p → e .kind ≡ k
+ends-kind (LeafGrammar.point x) = refl
+ends-kind (LeafGrammar.closedEnds x d y) = refl
+ends-kind (LeafGrammar.openHigh x d l y) = refl
+ends-kind (LeafGrammar.openLow n x d y) = refl
+ends-kind (LeafGrammar.openBoth n x d l y) = refl
+ends-kind (LeafGrammar.spread i x m y h) = sym i
+ends-kind (LeafGrammar.below n x) = refl
+ends-kind (LeafGrammar.above n x) = refl
+ends-kind (LeafGrammar.upTo n x) = refl
+ends-kind (LeafGrammar.from n x) = refl
+
+-- an item by its first token and the rest
+record ItemGot (s : List ℕ) (kind k from : ℕ) (x : Pair) (p : ℕ) : Type 0 where
+  opening : Start
+  middle : ℕ
+  begins : start s kind from ≡ got opening middle
+  ends : item s kind opening middle ≡ got (record { kind = k; pair = x }) p
+
+value-kind : {kind k : ℕ} → Suits kind k → k ≡ integer → eqb kind date ≡ false
+value-kind (kept isInteger) e = refl
+value-kind (kept isDate) e = absurd (omega arith)
+value-kind (newly x) e = refl
+
+value-start : (s : List ℕ) (kind from v : ℕ) (t : Token) → eqb kind date ≡ false → DerivesLiteral s integer from v t
+    → start s kind from ≡ got (record { place = tokenAt s from .start; single = true; value = v }) (t .end)
+value-start s kind from v t d x = let e = literal-sort x in rw (start-is s kind from, other e bar, other e integer, d, literal-got x)
+
+bar-start : (s : List ℕ) (kind from : ℕ) (o : Token) → NextToken s from bar o
+    → start s kind from ≡ got (record { place = o .start; single = false; value = 0 }) (o .end)
+bar-start s kind from o (next e) = rw (start-is s kind from, other e bar)
+
+interval-got : (s : List ℕ) (kind k at p : ℕ) (z : Token) (e : Ends) → Suits kind k → DerivesEnds s k at e p
+    → NextToken s p bar z → empty e ≡ false
+    → interval s kind at ≡ got (record { kind = k; pair = closed e }) (z .end)
+interval-got s kind k at p z e q d b h = rw (interval-is s kind at, ends-got s kind k q at p z e d b, expect-got b, h, ends-kind d)
+
+item-got : (s : List ℕ) (kind k from : ℕ) (x : Pair) (p : ℕ) → Suits kind k → DerivesItem s k from x p
+    → ItemGot s kind k from x p
+item-got s kind k from x p q (aValue {v = v} {t = t} i l) =
+    record { opening = record { place = tokenAt s from .start; single = true; value = v }; middle = t .end; begins = value-start s kind from v t (value-kind q i) l; ends = rw i }
+item-got s kind k from x p q (anInterval {e = e} {p = r} {o = o} {z = z} n d b h) =
+    record { opening = record { place = o .start; single = false; value = 0 }; middle = o .end; begins = bar-start s kind from o n; ends = interval-got s kind k (o .end) r z e q d b h }
+
+last-got : (s : List ℕ) (left kind k n : ℕ) (seen : List Pair) (from p m : ℕ) (x : Pair) (o : Start) (z : Token)
+    → start s kind from ≡ got o m
+    → item s kind o m ≡ got (record { kind = k; pair = x }) p
+    → n ≢ recordLimit
+    → overlaps x seen ≡ false
+    → NextToken s p closeBrace z
+    → ranges s (suc left) kind n seen from ≡ got (record { kind = k; items = range n x ∷ [] }) p
+last-got s left kind k n seen from p m x o z a b c d (next e) = rw (ranges-some s left kind n seen from, a, ne-eqb n recordLimit c, b, d, other e comma)
+
+more-got : (s : List ℕ) (left kind k n : ℕ) (seen : List Pair) (from p m r : ℕ) (x : Pair) (o : Start) (c : Token)
+    (l : List Range)
+    → start s kind from ≡ got o m
+    → item s kind o m ≡ got (record { kind = k; pair = x }) p
+    → n ≢ recordLimit
+    → overlaps x seen ≡ false
+    → NextToken s p comma c
+    → ranges s left k (n + 1) (x ∷ seen) (c .end) ≡ got (record { kind = k; items = l }) r
+    → ranges s (suc left) kind n seen from ≡ got (record { kind = k; items = range n x ∷ l }) r
+more-got s left kind k n seen from p m r x o c l a b d f (next e) h = rw (ranges-some s left kind n seen from, a, ne-eqb n recordLimit d, b, f, other e comma, h)
+
+apart-head : {seen : List Pair} {r : Range} {l : List Range} → Apart seen (r ∷ l) → (y : Pair) → List·Memᴰ y seen
+    → ¬ Meet (pair (r .low) (r .high)) y
+apart-head (newItem h a) = h
+
+apart-tail : {seen : List Pair} {r : Range} {l : List Range} → Apart seen (r ∷ l)
+    → Apart (pair (r .low) (r .high) ∷ seen) l
+apart-tail (newItem h a) = a
+
+ranges-got : {s : List ℕ} {k n from p : ℕ} {l : List Range} → DerivesItems s k n from l p
+    → (left kind : ℕ) (seen : List Pair) (z : Token)
+    → Suits kind k
+    → length l ≤ left
+    → Apart seen l
+    → NextToken s p closeBrace z
+    → ranges s left kind n seen from ≡ got (record { kind = k; items = l }) p
+ranges-got (lastItem c d) zero kind seen z q a b w = absurd (omega arith)
+ranges-got {s} {k} {n} {from} {p} (lastItem {x = x} c d) (suc left) kind seen z q a b w =
+    let i = item-got s kind k from x p q d in
+    last-got s left kind k n seen from p (i .middle) x (i .opening) z (i .begins) (i .ends) c (apart-overlap x seen (apart-head b)) w
+ranges-got (moreItems c d m ds) zero kind seen z q a b w = absurd (omega arith)
+ranges-got {s} {k} {n} {from} {p} (moreItems {p = r} {x = x} {c = t} {l = l} c d m ds) (suc left) kind seen z q a b w =
+    let i = item-got s kind k from x r q d in
+    more-got s left kind k n seen from r (i .middle) p x (i .opening) t l (i .begins) (i .ends) c (apart-overlap x seen (apart-head b)) m
+    (ranges-got ds left k (x ∷ seen) z (kept (suits-kind q)) (omega arith) (apart-tail b) w)
+
+string-got : {s : List ℕ} {from : ℕ} (t : Token) → NextToken s from string t → length (inner s t) ≤ stringLimit
+    → startString s from ≡ got t (t .end)
+string-got {s} {from} t n l = rw (start-string-is s from, expect-got n, le-ltb stringLimit (length (inner s t)) l)
+
+last-string : (s : List ℕ) (left n : ℕ) (seen : List (List ℕ)) (from : ℕ) (t z : Token)
+    → startString s from ≡ got t (t .end)
+    → n ≢ recordLimit
+    → ¬ List·Memᴰ (inner s t) seen
+    → NextToken s (t .end) closeBrace z
+    → strings s (suc left) n seen from ≡ got (record { number = n; text = inner s t } ∷ []) (t .end)
+last-string s left n seen from t z a b c (next e) = rw (strings-some s left n seen from, a, ne-eqb n recordLimit b, not-listed (inner s t) seen c, other e comma)
+
+more-strings : (s : List ℕ) (left n : ℕ) (seen : List (List ℕ)) (from p : ℕ) (t m : Token) (l : List Text)
+    → startString s from ≡ got t (t .end)
+    → n ≢ recordLimit
+    → ¬ List·Memᴰ (inner s t) seen
+    → NextToken s (t .end) comma m
+    → strings s left (n + 1) (inner s t ∷ seen) (m .end) ≡ got l p
+    → strings s (suc left) n seen from ≡ got (record { number = n; text = inner s t } ∷ l) p
+more-strings s left n seen from p t m l a b c (next e) h = rw (strings-some s left n seen from, a, ne-eqb n recordLimit b, not-listed (inner s t) seen c, other e comma, h)
+
+strings-got : {s : List ℕ} {n from p : ℕ} {l : List Text} → DerivesStrings s n from l p
+    → (left : ℕ) (seen : List (List ℕ)) (z : Token)
+    → length l ≤ left
+    → Distinct seen (textsIn l)
+    → NextToken s p closeBrace z
+    → strings s left n seen from ≡ got l p
+unfolding textsIn
+strings-got (lastString m c d) zero seen z a b w = absurd (omega arith)
+strings-got {s} {n} {from} (lastString {t = t} m c d) (suc left) seen z a b w = last-string s left n seen from t z (string-got t m c) d (head-new b) w
+strings-got (moreStrings m c d f ds) zero seen z a b w = absurd (omega arith)
+strings-got {s} {n} {from} {p} (moreStrings {t = t} {c = u} {l = l} m c d f ds) (suc left) seen z a b w =
+    more-strings s left n seen from p t u l (string-got t m c) d (head-new b) f (strings-got ds left (inner s t ∷ seen) z (omega arith) (tail-new b) w)
+
+-- the token with which a leaf of each sort starts
+item-starts : {s : List ℕ} {k from p : ℕ} {x : Pair} → DerivesItem s k from x p
+    → (eqb (tokenAt s from .sort) integer || eqb (tokenAt s from .sort) bar) ≡ true
+item-starts (aValue i x) = let e = literal-sort x in rw (other e integer)
+item-starts (anInterval (next e) d b h) = rw (other e integer, other e bar)
+
+items-start : {s : List ℕ} {k n from p : ℕ} {l : List Range} → DerivesItems s k n from l p
+    → (eqb (tokenAt s from .sort) integer || eqb (tokenAt s from .sort) bar) ≡ true
+items-start (lastItem c d) = item-starts d
+items-start (moreItems c d m ds) = item-starts d
+
+items-other : (a : ℕ) → (eqb a integer || eqb a bar) ≡ true → (eqb a trueWord || eqb a falseWord) ≡ false
+items-other a h =
+    or-cases (eqb a integer) (eqb a bar) h
+    (λ e. let f = eqb-true a integer e in rw (other f trueWord, other f falseWord))
+    (λ e. let f = eqb-true a bar e in rw (other f trueWord, other f falseWord))
+
+strings-start : {s : List ℕ} {n from p : ℕ} {l : List Text} → DerivesStrings s n from l p
+    → tokenAt s from .sort ≡ string
+strings-start (lastString (next e) c d) = e
+strings-start (moreStrings (next e) c d g ds) = e
+
+items-leaf : (s : List ℕ) (n from k : ℕ) (l : List Range) (p : ℕ) (z : Token) → Kind k → DerivesItems s k n from l p
+    → length l ≤ itemLimit → Apart [] l → NextToken s p closeBrace z
+    → leaf s n from ≡ got (rangeLeaf (record { kind = k; items = l })) p
+items-leaf s n from k l p z q d a b w =
+    let e = items-start d in
+    rw (leaf-is s n from, items-other (tokenAt s from .sort) e, e, ranges-got d itemLimit undecided [] z (newly q) a b w)
+
+strings-leaf : (s : List ℕ) (n from : ℕ) (l : List Text) (p : ℕ) (z : Token) → DerivesStrings s n from l p
+    → length l ≤ itemLimit → Distinct [] (textsIn l) → NextToken s p closeBrace z
+    → leaf s n from ≡ got (Constraints.texts l) p
+strings-leaf s n from l p z d a b w =
+    let e = strings-start d in
+    rw (leaf-is s n from, other e trueWord, other e falseWord, other e integer, other e bar, other e string, strings-got d itemLimit [] z a b w)
+
+one-boolean : (s : List ℕ) (n from b : ℕ) (t z : Token) → n ≢ recordLimit → Boolean s from b t
+    → NextToken s (t .end) closeBrace z → leaf s n from ≡ got (single booleans n b) (t .end)
+one-boolean s n from b t z a (aTrue (next e)) (next f) = rw (leaf-is s n from, boolean-is s n (tokenAt s from), other e trueWord, ne-eqb n recordLimit a, other f comma)
+one-boolean s n from b t z a (aFalse (next e)) (next f) = rw (leaf-is s n from, boolean-is s n (tokenAt s from), other e trueWord, other e falseWord, ne-eqb n recordLimit a, other f comma)
+
+two-booleans : (s : List ℕ) (n from a b : ℕ) (t c u : Token) → n ≢ recordLimit → Boolean s from a t
+    → NextToken s (t .end) comma c → Boolean s (c .end) b u → b ≢ a
+    → leaf s n from ≡ got (single booleans n 3) (u .end)
+two-booleans s n from a b t c u d (aTrue (next e)) (next f) (aTrue (next g)) h = absurd (h refl)
+two-booleans s n from a b t c u d (aTrue (next e)) (next f) (aFalse (next g)) h = rw (leaf-is s n from, boolean-is s n (tokenAt s from), other e trueWord, ne-eqb n recordLimit d, other f comma, second-is s n 1 (tokenAt s (tokenAt s from .end) .end), other g trueWord, other g falseWord)
+two-booleans s n from a b t c u d (aFalse (next e)) (next f) (aTrue (next g)) h = rw (leaf-is s n from, boolean-is s n (tokenAt s from), other e trueWord, other e falseWord, ne-eqb n recordLimit d, other f comma, second-is s n 2 (tokenAt s (tokenAt s from .end) .end), other g trueWord)
+two-booleans s n from a b t c u d (aFalse (next e)) (next f) (aFalse (next g)) h = absurd (h refl)
+
+-- a pattern's token is of no other sort
+module _ (s : List ℕ) (n from : ℕ) (r : n ≢ recordLimit) where
+  date-leaf : (f : ℕ) → 1 ≤ f → f ≤ 5 → tokenAt s from .sort ≡ 30 + f
+      → leaf s n from ≡ got (single datePattern n f) (tokenAt s from .end)
+  date-leaf f a b e =
+      let k = tokenAt s from .sort in
+      let v : tokenAt s from .sort - 30 ≡ f = omega arith in
+      rw (
+        leaf-is s n from,
+        ne-eqb k trueWord (λ z. omega arith),
+        ne-eqb k falseWord (λ z. omega arith),
+        ne-eqb k integer (λ z. omega arith),
+        ne-eqb k bar (λ z. omega arith),
+        ne-eqb k string (λ z. omega arith),
+        le-leb 31 k (omega arith),
+        le-leb k 35 (omega arith),
+        ne-eqb n recordLimit r,
+        v,
+      )
+
+  time-leaf : (f : ℕ) → 1 ≤ f → f ≤ 4 → tokenAt s from .sort ≡ 40 + f
+      → leaf s n from ≡ got (single timePattern n f) (tokenAt s from .end)
+  time-leaf f a b e =
+      let k = tokenAt s from .sort in
+      let v : tokenAt s from .sort - 40 ≡ f = omega arith in
+      rw (
+        leaf-is s n from,
+        ne-eqb k trueWord (λ z. omega arith),
+        ne-eqb k falseWord (λ z. omega arith),
+        ne-eqb k integer (λ z. omega arith),
+        ne-eqb k bar (λ z. omega arith),
+        ne-eqb k string (λ z. omega arith),
+        le-leb 31 k (omega arith),
+        lt-leb k 35 (omega arith),
+        le-leb 41 k (omega arith),
+        le-leb k 44 (omega arith),
+        ne-eqb n recordLimit r,
+        v,
+      )
+
+-- a leaf that is derived before a `}` is read
+pub leaf-got : (s : List ℕ) (n from : ℕ) (l : Leaf) (p : ℕ) (z : Token) → DerivesLeaf s n from l p
+    → NextToken s p closeBrace z → leaf s n from ≡ got l p
+leaf-got s n from l p z (LeafGrammar.oneBoolean {b = b} {t = t} a x) w = one-boolean s n from b t z a x w
+leaf-got s n from l p z (LeafGrammar.twoBooleans {a = a} {b = b} {t = t} {c = c} {u = u} d x m y h) w = two-booleans s n from a b t c u d x m y h
+leaf-got s n from l p z (LeafGrammar.integerItems {l = x} d a b) w = items-leaf s n from integer x p z isInteger d a b w
+leaf-got s n from l p z (LeafGrammar.dateItems {l = x} d a b) w = items-leaf s n from date x p z isDate d a b w
+leaf-got s n from l p z (LeafGrammar.stringItems {l = x} d a b) w = strings-leaf s n from x p z d a b w
+leaf-got s n from l p z (LeafGrammar.aDatePattern {f = f} r a b (next e)) w = date-leaf s n from r f a b e
+leaf-got s n from l p z (LeafGrammar.aTimePattern {f = f} r a b (next e)) w = time-leaf s n from r f a b e
+
+-- a leaf that is read is derived
+pub leaf-derives : (s : List ℕ) (n from : ℕ) (l : Leaf) (p : ℕ) → leaf s n from ≡ got l p → DerivesLeaf s n from l p
+leaf-derives s n from l p e = given (DerivesLeaf s n from) (leaf s n from) l p (leaf-gives s n from) e

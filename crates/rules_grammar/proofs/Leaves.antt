@@ -1,0 +1,253 @@
+-- What a leaf admits, by the relation and by the definition. Assumes nothing.
+use mathlib.Core.Path.{_≡_, refl, sym, ap, _∙_, subst}
+use mathlib.Core.Logic.{_≢_}
+use mathlib.Core.Bool.{Bool, true, false, _&&_, _||_}
+use mathlib.Core.Option.{Option, none, some}
+use mathlib.Core.List.{List, [], _∷_, List·Memᴰ, List·Memᴰ·head, List·Memᴰ·tail}
+use Prim.Native.Nat.{ℕ, zero, suc, _≤_, _-_}
+use native.Mathlib.Omega.{arith}
+use lib.Dec.{eqb, leb, eqb·suc-zero}
+use borrow.Author.Tests.{eqb-true, leb-true, le-leb, eq-eqb}
+use Rattle.lexis.specs.Runs.{same}
+use Rattle.lexis.proofs.Cases.{by-cond, and-left, and-right}
+use Rattle.values.specs.Integers.{integerOf}
+use Rattle.values.specs.Dates.{Date, dateOf}
+use Rattle.values.specs.Times.{timeOf}
+use Rattle.values.specs.Words.{booleanOf}
+use Rattle.values.specs.Patterns.{Part, must, may, mustNot, suits, fits, fitsDate, fitsTime, datePatterns, timePatterns}
+use Rattle.meaning.specs.Constraints.{Range, Text, Leaf, single, ranges, texts, booleans, datePattern, timePattern, integers, dates}
+use Rattle.meaning.specs.Data.{Content}
+use Rattle.meaning.specs.Data
+use Rattle.meaning.specs.Findings.{Finding, unsuited, refuted, admitted, try}
+use Rattle.meaning.specs.Sorts.{inRange, inSome, inFlag}
+use Rattle.meaning.specs.Admission.{isSome, wordUnder, stringUnder}
+use Rattle.rules_grammar.specs.Admits.{Fits, InItem, inItem, IsItem, isItem, Flagged, Readable, LeafAdmits, patternOf}
+use Rattle.rules_grammar.specs.Admits
+
+-- a truth value is one of two
+pub true-or-false : {P : Type 0} (b : Bool) → (b ≡ true → P) → (b ≡ false → P) → P
+true-or-false true f g = f refl
+true-or-false false f g = g refl
+
+pub false-true : false ≡ true → ⊥
+false-true e = let z : _≡_ {A = ℕ} 0 1 = cc in omega arith
+
+pub none-some : {A : Type 0} {a : A} → none ≡ some a → ⊥
+none-some {A} {a} e = let z : _≡_ {A = ℕ} 0 1 = cc in omega arith
+
+some-inj : {A : Type 0} {a b : A} → some a ≡ some b → a ≡ b
+some-inj {A} {a} {b} e = cc
+
+-- runs are the same where they are equal
+pub same-eq : (xs ys : List ℕ) → same xs ys ≡ true → xs ≡ ys
+unfolding same
+same-eq [] [] h = refl
+same-eq [] (y ∷ ys) h = absurd (false-true h)
+same-eq (x ∷ xs) [] h = absurd (false-true h)
+same-eq (x ∷ xs) (y ∷ ys) h =
+    let p = eqb-true x y (and-left (eqb x y) (same xs ys) h) in
+    let q = same-eq xs ys (and-right (eqb x y) (same xs ys) h) in
+    λ i. p i ∷ q i
+
+pub same-self : (xs : List ℕ) → same xs xs ≡ true
+unfolding same
+same-self [] = refl
+same-self (x ∷ xs) = rw (eq-eqb x x refl) (same-self xs)
+
+pub eq-same : (xs ys : List ℕ) → xs ≡ ys → same xs ys ≡ true
+eq-same xs ys e = rw (← e) (same-self xs)
+
+pub ne-same : (xs ys : List ℕ) → xs ≢ ys → same xs ys ≡ false
+ne-same xs ys h = true-or-false (same xs ys) (λ e. absurd (h (same-eq xs ys e))) (λ e. e)
+
+pub same-ne : (xs ys : List ℕ) → same xs ys ≡ false → xs ≢ ys
+same-ne xs ys h e = false-true (sym h ∙ eq-same xs ys e)
+
+-- either of two tests
+pub or-left : (a b : Bool) → a ≡ true → (a || b) ≡ true
+or-left true b h = refl
+or-left false b h = absurd (false-true h)
+
+pub or-right : (a b : Bool) → b ≡ true → (a || b) ≡ true
+or-right true b h = refl
+or-right false b h = h
+
+pub or-cases : {P : Type 0} (a b : Bool) → (a || b) ≡ true → (a ≡ true → P) → (b ≡ true → P) → P
+or-cases true b h f g = f refl
+or-cases false b h f g = g h
+
+pub and-both : (a b : Bool) → a ≡ true → b ≡ true → (a && b) ≡ true
+and-both true b h k = k
+and-both false b h k = h
+
+-- items
+in-item : (v : ℕ) (l : List Range) → inSome v l ≡ true → InItem v l
+unfolding inSome
+in-item v [] h = absurd (false-true h)
+in-item v (x ∷ xs) h =
+    or-cases (inRange v x) (inSome v xs) h
+    (λ e. inItem x (List·Memᴰ·head refl) (leb-true (x .low) v (and-left (leb (x .low) v) (leb v (x .high)) e)) (leb-true v (x .high) (and-right (leb (x .low) v) (leb v (x .high)) e)))
+    (λ e. more (in-item v xs e))
+  where
+    more : InItem v xs → InItem v (x ∷ xs)
+    more (inItem y m a b) = inItem y (List·Memᴰ·tail m) a b
+
+item-in : (v : ℕ) (x : Range) (l : List Range) → List·Memᴰ x l → x .low ≤ v → v ≤ x .high → inSome v l ≡ true
+unfolding inSome
+item-in v x (y ∷ ys) (List·Memᴰ·head e) a b =
+    or-left (inRange v y) (inSome v ys) (and-both _ _ (le-leb _ _ (rw e at a)) (le-leb _ _ (rw e at b)))
+item-in v x (y ∷ ys) (List·Memᴰ·tail m) a b = or-right (inRange v y) (inSome v ys) (item-in v x ys m a b)
+
+of-item : {v : ℕ} {l : List Range} → InItem v l → inSome v l ≡ true
+of-item {v} {l} (inItem x m a b) = item-in v x l m a b
+
+is-item : (w : List ℕ) (l : List Text) → isSome w l ≡ true → IsItem w l
+unfolding isSome
+is-item w [] h = absurd (false-true h)
+is-item w (x ∷ xs) h =
+    or-cases (same w (x .text)) (isSome w xs) h
+    (λ e. isItem x (List·Memᴰ·head refl) (same-eq w (x .text) e))
+    (λ e. more (is-item w xs e))
+  where
+    more : IsItem w xs → IsItem w (x ∷ xs)
+    more (isItem y m a) = isItem y (List·Memᴰ·tail m) a
+
+item-is : (w : List ℕ) (x : Text) (l : List Text) → List·Memᴰ x l → w ≡ x .text → isSome w l ≡ true
+unfolding isSome
+item-is w x (y ∷ ys) (List·Memᴰ·head e) h = or-left (same w (y .text)) (isSome w ys) (eq-same w (y .text) (h ∙ ap (λ (z : Text). z .text) e))
+item-is w x (y ∷ ys) (List·Memᴰ·tail m) h = or-right (same w (y .text)) (isSome w ys) (item-is w x ys m h)
+
+string-in : {l : List Text} {p : ℕ} {w : List ℕ} → LeafAdmits (texts l) (Data.string p w) → isSome w l ≡ true
+string-in {l} {p} {w} (LeafAdmits.string (isItem x m e)) = item-is w x l m e
+
+-- patterns, part by part
+more-parts : (p : Part) (ps : List Part) (n : ℕ) → fits (p ∷ ps) (suc n) ≡ (suits p true && fits ps n)
+unfolding fits
+more-parts p ps n = let e : suc n - 1 ≡ n = omega arith in rw (eqb·suc-zero n, e)
+
+fits-of : (ps : List Part) (n : ℕ) → fits ps n ≡ true → Fits ps n
+unfolding fits
+fits-of [] zero h = Admits.end
+fits-of [] (suc n) h = absurd (omega (arith, eqb-true (suc n) 0 h))
+fits-of (must ∷ ps) zero h = absurd (false-true h)
+fits-of (must ∷ ps) (suc n) h = Admits.letters (fits-of ps n (sym (more-parts must ps n) ∙ h))
+fits-of (may ∷ ps) zero h = Admits.mayNotBe (fits-of ps 0 h)
+fits-of (may ∷ ps) (suc n) h = Admits.mayBe (fits-of ps n (sym (more-parts may ps n) ∙ h))
+fits-of (mustNot ∷ ps) zero h = Admits.never (fits-of ps 0 h)
+fits-of (mustNot ∷ ps) (suc n) h = absurd (false-true (sym (more-parts mustNot ps n) ∙ h))
+
+of-fits : {ps : List Part} {n : ℕ} → Fits ps n → fits ps n ≡ true
+unfolding fits
+of-fits Admits.end = refl
+of-fits (Admits.letters {ps = ps} {n = n} h) = more-parts must ps n ∙ of-fits h
+of-fits (Admits.mayBe {ps = ps} {n = n} h) = more-parts may ps n ∙ of-fits h
+of-fits (Admits.mayNotBe h) = of-fits h
+of-fits (Admits.never h) = of-fits h
+
+-- flags of Booleans
+flagged-of : (f b : ℕ) → inFlag f b ≡ true → Flagged b f
+flagged-of f b h =
+    or-cases (eqb f b) (eqb f 3) h
+    (λ e. subst (λ x. Flagged b x) (sym (eqb-true f b e)) Admits.one)
+    (λ e. subst (λ x. Flagged b x) (sym (eqb-true f 3 e)) Admits.both)
+
+of-flagged : {f b : ℕ} → Flagged b f → inFlag f b ≡ true
+of-flagged {b = b} Admits.one = or-left (eqb b b) (eqb b 3) (eq-eqb b b refl)
+of-flagged {b = b} Admits.both = or-right (eqb 3 b) true refl
+
+-- how a value stands to a leaf, by the relations
+abbrev pub Stands : Leaf → Content → Finding → Type 0
+Stands l c unsuited = ¬ Readable l c
+Stands l c refuted = Readable l c × (¬ LeafAdmits l c)
+Stands l c admitted = LeafAdmits l c
+
+-- a value that is tried: unless it cannot be read, it passes the test or does not
+tried : {A : Type 0} (l : Leaf) (c : Content) (o : Option A) (test : A → Bool)
+    → ((a : A) → o ≡ some a → Readable l c)
+    → (Readable l c → (a : A) × (o ≡ some a))
+    → ((a : A) → o ≡ some a → test a ≡ true → LeafAdmits l c)
+    → (LeafAdmits l c → (a : A) × (o ≡ some a) × (test a ≡ true))
+    → Stands l c (try o test)
+tried l c none test f g h k = λ r. none-some (g r .1)
+tried {A} l c (some a) test f g h k =
+    by-cond (Stands l c) (test a)
+    (λ e. h a refl e)
+    (λ e. (f a refl, λ r. let x = k r in false-true (sym e ∙ (ap test (some-inj (x .1)) ∙ x .2))))
+
+-- a word that is read, and one that is admitted, under each kind
+boolean-read : {n f p : ℕ} {w : List ℕ} → Readable (single booleans n f) (Data.word p w)
+    → (b : ℕ) × (booleanOf w ≡ some b)
+boolean-read (Readable.boolean {b = b} e) = (b, e)
+
+boolean-in : {n f p : ℕ} {w : List ℕ} → LeafAdmits (single booleans n f) (Data.word p w)
+    → (b : ℕ) × (booleanOf w ≡ some b) × (inFlag f b ≡ true)
+boolean-in (LeafAdmits.boolean {b = b} e h) = (b, e, of-flagged h)
+
+integer-read : {l : List Range} {p : ℕ} {w : List ℕ} → Readable (ranges integers l) (Data.word p w)
+    → (v : ℕ) × (integerOf w ≡ some v)
+integer-read (Readable.integer {v = v} e) = (v, e)
+
+integer-in : {l : List Range} {p : ℕ} {w : List ℕ} → LeafAdmits (ranges integers l) (Data.word p w)
+    → (v : ℕ) × (integerOf w ≡ some v) × (inSome v l ≡ true)
+integer-in (LeafAdmits.integer {v = v} e h) = (v, e, of-item h)
+
+pattern-read : {n f p : ℕ} {w : List ℕ} → Readable (single datePattern n f) (Data.word p w)
+    → (d : Date) × (dateOf w ≡ some d)
+pattern-read (Readable.patternDate {d = d} e) = (d, e)
+
+pattern-in : {n f p : ℕ} {w : List ℕ} → LeafAdmits (single datePattern n f) (Data.word p w)
+    → (d : Date) × (dateOf w ≡ some d) × (fitsDate f (d .parts) ≡ true)
+unfolding fitsDate
+pattern-in (LeafAdmits.patternDate {d = d} e h) = (d, e, of-fits h)
+
+date-read : {l : List Range} {p : ℕ} {w : List ℕ} → Readable (ranges dates l) (Data.word p w)
+    → (d : Date) × (dateOf w ≡ some d)
+date-read (Readable.intervalDate {d = d} e) = (d, e)
+
+date-in : {l : List Range} {p : ℕ} {w : List ℕ} → LeafAdmits (ranges dates l) (Data.word p w)
+    → (d : Date) × (dateOf w ≡ some d) × ((eqb (d .parts) 3 && inSome (d .day) l) ≡ true)
+date-in (LeafAdmits.fullDate {d = d} e g h) = (d, e, and-both _ _ (eq-eqb (d .parts) 3 g) (of-item h))
+
+time-read : {n f p : ℕ} {w : List ℕ} → Readable (single timePattern n f) (Data.word p w) → (k : ℕ) × (timeOf w ≡ some k)
+time-read (Readable.time {parts = k} e) = (k, e)
+
+time-in : {n f p : ℕ} {w : List ℕ} → LeafAdmits (single timePattern n f) (Data.word p w)
+    → (k : ℕ) × (timeOf w ≡ some k) × (fitsTime f k ≡ true)
+unfolding fitsTime
+time-in (LeafAdmits.time {parts = k} e h) = (k, e, of-fits h)
+
+pub word-stands : (l : Leaf) (p : ℕ) (w : List ℕ) → Stands l (Data.word p w) (wordUnder l w)
+unfolding wordUnder fitsDate fitsTime
+word-stands (single booleans n f) p w =
+    tried (single booleans n f) (Data.word p w) (booleanOf w) (inFlag f) (λ b e. Readable.boolean e) boolean-read (λ b e h. LeafAdmits.boolean e (flagged-of f b h)) boolean-in
+word-stands (ranges integers l) p w =
+    tried (ranges integers l) (Data.word p w) (integerOf w) (λ v. inSome v l) (λ v e. Readable.integer e) integer-read (λ v e h. LeafAdmits.integer e (in-item v l h)) integer-in
+word-stands (texts l) p w = elim [ ]
+word-stands (single datePattern n f) p w =
+    tried (single datePattern n f) (Data.word p w) (dateOf w) (λ d. fitsDate f (d .parts))
+    (λ d e. Readable.patternDate e)
+    pattern-read
+    (λ d e h. LeafAdmits.patternDate e (fits-of (patternOf datePatterns f) (d .parts) h))
+    pattern-in
+word-stands (ranges dates l) p w =
+    tried (ranges dates l) (Data.word p w) (dateOf w) (λ d. eqb (d .parts) 3 && inSome (d .day) l)
+    (λ d e. Readable.intervalDate e)
+    date-read
+    (λ d e h. LeafAdmits.fullDate e (eqb-true (d .parts) 3 (and-left (eqb (d .parts) 3) (inSome (d .day) l) h)) (in-item (d .day) l (and-right (eqb (d .parts) 3) (inSome (d .day) l) h)))
+    date-in
+word-stands (single timePattern n f) p w =
+    tried (single timePattern n f) (Data.word p w) (timeOf w) (fitsTime f)
+    (λ k e. Readable.time e)
+    time-read
+    (λ k e h. LeafAdmits.time e (fits-of (patternOf timePatterns f) k h))
+    time-in
+
+-- a string is read under strings alone
+pub string-stands : (l : Leaf) (p : ℕ) (w : List ℕ) → Stands l (Data.string p w) (stringUnder l w)
+unfolding stringUnder
+string-stands (single sort n f) p w = elim [ ]
+string-stands (ranges sort l) p w = elim [ ]
+string-stands (texts l) p w =
+    by-cond (Stands (texts l) (Data.string p w)) (isSome w l)
+    (λ e. LeafAdmits.string (is-item w l e))
+    (λ e. (Readable.string, λ r. false-true (sym e ∙ string-in r)))

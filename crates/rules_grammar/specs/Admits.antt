@@ -1,0 +1,109 @@
+-- What an object admits, as rules. Document 01, 'Meaning': "An object admits a block whose type, if written, is its own and whose members satisfy each attribute. `*` in an object
+-- admits any members (its type still counts), in an attribute any leaf or block. Members that no attribute names are admitted. Lists admit a value in some item; a date interval admits
+-- full dates only. Patterns: lettered parts must be there, `??` may, `XX` may not, and no part without the one before it; the zone is free." Assumes nothing.
+use mathlib.Core.Path.{_≡_}
+use mathlib.Core.Logic.{_≢_}
+use mathlib.Core.Option.{Option, none, some}
+use mathlib.Core.List.{List, [], _∷_, List·Memᴰ}
+use Prim.Native.Nat.{ℕ, zero, suc, _≤_}
+use lib.ListN.{getD}
+use Rattle.values.specs.Integers.{integerOf}
+use Rattle.values.specs.Dates.{Date, dateOf}
+use Rattle.values.specs.Times.{timeOf}
+use Rattle.values.specs.Words.{booleanOf}
+use Rattle.values.specs.Patterns.{Part, must, may, mustNot, datePatterns, timePatterns}
+use Rattle.meaning.specs.Constraints.{Range, Text, Leaf, single, ranges, texts, booleans, datePattern, timePattern, integers, dates, ObjectHead, Object, AttributeHead, Attributes, Value, required, prohibited}
+use Rattle.meaning.specs.Constraints
+use Rattle.meaning.specs.Data.{Datum, datum, Members, Content}
+use Rattle.meaning.specs.Data
+
+-- the type, if written, is the object's own
+pub data TypeSuits (t : List ℕ) : Option (List ℕ) → Type 0 where
+  unwritten : TypeSuits t none
+  own : TypeSuits t (some t)
+
+-- an attribute of an object, by its head and its value
+pub data AttributeOf (a : AttributeHead) (v : Value) : Attributes → Type 0 where
+  first : {more : Attributes} → AttributeOf a v (Constraints.attribute a v more)
+  further : {b : AttributeHead} {x : Value} {more : Attributes} → AttributeOf a v more
+      → AttributeOf a v (Constraints.attribute b x more)
+
+-- the member named w, the first of that name, has the content c
+pub data MemberOf (w : List ℕ) (c : Content) : Members → Type 0 where
+  here : {more : Members} → MemberOf w c (Data.member w c more)
+  behind : {u : List ℕ} {x : Content} {more : Members} → w ≢ u → MemberOf w c more → MemberOf w c (Data.member u x more)
+
+-- no member is named w
+abbrev pub Missing : List ℕ → Members → Type 0
+Missing w ms = (c : Content) → ¬ MemberOf w c ms
+
+-- a value that has its first n parts, under what a pattern says of each part; none of its parts is without the one before it
+pub data Fits : List Part → ℕ → Type 0 where
+  end : Fits [] zero
+  letters : {ps : List Part} {n : ℕ} → Fits ps n → Fits (must ∷ ps) (suc n)
+  mayBe : {ps : List Part} {n : ℕ} → Fits ps n → Fits (may ∷ ps) (suc n)
+  mayNotBe : {ps : List Part} → Fits ps zero → Fits (may ∷ ps) zero
+  never : {ps : List Part} → Fits ps zero → Fits (mustNot ∷ ps) zero
+
+-- the pattern with a flag, counted from 1 as listed
+abbrev pub patternOf : List (List Part) → ℕ → List Part
+patternOf patterns flag = getD ([] ∷ patterns) flag []
+
+-- a number, a day or a text in some item of a list
+pub data InItem (v : ℕ) (l : List Range) : Type 0 where
+  inItem : (x : Range) → List·Memᴰ x l → x .low ≤ v → v ≤ x .high → InItem v l
+
+pub data IsItem (w : List ℕ) (l : List Text) : Type 0 where
+  isItem : (x : Text) → List·Memᴰ x l → w ≡ x .text → IsItem w l
+
+-- True is 1, False 2, both 3
+pub data Flagged (b : ℕ) : ℕ → Type 0 where
+  one : Flagged b b
+  both : Flagged b 3
+
+-- a leaf's value is read as the constraint's kind asks: a string under strings, a word under every other kind
+pub data Readable : Leaf → Content → Type 0 where
+  boolean : {n f p b : ℕ} {w : List ℕ} → booleanOf w ≡ some b → Readable (single booleans n f) (Data.word p w)
+  integer : {l : List Range} {p v : ℕ} {w : List ℕ} → integerOf w ≡ some v
+      → Readable (ranges integers l) (Data.word p w)
+  string : {l : List Text} {p : ℕ} {w : List ℕ} → Readable (texts l) (Data.string p w)
+  patternDate : {n f p : ℕ} {w : List ℕ} {d : Date} → dateOf w ≡ some d
+      → Readable (single datePattern n f) (Data.word p w)
+  intervalDate : {l : List Range} {p : ℕ} {w : List ℕ} {d : Date} → dateOf w ≡ some d
+      → Readable (ranges dates l) (Data.word p w)
+  time : {n f p parts : ℕ} {w : List ℕ} → timeOf w ≡ some parts → Readable (single timePattern n f) (Data.word p w)
+
+-- what a leaf admits
+pub data LeafAdmits : Leaf → Content → Type 0 where
+  boolean : {n f p b : ℕ} {w : List ℕ} → booleanOf w ≡ some b → Flagged b f
+      → LeafAdmits (single booleans n f) (Data.word p w)
+  integer : {l : List Range} {p v : ℕ} {w : List ℕ} → integerOf w ≡ some v → InItem v l
+      → LeafAdmits (ranges integers l) (Data.word p w)
+  string : {l : List Text} {p : ℕ} {w : List ℕ} → IsItem w l → LeafAdmits (texts l) (Data.string p w)
+  patternDate : {n f p : ℕ} {w : List ℕ} {d : Date} → dateOf w ≡ some d → Fits (patternOf datePatterns f) (d .parts)
+      → LeafAdmits (single datePattern n f) (Data.word p w)
+  fullDate : {l : List Range} {p : ℕ} {w : List ℕ} {d : Date} → dateOf w ≡ some d → d .parts ≡ 3 → InItem (d .day) l
+      → LeafAdmits (ranges dates l) (Data.word p w)
+  time : {n f p parts : ℕ} {w : List ℕ} → timeOf w ≡ some parts → Fits (patternOf timePatterns f) parts
+      → LeafAdmits (single timePattern n f) (Data.word p w)
+
+mutual
+  -- an object admits a block whose type, if written, is its own and whose members satisfy each attribute; `*` is no attribute
+  pub data Admits : Object → Datum → Type 0 where
+    admits : {o : ObjectHead} {p : ℕ} {xs : Attributes} {u : Option (List ℕ)} {ms : Members}
+        → TypeSuits (o .type) u
+        → ((a : AttributeHead) (v : Value) → AttributeOf a v xs → Satisfy ms a v)
+        → Admits (Constraints.object o xs) (datum p u ms)
+
+  -- members satisfy an attribute: without a member of its name, unless it is required, or with one, unless it is prohibited, whose content its value admits
+  pub data Satisfy : Members → AttributeHead → Value → Type 0 where
+    without : {ms : Members} {a : AttributeHead} {v : Value} → a .existence ≢ required → Missing (a .name) ms
+        → Satisfy ms a v
+    holding : {ms : Members} {a : AttributeHead} {v : Value} {c : Content} → a .existence ≢ prohibited
+        → MemberOf (a .name) c ms → ValueAdmits v c → Satisfy ms a v
+
+  -- `*` admits any leaf or block, an object a block, a leaf a leaf
+  pub data ValueAdmits : Value → Content → Type 0 where
+    anything : {c : Content} → ValueAdmits Constraints.any c
+    blockOf : {o : Object} {d : Datum} → Admits o d → ValueAdmits (Constraints.nested o) (Data.block d)
+    leafOf : {l : Leaf} {c : Content} → LeafAdmits l c → ValueAdmits (Constraints.leaf l) c

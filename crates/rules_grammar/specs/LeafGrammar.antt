@@ -1,0 +1,141 @@
+-- The grammar of leaves, as productions. Document 01, 'Constraint text': "leaf: Booleans by comma (one or two); or items by comma, all integer, all string or all date interval; or one
+-- pattern. An integer item is a value or an interval: `|a|`, `|a..b|`, `|a..<b|`, `|>a..b|`, `|>a..<b|`, `|a+/-d|`, `|<a|`, `|>a|`, `|<=a|`, `|>=a|`. Date items are intervals only, the
+-- same without `+/-`. Date patterns .. Time patterns .."; "Intervals become closed pairs; an open end moves by one (one calendar day for dates); a missing end is the range's end";
+-- 'Numbers of refusal': no `+/-` result outside, no empty interval, no 17th item, no record 2,048, no overlapping or equal item, no string too long.
+-- Assumes nothing.
+use mathlib.Core.Path.{_≡_}
+use mathlib.Core.Logic.{_≢_}
+use mathlib.Core.Bool.{true, false}
+use mathlib.Core.Option.{some}
+use mathlib.Core.List.{List, [], _∷_, List·Memᴰ}
+use Prim.Native.Nat.{ℕ, _+_, _≤_}
+use lib.ListN.{length}
+use Rattle.lexis.specs.Spelling.{bar, dots, less, greater, atMost, atLeast, plusMinus, comma, trueWord, falseWord}
+use Rattle.lexis.specs.Spelling
+use Rattle.lexis.specs.Tokens.{tokenAt, integer, date, string, spelling, inner}
+use Rattle.lexis.specs.declared.Token.{Token}
+use Rattle.values.specs.Integers.{Pair, pair, inside, around}
+use Rattle.refusals.specs.Limits.{recordLimit, stringLimit, itemLimit}
+use Rattle.meaning.specs.Constraints.{Range, Text, Leaf, single, ranges, texts, booleans, datePattern, timePattern, integers, dates}
+use Rattle.cadl_intervals.specs.Intervals.{Ends, ends, least, most, after, literalValue, empty, closed}
+use Rattle.cadl_items.specs.Ranges.{range}
+use Rattle.rules_grammar.specs.DataGrammar.{Distinct}
+
+-- the next token from a place on, of a sort
+pub data NextToken (s : List ℕ) (from sort : ℕ) : Token → Type 0 where
+  next : tokenAt s from .sort ≡ sort → NextToken s from sort (tokenAt s from)
+
+-- a literal of a kind, integer or date, and its value
+pub data DerivesLiteral (s : List ℕ) (kind from : ℕ) : ℕ → Token → Type 0 where
+  literal : {v : ℕ} {t : Token} → NextToken s from kind t → literalValue kind (spelling s t) ≡ some v
+      → DerivesLiteral s kind from v t
+
+-- what stands between the bars: the low end and the high end or, where it is open, the value that the interval stays below
+pub data DerivesEnds (s : List ℕ) (kind from : ℕ) : Ends → ℕ → Type 0 where
+  point : {a : ℕ} {t : Token} → DerivesLiteral s kind from a t → DerivesEnds s kind from (ends kind a a false) (t .end)
+  closedEnds : {a b : ℕ} {t d u : Token} → DerivesLiteral s kind from a t → NextToken s (t .end) dots d
+      → DerivesLiteral s kind (d .end) b u → DerivesEnds s kind from (ends kind a b false) (u .end)
+  openHigh : {a b : ℕ} {t d l u : Token}
+      → DerivesLiteral s kind from a t
+      → NextToken s (t .end) dots d
+      → NextToken s (d .end) less l
+      → DerivesLiteral s kind (l .end) b u
+      → DerivesEnds s kind from (ends kind a b true) (u .end)
+  openLow : {a b : ℕ} {g t d u : Token}
+      → NextToken s from greater g
+      → DerivesLiteral s kind (g .end) a t
+      → NextToken s (t .end) dots d
+      → DerivesLiteral s kind (d .end) b u
+      → DerivesEnds s kind from (ends kind (after kind a) b false) (u .end)
+  openBoth : {a b : ℕ} {g t d l u : Token}
+      → NextToken s from greater g
+      → DerivesLiteral s kind (g .end) a t
+      → NextToken s (t .end) dots d
+      → NextToken s (d .end) less l
+      → DerivesLiteral s kind (l .end) b u
+      → DerivesEnds s kind from (ends kind (after kind a) b true) (u .end)
+  spread : {a d : ℕ} {t m u : Token}
+      → kind ≡ integer
+      → DerivesLiteral s kind from a t
+      → NextToken s (t .end) plusMinus m
+      → DerivesLiteral s integer (m .end) d u
+      → inside a d ≡ true
+      → DerivesEnds s kind from (ends integer (around a d .low) (around a d .high) false) (u .end)
+  below : {a : ℕ} {l t : Token} → NextToken s from less l → DerivesLiteral s kind (l .end) a t
+      → DerivesEnds s kind from (ends kind (least kind) a true) (t .end)
+  above : {a : ℕ} {g t : Token} → NextToken s from greater g → DerivesLiteral s kind (g .end) a t
+      → DerivesEnds s kind from (ends kind (after kind a) (most kind) false) (t .end)
+  upTo : {a : ℕ} {l t : Token} → NextToken s from atMost l → DerivesLiteral s kind (l .end) a t
+      → DerivesEnds s kind from (ends kind (least kind) a false) (t .end)
+  from : {a : ℕ} {g t : Token} → NextToken s from atLeast g → DerivesLiteral s kind (g .end) a t
+      → DerivesEnds s kind from (ends kind a (most kind) false) (t .end)
+
+-- an item: an integer's value, or an interval in which some value lies
+pub data DerivesItem (s : List ℕ) (kind from : ℕ) : Pair → ℕ → Type 0 where
+  aValue : {v : ℕ} {t : Token} → kind ≡ integer → DerivesLiteral s integer from v t
+      → DerivesItem s kind from (pair v v) (t .end)
+  anInterval : {e : Ends} {p : ℕ} {o z : Token} → NextToken s from bar o → DerivesEnds s kind (o .end) e p
+      → NextToken s p bar z → empty e ≡ false → DerivesItem s kind from (closed e) (z .end)
+
+-- one item or more by comma, each with a record of its own
+pub data DerivesItems (s : List ℕ) (kind : ℕ) : ℕ → ℕ → List Range → ℕ → Type 0 where
+  lastItem : {n from p : ℕ} {x : Pair} → n ≢ recordLimit → DerivesItem s kind from x p
+      → DerivesItems s kind n from (range n x ∷ []) p
+  moreItems : {n from p q : ℕ} {x : Pair} {c : Token} {l : List Range}
+      → n ≢ recordLimit
+      → DerivesItem s kind from x p
+      → NextToken s p comma c
+      → DerivesItems s kind (n + 1) (c .end) l q
+      → DerivesItems s kind n from (range n x ∷ l) q
+
+-- two pairs share a value
+pub record Meet (x y : Pair) : Type 0 where
+  pub low : x .low ≤ y .high
+  pub high : y .low ≤ x .high
+
+-- no item shares a value with one before it
+pub data Apart : List Pair → List Range → Type 0 where
+  noItem : {before : List Pair} → Apart before []
+  newItem : {before : List Pair} {n : ℕ} {x : Pair} {l : List Range} → ((y : Pair) → List·Memᴰ y before → ¬ Meet x y)
+      → Apart (x ∷ before) l → Apart before (range n x ∷ l)
+
+-- one string or more by comma, each with a record of its own
+pub data DerivesStrings (s : List ℕ) : ℕ → ℕ → List Text → ℕ → Type 0 where
+  lastString : {n from : ℕ} {t : Token}
+      → NextToken s from string t
+      → length (inner s t) ≤ stringLimit
+      → n ≢ recordLimit
+      → DerivesStrings s n from (record { number = n; text = inner s t } ∷ []) (t .end)
+  moreStrings : {n from p : ℕ} {t c : Token} {l : List Text}
+      → NextToken s from string t
+      → length (inner s t) ≤ stringLimit
+      → n ≢ recordLimit
+      → NextToken s (t .end) comma c
+      → DerivesStrings s (n + 1) (c .end) l p
+      → DerivesStrings s n from (record { number = n; text = inner s t } ∷ l) p
+
+unfoldable pub textsIn : List Text → List (List ℕ)
+textsIn [] = []
+textsIn (x ∷ l) = x .text ∷ textsIn l
+
+-- True is 1, False 2
+pub data Boolean (s : List ℕ) (from : ℕ) : ℕ → Token → Type 0 where
+  aTrue : {t : Token} → NextToken s from trueWord t → Boolean s from 1 t
+  aFalse : {t : Token} → NextToken s from falseWord t → Boolean s from 2 t
+
+-- a leaf, given the next record's number
+pub data DerivesLeaf (s : List ℕ) (n from : ℕ) : Leaf → ℕ → Type 0 where
+  oneBoolean : {b : ℕ} {t : Token} → n ≢ recordLimit → Boolean s from b t
+      → DerivesLeaf s n from (single booleans n b) (t .end)
+  twoBooleans : {a b : ℕ} {t c u : Token} → n ≢ recordLimit → Boolean s from a t → NextToken s (t .end) comma c
+      → Boolean s (c .end) b u → b ≢ a → DerivesLeaf s n from (single booleans n 3) (u .end)
+  integerItems : {l : List Range} {p : ℕ} → DerivesItems s integer n from l p → length l ≤ itemLimit → Apart [] l
+      → DerivesLeaf s n from (ranges integers l) p
+  dateItems : {l : List Range} {p : ℕ} → DerivesItems s date n from l p → length l ≤ itemLimit → Apart [] l
+      → DerivesLeaf s n from (ranges dates l) p
+  stringItems : {l : List Text} {p : ℕ} → DerivesStrings s n from l p → length l ≤ itemLimit → Distinct [] (textsIn l)
+      → DerivesLeaf s n from (texts l) p
+  aDatePattern : {f : ℕ} {t : Token} → n ≢ recordLimit → 1 ≤ f → f ≤ 5 → NextToken s from (Spelling.datePattern + f) t
+      → DerivesLeaf s n from (single datePattern n f) (t .end)
+  aTimePattern : {f : ℕ} {t : Token} → n ≢ recordLimit → 1 ≤ f → f ≤ 4 → NextToken s from (Spelling.timePattern + f) t
+      → DerivesLeaf s n from (single timePattern n f) (t .end)

@@ -1,0 +1,4 @@
+pub mod Joining
+pub mod Merge
+pub mod Lists
+pub mod contracts
