@@ -13,15 +13,15 @@ const USES: &[&str] = &[
     "lib.ListN.{replicate}",
     "Rattle.lexis.specs.Text.{bytes}",
     "Rattle.lexis.proofs.Tables.{wrong}",
-    "Rattle.meaning.specs.Constraints.{object, noMore, attribute, any, nested, leaf, booleans, integers, strings, datePattern, dates, timePattern}",
-    "Rattle.meaning.proofs.Trees.{range, item, objectList}",
-    "Rattle.constraint.proofs.Computes.{constraintComputes}",
-    "Rattle.constraint.proofs.Examples.{Case, accepts, refuses, acceptsFrom, refusesFrom, right}",
+    "Rattle.meaning.specs.Constraints.{noMore, any, nested, leaf, single, ranges, texts, booleans, integers, datePattern, dates, timePattern}",
+    "Rattle.meaning.proofs.Trees.{range, item, objectWith, attributeWith, objectList}",
+    "Rattle.cadl_objects.proofs.Computes.{constraintComputes}",
+    "Rattle.cadl_objects.proofs.Examples.{Case, accepts, refuses, acceptsFrom, refusesFrom, right}",
 ];
 
 fn table(module: &'static str, about: &'static str, all: &[Inputs]) -> Table {
     Table {
-        holder: "constraint",
+        holder: "cadl_objects",
         module,
         about,
         uses: USES,

@@ -13,13 +13,13 @@ const USES: &[&str] = &[
     "Rattle.lexis.proofs.Tables.{wrong}",
     "Rattle.meaning.specs.Data.{datum, noMore, member, string, word, block}",
     "Rattle.meaning.proofs.Trees.{datumList}",
-    "Rattle.data.proofs.Computes.{dataComputes}",
-    "Rattle.data.proofs.Examples.{Case, accepts, refuses, right}",
+    "Rattle.dadl.proofs.Computes.{dataComputes}",
+    "Rattle.dadl.proofs.Examples.{Case, accepts, refuses, right}",
 ];
 
 fn table(module: &'static str, about: &'static str, all: &[Inputs]) -> Table {
     Table {
-        holder: "data",
+        holder: "dadl",
         module,
         about,
         uses: USES,
@@ -32,7 +32,7 @@ fn table(module: &'static str, about: &'static str, all: &[Inputs]) -> Table {
 
 pub fn tables() -> Vec<Table> {
     vec![
-        table("DataTable", "Blocks, members, leaves, words and limits.", &texts()),
+        table("TextTable", "Blocks, members, leaves, words and limits.", &texts()),
         table("MadeTable", "Short texts from a generator with a fixed seed.", &made::data_texts()),
     ]
 }

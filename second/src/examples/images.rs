@@ -43,8 +43,8 @@ const TREES: &[&str] = &[
     WRONG,
     COMPUTE,
     HEX,
-    "Rattle.meaning.specs.Constraints.{object, noMore, attribute, any, nested, leaf, booleans, integers, strings, datePattern, dates, timePattern}",
-    "Rattle.meaning.proofs.Trees.{range, item, objectList}",
+    "Rattle.meaning.specs.Constraints.{noMore, any, nested, leaf, single, ranges, texts, booleans, integers, datePattern, dates, timePattern}",
+    "Rattle.meaning.proofs.Trees.{range, item, objectWith, attributeWith, objectList}",
     "Rattle.table.proofs.Examples.{TreeCase, tree, noTree, treeRight}",
 ];
 
@@ -450,14 +450,14 @@ impl Trees<'_> {
             return None;
         };
         let (type_name, code) = (term::bytes(self.0.part(type_name)), term::bytes(self.0.part(code)));
-        Some(format!("(object {} {type_name} {code} {})", number.0, self.attributes(first)))
+        Some(format!("(objectWith {} {type_name} {code} {})", number.0, self.attributes(first)))
     }
 
     fn attributes(&self, number: RecordNumber) -> String {
         match self.0.record(number) {
             Some(rules::Record::Attribute { existence, name, value, next }) => {
                 let (name, value) = (term::bytes(self.0.part(name)), self.value(value));
-                format!("(attribute {} {existence} {name} {value} {})", number.0, self.attributes(next))
+                format!("(attributeWith {} {existence} {name} {value} {})", number.0, self.attributes(next))
             }
             _ => String::from("noMore"),
         }
@@ -469,12 +469,12 @@ impl Trees<'_> {
             Some(rules::Record::Object { .. }) => {
                 return format!("(nested {})", self.object(number).unwrap_or_default())
             }
-            Some(rules::Record::Boolean { flag }) => format!("(booleans {n} {flag})"),
-            Some(rules::Record::DatePattern { flag }) => format!("(datePattern {n} {flag})"),
-            Some(rules::Record::TimePattern { flag }) => format!("(timePattern {n} {flag})"),
-            Some(rules::Record::Integer { .. }) => format!("(integers {})", self.items(number)),
-            Some(rules::Record::Text { .. }) => format!("(strings {})", self.items(number)),
-            Some(rules::Record::DateInterval { .. }) => format!("(dates {})", self.items(number)),
+            Some(rules::Record::Boolean { flag }) => format!("(single booleans {n} {flag})"),
+            Some(rules::Record::DatePattern { flag }) => format!("(single datePattern {n} {flag})"),
+            Some(rules::Record::TimePattern { flag }) => format!("(single timePattern {n} {flag})"),
+            Some(rules::Record::Integer { .. }) => format!("(ranges integers {})", self.items(number)),
+            Some(rules::Record::Text { .. }) => format!("(texts {})", self.items(number)),
+            Some(rules::Record::DateInterval { .. }) => format!("(ranges dates {})", self.items(number)),
             _ => return String::from("any"),
         };
         format!("(leaf {leaf})")

@@ -14,7 +14,7 @@ const USES: &[&str] = &[
     "Rattle.lexis.specs.Text.{bytes}",
     "Rattle.lexis.proofs.Tables.{wrong}",
     "Rattle.table.proofs.Hex.{hex, filling}",
-    "Rattle.merge.proofs.Computes.{mergeComputes}",
+    "Rattle.table_merge.proofs.Computes.{mergeComputes}",
     "Rattle.compile.proofs.Computes.{compileComputes}",
     "Rattle.judge.proofs.Computes.{judgeComputes}",
     "Rattle.gateway.proofs.Examples.{Case, compiles, checks, merges, judges, names, right}",

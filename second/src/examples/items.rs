@@ -12,10 +12,10 @@ const USES: &[&str] = &[
     "mathlib.Core.List.{List, [], _∷_}",
     "Rattle.lexis.specs.Text.{bytes}",
     "Rattle.lexis.proofs.Tables.{wrong}",
-    "Rattle.meaning.specs.Constraints.{booleans, integers, strings, datePattern, dates, timePattern}",
+    "Rattle.meaning.specs.Constraints.{single, ranges, texts, booleans, integers, datePattern, dates, timePattern}",
     "Rattle.meaning.proofs.Trees.{range, item}",
-    "Rattle.items.proofs.Computes.{itemsCompute}",
-    "Rattle.items.proofs.Examples.{Case, reads, refuses, right}",
+    "Rattle.cadl_items.proofs.Computes.{itemsCompute}",
+    "Rattle.cadl_items.proofs.Examples.{Case, reads, refuses, right}",
 ];
 
 pub fn tables() -> Vec<Table> {
@@ -23,7 +23,7 @@ pub fn tables() -> Vec<Table> {
     lists.extend(groups(&alone(left_out(), b"}"), |text| case(text, 1)));
     lists.push(counted());
     vec![Table {
-        holder: "items",
+        holder: "cadl_items",
         module: "LeafTable",
         about: "Leaves with a closing brace behind them.",
         uses: USES,

@@ -15,12 +15,12 @@ const USES: &[&str] = &[
     "mathlib.Core.List.{List, [], _∷_}",
     "Rattle.lexis.specs.Text.{bytes}",
     "Rattle.lexis.proofs.Tables.{wrong}",
-    "Rattle.meaning.specs.Constraints.{object, noMore, attribute, any, nested, leaf, booleans, integers, strings, datePattern, dates, timePattern}",
+    "Rattle.meaning.specs.Constraints.{noMore, any, nested, leaf, single, ranges, texts, booleans, integers, datePattern, dates, timePattern}",
     "Rattle.meaning.specs.Data.{datum, member, string, word, block}",
     "Rattle.meaning.specs.Data",
     "Rattle.meaning.specs.Verdicts.{valid, fails}",
     "Rattle.meaning.proofs.Computes.{meaningComputes}",
-    "Rattle.meaning.proofs.Trees.{range, item}",
+    "Rattle.meaning.proofs.Trees.{range, item, objectWith, attributeWith}",
     "Rattle.meaning.proofs.Examples.{Case, judges, under, right}",
 ];
 

@@ -33,9 +33,9 @@ pub fn file() -> File {
     for line in [
         "mathlib.Core.Path.{_≡_, refl}",
         "mathlib.Core.List.{List, [], _∷_}",
-        "Rattle.meaning.specs.Constraints.{prohibited, optional, required, Object, object, noMore, attribute, any, nested, leaf, booleans, integers, strings, datePattern, dates, timePattern}",
+        "Rattle.meaning.specs.Constraints.{prohibited, optional, required, Object, noMore, any, nested, leaf, single, ranges, texts, booleans, integers, datePattern, dates, timePattern}",
         "Rattle.meaning.specs.Counting.{objectRecords, objectPool, objectNumbers}",
-        "Rattle.meaning.proofs.Trees.{range, item, each}",
+        "Rattle.meaning.proofs.Trees.{range, item, objectWith, attributeWith, each}",
     ] {
         let _ = writeln!(out, "use {line}");
     }

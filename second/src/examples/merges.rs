@@ -12,10 +12,17 @@ const PATH: &str = "mathlib.Core.Path.{_≡_, refl}";
 const BOOL: &str = "mathlib.Core.Bool.{true, false}";
 const LIST: &str = "mathlib.Core.List.{List, [], _∷_}";
 const WRONG: &str = "Rattle.lexis.proofs.Tables.{wrong}";
-const COMPUTE: &str = "Rattle.merge.proofs.Computes.{mergeComputes}";
+const COMPUTE: &str = "Rattle.table_merge.proofs.Computes.{mergeComputes}";
 const HEX: &str = "Rattle.table.proofs.Hex.{hex, filling}";
-const MERGES: &[&str] =
-    &[PATH, BOOL, LIST, WRONG, HEX, COMPUTE, "Rattle.merge.proofs.Examples.{Case, merges, refuses, right}"];
+const MERGES: &[&str] = &[
+    PATH,
+    BOOL,
+    LIST,
+    WRONG,
+    HEX,
+    COMPUTE,
+    "Rattle.table_merge.proofs.Examples.{Case, merges, refuses, right}",
+];
 const STEPS: &[&str] = &[
     PATH,
     BOOL,
@@ -23,14 +30,14 @@ const STEPS: &[&str] = &[
     WRONG,
     HEX,
     COMPUTE,
-    "Rattle.merge.proofs.Examples.{StepCase, carries, step, stepsRight}",
+    "Rattle.table_merge.proofs.Examples.{StepCase, carries, step, stepsRight}",
 ];
 const LIMITS: &[&str] =
-    &[PATH, BOOL, LIST, WRONG, COMPUTE, "Rattle.merge.proofs.Examples.{JoinCase, joinRefuses, joinRight}"];
+    &[PATH, BOOL, LIST, WRONG, COMPUTE, "Rattle.table_merge.proofs.Examples.{JoinCase, joinRefuses, joinRight}"];
 
 pub fn tables() -> Vec<layout::Table> {
     let part = |module, about, uses, case, right, groups| layout::Table {
-        holder: "merge",
+        holder: "table_merge",
         module,
         about,
         uses,
@@ -41,7 +48,7 @@ pub fn tables() -> Vec<layout::Table> {
     };
     vec![
         part(
-            "MergeTable",
+            "JoinTable",
             "Two tables merged, byte for byte, and the output behind the table.",
             MERGES,
             "Case",

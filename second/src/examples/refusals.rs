@@ -16,7 +16,7 @@ const USES: &[&str] = &[
     "Rattle.refusals.specs.declared.Cause.the-variants.{TextTooLong, Unreadable, CannotFollow, EndsEarly, TooDeep, TooLong, Impossible, OutOfRange, BadWord, EmptyInterval, TooManyItems, TooManyRecords, Overlap, RepeatedName, PoolTooLarge, OutputTooShort, NotATable, BrokenRecord, NotAnObject, NoName}",
     "Rattle.refusals.specs.Limits.{textLimit, levelLimit, itemLimit, recordLimit, poolLimit, nameLimit, codeLimit, stringLimit}",
     "Rattle.refusals.specs.Refusals.{numberOf}",
-    "Rattle.refusals.specs.Steps.{expect}",
+    "Rattle.refusals.specs.Expecting.{expect}",
     "Rattle.refusals.proofs.Examples.{Case, numbered, limitIs, takes, faults, right, which}",
 ];
 

@@ -65,9 +65,9 @@ const BESIDE: [(&str, &str); 10] = [
     ("meaning", "LeafTable"),
     ("meaning", "JudgeTable"),
     ("meaning", "MadeTable"),
-    ("constraint", "CountTable"),
-    ("constraint", "FaultTable"),
-    ("merge", "StepTable"),
+    ("cadl_objects", "CountTable"),
+    ("cadl_objects", "FaultTable"),
+    ("table_merge", "StepTable"),
     ("compile", "CompileTable"),
     ("demands", "ListTable"),
     ("gateway", "InterfaceTable"),
@@ -114,10 +114,13 @@ impl Table {
     }
 }
 
-/// A word with its first letter as a capital.
-fn capitalized(word: &str) -> String {
-    let (first, rest) = word.split_at(1);
-    first.to_uppercase() + rest
+/// The words of a name, each with its first letter as a capital, in one.
+fn capitalized(name: &str) -> String {
+    let word = |word: &str| {
+        let (first, rest) = word.split_at(1);
+        first.to_uppercase() + rest
+    };
+    name.split('_').map(word).collect()
 }
 
 /// A file of a crate as another crate writes it: what the crate's own files name as their own is named by the crate.

@@ -93,24 +93,24 @@ pub fn object(tree: &constraint::Tree, index: usize, spell: Spell) -> String {
             Value::Leaf(inner) => format!("(leaf {})", leaf(inner, inner.number, spell)),
         };
         let name = spell(attribute.name);
-        attributes = format!("(attribute {} {existence} {name} {value} {attributes})", attribute.number);
+        attributes = format!("(attributeWith {} {existence} {name} {value} {attributes})", attribute.number);
     }
-    format!("(object {} {} {} {attributes})", object.number, spell(object.type_name), spell(object.code))
+    format!("(objectWith {} {} {} {attributes})", object.number, spell(object.type_name), spell(object.code))
 }
 
 /// A leaf whose first record has that number.
 pub fn leaf(leaf: &Leaf, first: u32, spell: Spell) -> String {
     match &leaf.body {
         LeafBody::Boolean { admits_true, admits_false } => {
-            format!("(booleans {first} {})", u32::from(*admits_true) + 2 * u32::from(*admits_false))
+            format!("(single booleans {first} {})", u32::from(*admits_true) + 2 * u32::from(*admits_false))
         }
-        LeafBody::DatePattern(flag) => format!("(datePattern {first} {flag})"),
-        LeafBody::TimePattern(flag) => format!("(timePattern {first} {flag})"),
+        LeafBody::DatePattern(flag) => format!("(single datePattern {first} {flag})"),
+        LeafBody::TimePattern(flag) => format!("(single timePattern {first} {flag})"),
         LeafBody::Items(items) => {
             let kind = match items.first() {
-                Some(Item::Integer(_)) => "integers",
-                Some(Item::Date(_)) => "dates",
-                _ => "strings",
+                Some(Item::Integer(_)) => "ranges integers",
+                Some(Item::Date(_)) => "ranges dates",
+                _ => "texts",
             };
             let terms: Vec<String> =
                 items.iter().zip(first..).map(|(each, number)| item(each, number, spell)).collect();

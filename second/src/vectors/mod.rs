@@ -1,8 +1,8 @@
-//! Test vectors for the programs that run the jobs: what each reads from standard input, and what it must print.
+//! Test vectors for the program that runs the jobs: what it reads from standard input, and what it must print.
 //! The inputs stand here or come from the generator; the expectations are this library's answers.
 //!
 //! `write` writes the files below a root, `check` compares them with what it would write. `stream` says how cases
-//! are spelled for a program, and the other modules hold the cases of one program each.
+//! are spelled for the program, and the other modules hold the cases: tables, data texts, constraint texts.
 
 mod forms;
 mod stream;
@@ -22,15 +22,13 @@ struct File {
 
 /// Every file.
 fn files() -> Vec<File> {
-    let mut all = Vec::new();
-    let mut add = |program: &str, stream: Stream| {
-        all.push(File { path: format!("crates/{program}/stdin"), bytes: stream.input });
-        all.push(File { path: format!("crates/{program}/stdout"), bytes: stream.output.into_bytes() });
-    };
-    add("table_vectors", tables::cases());
-    add("judge_vectors", forms::cases());
-    add("compile_vectors", texts::cases());
-    all
+    let streams: [Stream; 3] = [tables::cases(), forms::cases(), texts::cases()];
+    let input = streams.iter().flat_map(|stream| stream.input.clone()).collect();
+    let output: String = streams.into_iter().map(|stream| stream.output).collect();
+    vec![
+        File { path: "crates/vectors/stdin".to_owned(), bytes: input },
+        File { path: "crates/vectors/stdout".to_owned(), bytes: output.into_bytes() },
+    ]
 }
 
 /// Writes every file below the root, and says how long each is.

@@ -513,7 +513,7 @@ fn judge_all(stream: &mut Stream, title: &str, table: &[u8], root: u32, data: &[
             }
         };
         stream.add(
-            &Head { kind: b'j', little: false, number: root },
+            &Head { kind: b'v', little: false, number: root },
             &format!("{title}, {text}"),
             &[text.as_bytes()],
             &answer,
@@ -542,7 +542,7 @@ fn run(stream: &mut Stream, title: &str, text: &str, little: bool, steps: &[Step
             }
             MergeAnswer::Refused { number, place, table } => format!(" refused {number} at {place}, table {table}"),
         };
-        let kind = if step.first { b'f' } else { b'm' };
+        let kind = if step.first { b'f' } else { b'l' };
         stream.add(&Head { kind, little: step.little, number: room as u32 }, title, &[&step.other], &answer);
         if let MergeAnswer::Done { length, record_shift, .. } = merged {
             table = out[..length as usize].to_vec();

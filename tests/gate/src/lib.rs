@@ -1,6 +1,7 @@
 //! What the gate knows of the crates: their functions and which call which, the edits that must be refused, and what the prover says of a check.
 
 pub mod edits;
+pub mod layers;
 pub mod page;
 pub mod said;
 pub mod sets;

@@ -3,8 +3,10 @@
 //!     tests/contracts write|check
 //!
 //! Each public function must have two edits of the code, its own or of private functions that serve it, or a reason why not in docs/LAWS.md.
+//! No definition outside `specs/contracts` may import one inside it.
 
 use gate::edits::{self, Edit};
+use gate::layers;
 use gate::page::{page, reasons};
 use gate::sources::Sources;
 use std::fs;
@@ -33,6 +35,10 @@ fn main() -> ExitCode {
 /// The page as it should stand.
 fn made() -> Result<String, String> {
     let root = Path::new(".");
+    let misplaced = layers::misplaced(&root.join("crates")).map_err(|error| error.to_string())?;
+    if !misplaced.is_empty() {
+        return Err(misplaced.join("\n"));
+    }
     let edits: Vec<Edit> = edits::all(root)?;
     let listed = fs::read_to_string("crates.txt").map_err(|error| format!("crates.txt: {error}"))?;
     let crates = names_of(&listed)
