@@ -4,4 +4,6 @@ pub mod Rows
 pub mod Check
 pub mod Names
 pub mod Trees
+pub mod TableRules
+pub mod Says
 pub mod contracts

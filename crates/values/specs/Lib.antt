@@ -1,5 +1,6 @@
 pub mod Integers
 pub mod Calendar
+pub mod Days
 pub mod Dates
 pub mod Times
 pub mod Patterns
