@@ -1,10 +1,11 @@
 -- Runs of bytes, and bytes compared with what a rule spells. Assumes nothing.
+use mathlib.Core.Path.{_≡_}
 use mathlib.Core.Bool.{Bool, true, false, cond, _&&_, _||_}
 use mathlib.Core.List.{List, [], _∷_}
 use Prim.Native.Nat.{ℕ, _+_, _-_}
 use lib.Dec.{eqb, ltb}
 use Rattle.lexis.specs.Text.{byte}
-use lib.ListN.{getD, take, drop}
+use lib.ListN.{length, getD, take, drop}
 use Rattle.lexis.specs.Bytes.{is, digit}
 
 -- the first place from `at` on, of the bytes from there, whose byte does not pass the test
@@ -23,6 +24,10 @@ letterAt s at end = cond (ltb at end) (byteAt s at + 1) 0
 -- the bytes from one place up to another
 abbrev pub part : List ℕ → ℕ → ℕ → List ℕ
 part s start end = take (end - start) (drop start s)
+
+-- these bytes stand at a place
+abbrev pub StandsAt : List ℕ → ℕ → List ℕ → Type 0
+StandsAt s at w = take (length w) (drop at s) ≡ w
 
 -- two runs of bytes are the same
 unfoldable pub same : List ℕ → List ℕ → Bool

@@ -6,3 +6,4 @@ pub mod Parses
 pub mod StepLaws
 pub mod Examples
 pub mod RefusalTable
+pub mod NumberLaws

@@ -1,5 +1,6 @@
 pub mod Limits
 pub mod Refusals
+pub mod Numbers
 pub mod Reading
 pub mod Outcomes
 pub mod Expecting

@@ -3,6 +3,7 @@ pub mod Computes
 pub mod Common
 pub mod IntegerLaws
 pub mod CalendarLaws
+pub mod DayLaws
 pub mod DateLaws
 pub mod PatternLaws
 pub mod Examples

@@ -1,0 +1,48 @@
+-- The numbers of refusal as one table: document 01, 'Numbers of refusal'. A row for each cause, with its number and what its place is. Assumes nothing.
+use Prim.Native.Nat.{ℕ}
+use Rattle.refusals.specs.declared.Cause.{Cause}
+use Rattle.refusals.specs.declared.Cause.the-variants.{TextTooLong, Unreadable, CannotFollow, EndsEarly, TooDeep, TooLong, Impossible, OutOfRange, BadWord, EmptyInterval, TooManyItems, TooManyRecords, Overlap, RepeatedName, PoolTooLarge, OutputTooShort, NotATable, BrokenRecord, NotAnObject, NoName}
+
+-- what a place is
+pub data PlaceSort : Type 0 where
+  -- 16,384, in a text that is longer
+  limit : PlaceSort
+  -- a token of the text, whose end is one too
+  token : PlaceSort
+  -- the text's end
+  textEnd : PlaceSort
+  -- 0, for a table as a whole
+  wholeTable : PlaceSort
+  -- the number of a record behind the header
+  tableRecord : PlaceSort
+  -- the number asked
+  asked : PlaceSort
+  -- 0, for the table that merging would write
+  merged : PlaceSort
+  -- the length that the output needs
+  needed : PlaceSort
+
+-- a cause, its number and what its place is
+pub data Row : Cause → (number : ℕ) → PlaceSort → Type 0 where
+  textTooLong : Row TextTooLong 1 limit
+  unreadable : Row Unreadable 2 token
+  cannotFollow : Row CannotFollow 2 token
+  endsEarly : Row EndsEarly 2 token
+  tooDeep : Row TooDeep 3 token
+  tooLong : Row TooLong 4 token
+  impossible : Row Impossible 5 token
+  outOfRange : Row OutOfRange 5 token
+  badWord : Row BadWord 5 token
+  emptyInterval : Row EmptyInterval 6 token
+  tooManyItems : Row TooManyItems 7 token
+  tooManyRecords : Row TooManyRecords 8 token
+  tooManyMerged : Row TooManyRecords 8 merged
+  overlap : Row Overlap 9 token
+  repeatedName : Row RepeatedName 9 token
+  poolTooLarge : Row PoolTooLarge 10 merged
+  tableTooLong : Row OutputTooShort 11 textEnd
+  mergedTooLong : Row OutputTooShort 11 needed
+  notATable : Row NotATable 12 wholeTable
+  brokenRecord : Row BrokenRecord 13 tableRecord
+  notAnObject : Row NotAnObject 14 asked
+  noName : Row NoName 14 asked
