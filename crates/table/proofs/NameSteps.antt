@@ -55,7 +55,7 @@ module _ (k : ℕ) where
   name-past h g = rw (ne-eqb k 1 (λ e. omega arith), ne-eqb k 2 (λ e. omega arith), ne-eqb k 5 g)
 
 -- a record that has a name is one of the table's, but the header
-kind-some : (k : ℕ) → among k (objectKind ∷ attributeKind ∷ textKind ∷ []) ≡ true → 1 ≤ k
+pub kind-some : (k : ℕ) → among k (objectKind ∷ attributeKind ∷ textKind ∷ []) ≡ true → 1 ≤ k
 kind-some zero e = absurd (false≢true e)
 kind-some (suc k) e = omega arith
 

@@ -86,7 +86,7 @@ pub record IntegersRight (x next : ℕ) : Type 0 where
   pub high : next < 2 ^ 32
   pub order : twosComplement x ≤ twosComplement next
 
-integers-right : (x next : ℕ) → pairRight integers x next ≡ true → IntegersRight x next
+pub integers-right : (x next : ℕ) → pairRight integers x next ≡ true → IntegersRight x next
 unfolding pairRight
 integers-right x next h =
     let p = each-passed (ltb x (2 ^ 32)) (ltb next (2 ^ 32) ∷ leb (twosComplement x) (twosComplement next) ∷ []) h in
@@ -98,7 +98,7 @@ pub record DatesRight (x next : ℕ) : Type 0 where
   pub high : real next ≡ true
   pub order : x ≤ next
 
-dates-right : (x next : ℕ) → pairRight dates x next ≡ true → DatesRight x next
+pub dates-right : (x next : ℕ) → pairRight dates x next ≡ true → DatesRight x next
 unfolding pairRight
 dates-right x next h =
     let p = each-passed (real x) (real next ∷ leb x next ∷ []) h in

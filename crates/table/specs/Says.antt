@@ -5,17 +5,18 @@ use mathlib.Core.Bool.{Bool}
 use mathlib.Core.List.{List, [], _∷_}
 use Prim.Native.Nat.{ℕ, _+_, _*_, _<_}
 use lib.ListN.{length}
+use Rattle.lexis.specs.Runs.{StandsAt}
 use Rattle.refusals.specs.Refusals.{refusal}
 use Rattle.refusals.specs.declared.Refusal.{Refusal}
 use Rattle.refusals.specs.declared.Cause.the-variants.{NoName}
 use Rattle.meaning.specs.Constraints.{Range, Text, Leaf, single, ranges, texts, booleans, integers, dates, Object, Attributes, Value}
 use Rattle.meaning.specs.Constraints
 use Rattle.table.specs.Records.{recordSize, make}
-use Rattle.table.specs.TableRules.{BytesAt, KindAt, Holds, TwosComplement, IsTable, NoTable}
+use Rattle.table.specs.TableRules.{KindAt, Holds, TwosComplement, IsTable, NoTable}
 
 -- the bytes of the pool, which stands behind the records, that a place and a length name
 pub data NameIs (bs : List ℕ) (count place : ℕ) : (size : ℕ) → List ℕ → Type 0 where
-  nameIs : {w : List ℕ} → BytesAt bs (recordSize * count + place) w → NameIs bs count place (length w) w
+  nameIs : {w : List ℕ} → StandsAt bs (recordSize * count + place) w → NameIs bs count place (length w) w
 
 -- integer items: "a low, b high (two's complement); e next item"
 pub data SaysIntegers (bs : List ℕ) : ℕ → List Range → Type 0 where

@@ -5,27 +5,24 @@ use mathlib.Core.Path.{_≡_}
 use mathlib.Core.Bool.{Bool, true, false}
 use mathlib.Core.List.{List, [], _∷_}
 use Prim.Native.Nat.{ℕ, _+_, _*_, _-_, _^_, _≤_, _<_}
-use lib.ListN.{length, take, drop}
+use lib.ListN.{length}
 use Rattle.refusals.specs.Limits.{recordLimit, poolLimit, nameLimit, codeLimit, stringLimit}
 use Rattle.refusals.specs.Refusals.{refusal}
 use Rattle.refusals.specs.declared.Refusal.{Refusal}
 use Rattle.refusals.specs.declared.Cause.the-variants.{NotATable, BrokenRecord}
+use Rattle.lexis.specs.Runs.{StandsAt}
 use Rattle.values.specs.Days.{PackedDay}
 use Rattle.table.specs.Records.{Record, fieldCount, recordSize, make}
 
--- these bytes stand at a place
-abbrev pub BytesAt : List ℕ → ℕ → List ℕ → Type 0
-BytesAt bs place ws = take (length ws) (drop place bs) ≡ ws
-
 -- the mark C0AD, a 16-bit number: C0 AD is big-endian, AD C0 little-endian
 pub data MarkAt (bs : List ℕ) (place : ℕ) : (little : Bool) → Type 0 where
-  bigEndian : {x y : ℕ} → BytesAt bs place (x ∷ y ∷ []) → x * 2 ^ 8 + y ≡ 0xC0AD → MarkAt bs place false
-  littleEndian : {x y : ℕ} → BytesAt bs place (x ∷ y ∷ []) → y * 2 ^ 8 + x ≡ 0xC0AD → MarkAt bs place true
+  bigEndian : {x y : ℕ} → StandsAt bs place (x ∷ y ∷ []) → x * 2 ^ 8 + y ≡ 0xC0AD → MarkAt bs place false
+  littleEndian : {x y : ℕ} → StandsAt bs place (x ∷ y ∷ []) → y * 2 ^ 8 + x ≡ 0xC0AD → MarkAt bs place true
 
 -- a 32-bit number at a place: big-endian has its highest byte first, little-endian its lowest
 pub data NumberAt (bs : List ℕ) (place : ℕ) : (little : Bool) → ℕ → Type 0 where
-  highestFirst : {w x y z : ℕ} → BytesAt bs place (w ∷ x ∷ y ∷ z ∷ []) → NumberAt bs place false (w * 2 ^ 24 + x * 2 ^ 16 + y * 2 ^ 8 + z)
-  lowestFirst : {w x y z : ℕ} → BytesAt bs place (w ∷ x ∷ y ∷ z ∷ []) → NumberAt bs place true (z * 2 ^ 24 + y * 2 ^ 16 + x * 2 ^ 8 + w)
+  highestFirst : {w x y z : ℕ} → StandsAt bs place (w ∷ x ∷ y ∷ z ∷ []) → NumberAt bs place false (w * 2 ^ 24 + x * 2 ^ 16 + y * 2 ^ 8 + z)
+  lowestFirst : {w x y z : ℕ} → StandsAt bs place (w ∷ x ∷ y ∷ z ∷ []) → NumberAt bs place true (z * 2 ^ 24 + y * 2 ^ 16 + x * 2 ^ 8 + w)
 
 -- numbers one after the other from a place on
 pub data NumbersAt (bs : List ℕ) (little : Bool) : (place : ℕ) → List ℕ → Type 0 where
@@ -35,14 +32,14 @@ pub data NumbersAt (bs : List ℕ) (little : Bool) : (place : ℕ) → List ℕ 
 -- the bytes hold record n, in the order that its own mark says
 pub record Holds (bs : List ℕ) (n : ℕ) (little : Bool) (r : Record) : Type 0 where
   pub mark : MarkAt bs (recordSize * n) little
-  pub kind : BytesAt bs (recordSize * n + 2) (r .kind ∷ [])
-  pub flag : BytesAt bs (recordSize * n + 3) (r .flag ∷ [])
+  pub kind : StandsAt bs (recordSize * n + 2) (r .kind ∷ [])
+  pub flag : StandsAt bs (recordSize * n + 3) (r .flag ∷ [])
   pub numbers : NumbersAt bs little (recordSize * n + 4) (r .fields)
   pub counted : length (r .fields) ≡ fieldCount
 
 -- the kind byte of record n
 abbrev pub KindAt : List ℕ → ℕ → ℕ → Type 0
-KindAt bs n kind = BytesAt bs (recordSize * n + 2) (kind ∷ [])
+KindAt bs n kind = StandsAt bs (recordSize * n + 2) (kind ∷ [])
 
 -- the length, the header and the root: "a count, b pool bytes, c root"; "Count 2..2,048, pool to 16,384; the root's kind byte is 1"
 pub record IsFrame (bs : List ℕ) (count pool root : ℕ) : Type 0 where
