@@ -10,3 +10,7 @@ pub mod CopySteps
 pub mod MovedLaws
 pub mod JoinSteps
 pub mod MergeSteps
+pub mod MoveRuleLaws
+pub mod JoinedLaws
+pub mod OneJoinedLaws
+pub mod MergeRuleLaws

@@ -8,11 +8,12 @@ use mathlib.Core.Bool.{Bool}
 use mathlib.Core.List.{List, [], _∷_}
 use Prim.Native.Nat.{ℕ, _+_, _*_, _-_, _≤_, _<_}
 use lib.ListN.{length}
+use Rattle.lexis.specs.Runs.{StandsAt}
 use Rattle.refusals.specs.Limits.{recordLimit, poolLimit}
 use Rattle.refusals.specs.declared.Refusal.{Refusal}
 use Rattle.refusals.specs.declared.Cause.the-variants.{TooManyRecords, PoolTooLarge, OutputTooShort}
 use Rattle.table.specs.Records.{Record, recordSize, make}
-use Rattle.table.specs.TableRules.{BytesAt, Holds, IsTable, NoTable}
+use Rattle.table.specs.TableRules.{Holds, IsTable, NoTable}
 use Rattle.table_merge.specs.Merge.{MergeRequest, MergeReport, MergeRefusal, ofTable, neither}
 
 -- "links other than 0 move"
@@ -78,10 +79,12 @@ pub record IsMerged (first second : List ℕ) (little : Bool) (z : Sizes) (joine
   pub kept : (n : ℕ) (order : Bool) (r : Record) → 1 ≤ n → n < z .count₁ → Holds first n order r → Holds joined n little r
   pub moved : (n : ℕ) (order : Bool) (r : Record) → 1 ≤ n → n < z .count₂ → Holds second n order r
       → (m : Record) × Moves (z .count₁ - 1) (z .pool₁) r m × Holds joined (n + (z .count₁ - 1)) little m
-  pub firstPool : (k b : ℕ) → k < z .pool₁ → BytesAt first (recordSize * z .count₁ + k) (b ∷ [])
-      → BytesAt joined (recordSize * countOf z + k) (b ∷ [])
-  pub secondPool : (k b : ℕ) → k < z .pool₂ → BytesAt second (recordSize * z .count₂ + k) (b ∷ [])
-      → BytesAt joined (recordSize * countOf z + (z .pool₁ + k)) (b ∷ [])
+  pub firstPool : (k b : ℕ) → k < z .pool₁ → StandsAt first (recordSize * z .count₁ + k) (b ∷ [])
+      → StandsAt joined (recordSize * countOf z + k) (b ∷ [])
+  pub secondPool : (k b : ℕ) → k < z .pool₂ → StandsAt second (recordSize * z .count₂ + k) (b ∷ [])
+      → StandsAt joined (recordSize * countOf z + (z .pool₁ + k)) (b ∷ [])
+  -- what is written as records are bytes
+  pub bytes : (k b : ℕ) → StandsAt joined k (b ∷ []) → k < recordSize * countOf z → b < 256
 
 -- merging is done: both tables pass, counts and pools fit, the output has room; and what is reported
 pub record Merges (q : MergeRequest) (room : ℕ) (z : Sizes) (m : MergeReport) : Type 0 where
