@@ -3,9 +3,6 @@ use mathlib.Core.Path.{_≡_}
 use mathlib.Core.Logic.{_↔_}
 use mathlib.Core.List.{List, [], List·Memᴰ}
 use Prim.Native.Nat.{ℕ}
-use lib.Dec.{ltb}
-use lib.ListN.{length}
-use Rattle.refusals.specs.Limits.{textLimit}
 use Rattle.refusals.specs.Reading.{refused, got}
 use Rattle.refusals.specs.declared.Refusal.{Refusal}
 use Rattle.meaning.specs.Constraints.{Object}
@@ -19,19 +16,19 @@ module _ (s : List ℕ) where
   -- a fault is 1, told at the limit, or lies in the text: the end of the fuel, told behind it, is none
   pub fault-lies : (x : Refusal) → List·Memᴰ x (faults s) → Lies s x
   unfolding constraintText faults
-  fault-lies = text-lies s _ (ltb textLimit (length s)) (objectAlone s) (alone-ordered s)
+  fault-lies = text-lies s _ (objectAlone s) (alone-ordered s)
 
   -- a constraint text is read exactly where it has no fault
   pub read-faultless : ((o : Object) × (p : ℕ) × (constraintOf s ≡ got o p)) ↔ (faults s ≡ [])
   unfolding constraintOf constraintText faults
-  read-faultless = text-faultless s _ (ltb textLimit (length s)) (objectAlone s) (alone-ordered s)
+  read-faultless = text-faultless s _ (objectAlone s) (alone-ordered s)
 
   -- a refusal is the least of the faults
   pub refused-least : (x : Refusal) → constraintOf s ≡ refused x → Least x (faults s)
   unfolding constraintOf constraintText faults
-  refused-least = text-least s _ (ltb textLimit (length s)) (objectAlone s) (alone-ordered s)
+  refused-least = text-least s _ (objectAlone s) (alone-ordered s)
 
   -- where a text has faults, it is refused with the number and at the place of the least
   pub least-refused : (x : Refusal) → Least x (faults s) → (y : Refusal) × (constraintOf s ≡ refused y) × Alike x y
   unfolding constraintOf constraintText faults
-  least-refused = text-refused s _ (ltb textLimit (length s)) (objectAlone s) (alone-ordered s)
+  least-refused = text-refused s _ (objectAlone s) (alone-ordered s)

@@ -6,6 +6,9 @@ use mathlib.Core.List.{List, [], List·Memᴰ, List·Memᴰ·head, List·Memᴰ�
 use Prim.Native.Nat.{ℕ, _≤_, _<_}
 use native.Mathlib.Omega.{arith}
 use native.Mathlib.Decide.{decLe}
+use lib.Dec.{ltb}
+use lib.ListN.{length}
+use borrow.Author.Tests.{ltb-true}
 use Rattle.refusals.specs.Limits.{textLimit}
 use Rattle.refusals.specs.Reading.{Reading, refused, got}
 use Rattle.refusals.specs.declared.Cause.the-variants.{TextTooLong}
@@ -20,9 +23,9 @@ abbrev Outcome : {A : Type 0} → Reading A → List Refusal → Type 0
 Outcome (refused x) fs = Least x fs
 Outcome (got a p) fs = fs ≡ []
 
--- a fault is 1, told at the limit, or lies in the text
+-- a fault is 1, told at the limit where the text is longer, or lies in the text
 abbrev pub Lies : List ℕ → Refusal → Type 0
-Lies s x = (x ≡ refusal TextTooLong textLimit) ⊎ FaultFrom s 0 x
+Lies s x = ((x ≡ refusal TextTooLong textLimit) × (textLimit < length s)) ⊎ FaultFrom s 0 x
 
 no-member : {x : Refusal} → ¬ List·Memᴰ x []
 no-member = elim [ ]
@@ -64,11 +67,11 @@ module _ {A : Type 0} (s : List ℕ) (P : Bool → ℕ → A → ℕ → Type 0)
   long-outcome true w h = record { one = List·Memᴰ·head refl; least = λ y m. Precedes.first refl }
   long-outcome false w h = outcome true 0 w h
 
-  long-lies : (long : Bool) (w : Parse A) → Ordered s P true 0 w → (x : Refusal)
+  long-lies : (long : Bool) → (long ≡ true → textLimit < length s) → (w : Parse A) → Ordered s P true 0 w → (x : Refusal)
       → List·Memᴰ x (faultsIn (noting long TextTooLong textLimit w)) → Lies s x
-  long-lies true w h x (List·Memᴰ·head e) = inl e
-  long-lies true w h x (List·Memᴰ·tail m) = inr (each true 0 w h x m)
-  long-lies false w h x m = inr (each true 0 w h x m)
+  long-lies true l w h x (List·Memᴰ·head e) = inl (e, l refl)
+  long-lies true l w h x (List·Memᴰ·tail m) = inr (each true 0 w h x m)
+  long-lies false l w h x m = inr (each true 0 w h x m)
 
 -- what reading gives, where the faults lie
 module _ {A : Type 0} (s : List ℕ) (r : Reading A) (fs : List Refusal)
@@ -92,7 +95,7 @@ module _ {A : Type 0} (s : List ℕ) (r : Reading A) (fs : List Refusal)
   one-place x m n = go (lies x m)
     where
       go : Lies s x → x .place ≡ textLimit
-      go (inl e) = ap (λ (y : Refusal). y .place) e
+      go (inl e) = ap (λ (y : Refusal). y .place) (e .0)
       go (inr l) = absurd (omega (arith, l .least))
 
   alike : (x y : Refusal) → List·Memᴰ x fs → List·Memᴰ y fs → Precedes x y → Precedes y x → Alike x y
@@ -115,13 +118,15 @@ module _ {A : Type 0} (s : List ℕ) (r : Reading A) (fs : List Refusal)
       go (got a p) e = absurd (no-member (subst (List·Memᴰ x) (outcome-faultless .0 (a, p, e)) (l .one)))
 
 -- a text whose faults come in order
-module _ {A : Type 0} (s : List ℕ) (P : Bool → ℕ → A → ℕ → Type 0) (long : Bool) (w : Parse A)
-    (h : Ordered s P true 0 w) where
+module _ {A : Type 0} (s : List ℕ) (P : Bool → ℕ → A → ℕ → Type 0) (w : Parse A) (h : Ordered s P true 0 w) where
+  abbrev long : Bool
+  long = ltb textLimit (length s)
+
   abbrev whole : Parse A
   whole = noting long TextTooLong textLimit w
 
   pub text-lies : (x : Refusal) → List·Memᴰ x (faultsIn whole) → Lies s x
-  text-lies = long-lies s P long w h
+  text-lies = long-lies s P long (ltb-true textLimit (length s)) w h
 
   pub text-faultless : ((a : A) × (p : ℕ) × (firstIn whole ≡ got a p)) ↔ (faultsIn whole ≡ [])
   text-faultless = outcome-faultless s (firstIn whole) (faultsIn whole) text-lies (long-outcome s P long w h)

@@ -4,9 +4,6 @@ use mathlib.Core.Logic.{_↔_}
 use mathlib.Core.Bool.{true}
 use mathlib.Core.List.{List, [], List·Memᴰ}
 use Prim.Native.Nat.{ℕ}
-use lib.Dec.{ltb}
-use lib.ListN.{length}
-use Rattle.refusals.specs.Limits.{textLimit}
 use Rattle.refusals.specs.Reading.{refused, got}
 use Rattle.refusals.specs.declared.Refusal.{Refusal}
 use Rattle.refusals.proofs.Parses.{InOrder}
@@ -21,20 +18,20 @@ module _ (levels : ℕ) (s : List ℕ) where
   -- a fault is 1, told at the limit, or lies in the text: the end of the fuel, told behind it, is none
   pub fault-lies : (x : Refusal) → List·Memᴰ x (faults levels s) → Lies s x
   unfolding dataText faults InOrder
-  fault-lies = text-lies s _ (ltb textLimit (length s)) (datumAlone levels s) (alone-order levels s true)
+  fault-lies = text-lies s _ (datumAlone levels s) (alone-order levels s true)
 
   -- a data text is read exactly where it has no fault
   pub read-faultless : ((b : Block) × (p : ℕ) × (blockOf levels s ≡ got b p)) ↔ (faults levels s ≡ [])
   unfolding blockOf dataText faults InOrder
-  read-faultless = text-faultless s _ (ltb textLimit (length s)) (datumAlone levels s) (alone-order levels s true)
+  read-faultless = text-faultless s _ (datumAlone levels s) (alone-order levels s true)
 
   -- a refusal is the least of the faults
   pub refused-least : (x : Refusal) → blockOf levels s ≡ refused x → Least x (faults levels s)
   unfolding blockOf dataText faults InOrder
-  refused-least = text-least s _ (ltb textLimit (length s)) (datumAlone levels s) (alone-order levels s true)
+  refused-least = text-least s _ (datumAlone levels s) (alone-order levels s true)
 
   -- where a text has faults, it is refused with the number and at the place of the least
   pub least-refused : (x : Refusal) → Least x (faults levels s)
       → (y : Refusal) × (blockOf levels s ≡ refused y) × Alike x y
   unfolding blockOf dataText faults InOrder
-  least-refused = text-refused s _ (ltb textLimit (length s)) (datumAlone levels s) (alone-order levels s true)
+  least-refused = text-refused s _ (datumAlone levels s) (alone-order levels s true)

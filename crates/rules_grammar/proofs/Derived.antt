@@ -33,7 +33,8 @@ use Rattle.dadl.specs.Data.{expectData, datumOf, typeFrom, leafFrom, typed, con
 use Rattle.dadl.proofs.TreeReading.{BlockRead, outermost-order, ContentRead, content-order, block-order}
 use Rattle.rules_grammar.specs.DataGrammar.{NextDataToken, next, NextType, nextType, namesOf, Distinct, noName, newName, levelsOf, memberLevels, contentLevels, DerivesDataLeaf, aString, aWord, DerivesDatum, DerivesMembers, noMember, oneMore, DerivesContent, aDatum, aLeaf, DerivesData, wholeText}
 use Rattle.rules_grammar.specs.DataGrammar
-use Rattle.rules_grammar.proofs.Leaves.{true-or-false, false-true, same-eq, or-cases, or-left, or-right, eq-same}
+use Rattle.rules_grammar.proofs.TestLaws.{true-or-false, false-true, same-eq, or-cases, or-left, or-right, eq-same}
+use Rattle.rules_grammar.proofs.WordLaws.{good-word}
 
 -- a name is listed exactly where it is one of the names
 pub listed-mem : (w : List ℕ) (ws : List (List ℕ)) → listed w ws ≡ true → List·Memᴰ w ws
@@ -136,7 +137,7 @@ module _ (s : List ℕ) where
       (λ e. noting-yields P (ltb stringLimit (length (inner s t))) TooLong (t .start) _ (λ l.
       then-yields P (Took s greater (t .end)) (expectData s greater (t .end)) _ (expect-gives greater (t .end)) (λ c p x. ends (aString (next (eqb-true _ _ e)) (ltb-false _ _ l)) x)))
       (λ e. noting-yields P (not (good (spelling s t))) BadWord (t .start) _ (λ l.
-      then-yields P (Took s greater (t .end)) (expectData s greater (t .end)) _ (expect-gives greater (t .end)) (λ c p x. ends (aWord (next (eqb-true _ _ (h e))) (not-false _ l)) x)))
+      then-yields P (Took s greater (t .end)) (expectData s greater (t .end)) _ (expect-gives greater (t .end)) (λ c p x. ends (aWord (next (eqb-true _ _ (h e))) (good-word (spelling s t) .0 (not-false _ l))) x)))
     where
       ends : {c : PlacedContent} {q p : ℕ} {g : Token} → DerivesDataLeaf s place from c q → Took s greater q g p
           → Yields (LeafGiven s place from) (parsed c p)
@@ -306,7 +307,7 @@ leaf-got : {s : List ℕ} {place from p : ℕ} {c : PlacedContent} {g : Token} �
     → NextDataToken s p greater g → leafFrom s place (dataTokenAt s from) ≡ parsed c (g .end)
 unfolding leafFrom
 leaf-got {s} {place} {from} (aString (next e) l) n = rw (e, le-ltb stringLimit (length (inner s (dataTokenAt s from))) l, expect-got n)
-leaf-got (aWord (next e) l) n = rw (e, l, expect-got n)
+leaf-got {s = s} {from = from} (aWord (next e) l) n = rw (e, good-word (spelling s (dataTokenAt s from)) .1 l, expect-got n)
 
 -- a sort compared with another
 pub other : {a b : ℕ} → a ≡ b → (k : ℕ) → eqb a k ≡ eqb b k

@@ -32,9 +32,11 @@ use Rattle.cadl_items.specs.Leaves.{isBoolean, booleanFlag, rangeLeaf}
 use Rattle.cadl_intervals.proofs.IntervalParts.{literal-is, up-is, above-is, spread-is, from-is, between-is, interval-is}
 use Rattle.cadl_items.proofs.LeafParts.{start-is, ranges-none, ranges-some, start-string-is, strings-none, strings-some, second-is, boolean-is, leaf-is}
 use Rattle.rules_grammar.specs.DataGrammar.{Distinct, noName, newName}
-use Rattle.rules_grammar.specs.LeafGrammar.{NextToken, next, DerivesLiteral, literal, DerivesEnds, DerivesItem, aValue, anInterval, DerivesItems, lastItem, moreItems, Meet, Apart, noItem, newItem, DerivesStrings, lastString, moreStrings, textsIn, Boolean, aTrue, aFalse, DerivesLeaf}
+use Rattle.rules_grammar.specs.LeafGrammar.{NextToken, next, IsLiteral, DerivesLiteral, literal, DerivesEnds, DerivesItem, aValue, anInterval, DerivesItems, lastItem, moreItems, Meet, Apart, noItem, newItem, DerivesStrings, lastString, moreStrings, textsIn, Boolean, aTrue, aFalse, DerivesLeaf}
 use Rattle.rules_grammar.specs.LeafGrammar
-use Rattle.rules_grammar.proofs.Leaves.{true-or-false, false-true, or-cases, or-left, or-right, and-both}
+use Rattle.rules_grammar.proofs.TestLaws.{true-or-false, false-true, or-cases, or-left, or-right, and-both}
+use Rattle.rules_grammar.proofs.SortLaws.{date-long}
+use Rattle.rules_grammar.proofs.LiteralLaws.{literal-of, integer-literal, date-literal}
 use Rattle.rules_grammar.proofs.Given.{Gives, got-gives, refuse-gives, cond-gives, unless-gives, then-gives, given, gives-map}
 use Rattle.rules_grammar.proofs.Derived.{not-listed, listed-not, other, head-new, tail-new}
 
@@ -59,6 +61,12 @@ decided : {k : ℕ} → Asked k → (t : Token) → Suits k (kindBy k t)
 decided unasked t = by-cond (Suits undecided) (eqb (t .sort) date) (λ e. newly isDate) (λ e. newly isInteger)
 decided (asked isInteger) t = kept isInteger
 decided (asked isDate) t = kept isDate
+
+-- a literal's value is what it says
+literal-says : {s : List ℕ} {kind from v : ℕ} {t : Token} → Kind kind → NextToken s from kind t
+    → literalValue kind (spelling s t) ≡ some v → IsLiteral kind (spelling s t) v
+literal-says isInteger n e = integer-literal _ _ .0 e
+literal-says {s} {from = from} isDate (next h) e = date-literal _ _ (date-long s from h) .0 e
 
 -- what each part of the reader gives
 pub data Took (s : List ℕ) (sort from : ℕ) : Token → ℕ → Type 0 where
@@ -117,22 +125,22 @@ module _ (s : List ℕ) where
       let P = Took s sort from in
       cond-gives P (eqb (t .sort) sort) _ _ (λ e. got-gives P t (t .end) (took (next (eqb-true _ _ e)))) (λ e. refuse-gives P (syntaxCause t) (t .start))
 
-  literal-gives : (kind from : ℕ) → Gives (LiteralGiven s kind from) (Told.literal s kind from)
-  literal-gives kind from =
+  literal-gives : (kind from : ℕ) → Kind kind → Gives (LiteralGiven s kind from) (Told.literal s kind from)
+  literal-gives kind from k =
       rw (literal-is s kind from) (then-gives (LiteralGiven s kind from) (Took s kind from) (expect s kind from) _ (expect-gives kind from) (λ t p x. go x (literalValue kind (spelling s t)) refl))
     where
       go : {t : Token} {p : ℕ} → Took s kind from t p → (o : Option ℕ) → literalValue kind (spelling s t) ≡ o
           → Gives (LiteralGiven s kind from) (firstIn (possible t o))
       go {t} x none e = refuse-gives (LiteralGiven s kind from) Impossible (t .start)
-      go {t} (took n) (some v) e = got-gives (LiteralGiven s kind from) v (t .end) (literalGiven (literal n e))
+      go {t} (took n) (some v) e = got-gives (LiteralGiven s kind from) v (t .end) (literalGiven (literal n (literal-says k n e)))
 
-  up-gives : (kind low from : ℕ) → Gives (UpGiven s kind low from) (Told.upTo s kind low from)
-  up-gives kind low from =
+  up-gives : (kind low from : ℕ) → Kind kind → Gives (UpGiven s kind low from) (Told.upTo s kind low from)
+  up-gives kind low from k =
       let t = tokenAt s from in
       let P = UpGiven s kind low from in
       rw (up-is s kind low from) (cond-gives P (eqb (t .sort) less) _ _
-      (λ e. then-gives P (LiteralGiven s kind (t .end)) (Told.literal s kind (t .end)) _ (literal-gives kind (t .end)) (λ b p x. opened (next (eqb-true _ _ e)) x))
-      (λ e. then-gives P (LiteralGiven s kind from) (Told.literal s kind from) _ (literal-gives kind from) (λ b p x. shut x)))
+      (λ e. then-gives P (LiteralGiven s kind (t .end)) (Told.literal s kind (t .end)) _ (literal-gives kind (t .end) k) (λ b p x. opened (next (eqb-true _ _ e)) x))
+      (λ e. then-gives P (LiteralGiven s kind from) (Told.literal s kind from) _ (literal-gives kind from k) (λ b p x. shut x)))
     where
       opened : {l : Token} {b p : ℕ} → NextToken s from less l → LiteralGiven s kind (l .end) b p
           → Gives (UpGiven s kind low from) (got (ends kind low b true) p)
@@ -149,7 +157,7 @@ module _ (s : List ℕ) where
       let d = tokenAt s (t .end) in
       let P = EndsGiven s kind from in
       rw (above-is s k a (t .end)) (cond-gives P (eqb (d .sort) dots) _ _
-      (λ e. gives-map (UpGiven s k (after k a) (d .end)) P _ (λ f p y. made (next (eqb-true _ _ e)) y) (up-gives k (after k a) (d .end)))
+      (λ e. gives-map (UpGiven s k (after k a) (d .end)) P _ (λ f p y. made (next (eqb-true _ _ e)) y) (up-gives k (after k a) (d .end) (suits-kind q)))
       (λ e. got-gives P (ends k (after k a) (most k) false) (t .end) (endsGiven q (LeafGrammar.above n x) refl)))
     where
       made : {d : Token} {f : Ends} {p : ℕ} → NextToken s (t .end) dots d → UpGiven s k (after k a) (d .end) f p
@@ -163,10 +171,10 @@ module _ (s : List ℕ) where
       let d = tokenAt s (t .end) in
       let P = EndsGiven s kind from in
       rw (from-is s k a (t .end), spread-is s a (d .end)) (cond-gives P (eqb (d .sort) dots) _ _
-      (λ e. gives-map (UpGiven s k a (d .end)) P _ (λ f p y. made (next (eqb-true _ _ e)) y) (up-gives k a (d .end)))
+      (λ e. gives-map (UpGiven s k a (d .end)) P _ (λ f p y. made (next (eqb-true _ _ e)) y) (up-gives k a (d .end) (suits-kind q)))
       (λ e. cond-gives P (eqb (d .sort) plusMinus) _ _
       (λ f. cond-gives P (eqb k date) _ _ (λ g. refuse-gives P (syntaxCause d) (d .start))
-      (λ g. then-gives P (LiteralGiven s integer (d .end)) (Told.literal s integer (d .end)) _ (literal-gives integer (d .end)) (λ v p y.
+      (λ g. then-gives P (LiteralGiven s integer (d .end)) (Told.literal s integer (d .end)) _ (literal-gives integer (d .end) isInteger) (λ v p y.
       unless-gives P (cond (inside a v) false true) OutOfRange (tokenAt s (d .end) .start) _ (λ i.
       got-gives P (ends integer (around a v .low) (around a v .high) false) p (spreads (next (eqb-true _ _ f)) (whole k (suits-kind q) g) y (held (inside a v) i))))))
       (λ f. got-gives P (ends k a a false) (t .end) (endsGiven q (LeafGrammar.point x) refl))))
@@ -194,7 +202,7 @@ module _ (s : List ℕ) where
       → Gives P (withLiteral s kind at go)
   with-gives kind at go P w f =
       let k = kindBy kind (tokenAt s at) in
-      then-gives P (LiteralGiven s k at) (Told.literal s k at) _ (literal-gives k at) (λ a p x. made (decided w (tokenAt s at)) x)
+      then-gives P (LiteralGiven s k at) (Told.literal s k at) _ (literal-gives k at (suits-kind (decided w (tokenAt s at)))) (λ a p x. made (decided w (tokenAt s at)) x)
     where
       made : {k a p : ℕ} → Suits kind k → LiteralGiven s k at a p → Gives P (go k a p)
       made {k} {a} q (literalGiven {t = t} x) = f k a t q x
@@ -248,7 +256,7 @@ module _ (s : List ℕ) where
       rw (start-is s kind from) (cond-gives P (eqb (t .sort) bar) _ _
       (λ e. got-gives P (record { place = t .start; single = false; value = 0 }) (t .end) (barStart (next (eqb-true _ _ e))))
       (λ e. cond-gives P (eqb (t .sort) integer && not (eqb kind date)) _ _
-      (λ f. then-gives P (LiteralGiven s integer from) (Told.literal s integer from) _ (literal-gives s integer from) (λ v p x.
+      (λ f. then-gives P (LiteralGiven s integer from) (Told.literal s integer from) _ (literal-gives s integer from isInteger) (λ v p x.
       got-gives P (record { place = t .start; single = true; value = v }) p (made (value-suits w (not-true-false (eqb kind date) (and-right (eqb (t .sort) integer) (not (eqb kind date)) f))) x)))
       (λ f. refuse-gives P (syntaxCause t) (t .start))))
     where
@@ -399,7 +407,7 @@ expect-got {sort = sort} (next e) = rw (other e sort, eq-eqb sort sort refl)
 
 literal-got : {s : List ℕ} {kind from v : ℕ} {t : Token} → DerivesLiteral s kind from v t
     → Told.literal s kind from ≡ got v (t .end)
-literal-got {s} {kind} {from} (literal n e) = rw (literal-is s kind from, expect-got n, e)
+literal-got {s} {kind} {from} (literal n e) = rw (literal-is s kind from, expect-got n, literal-of e)
 
 literal-sort : {s : List ℕ} {kind from v : ℕ} {t : Token} → DerivesLiteral s kind from v t → tokenAt s from .sort ≡ kind
 literal-sort (literal (next e) h) = e

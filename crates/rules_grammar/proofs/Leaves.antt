@@ -1,7 +1,7 @@
 -- What a leaf admits, by the relation and by the definition. Assumes nothing.
 use mathlib.Core.Path.{_≡_, refl, sym, ap, _∙_, subst}
-use mathlib.Core.Logic.{_≢_}
-use mathlib.Core.Bool.{Bool, true, false, _&&_, _||_}
+use mathlib.Core.Logic.{_↔_}
+use mathlib.Core.Bool.{Bool, true, _&&_}
 use mathlib.Core.Option.{Option, none, some}
 use mathlib.Core.List.{List, [], _∷_, List·Memᴰ, List·Memᴰ·head, List·Memᴰ·tail}
 use Prim.Native.Nat.{ℕ, zero, suc, _≤_, _-_}
@@ -21,64 +21,13 @@ use Rattle.meaning.specs.Data
 use Rattle.meaning.specs.Findings.{Finding, unsuited, refuted, admitted, try}
 use Rattle.meaning.specs.Sorts.{inRange, inSome, inFlag}
 use Rattle.meaning.specs.Admission.{isSome, wordUnder, stringUnder}
+use Rattle.rules_grammar.specs.Words.{IsBoolean, IsInteger, IsDate, IsTime}
 use Rattle.rules_grammar.specs.Admits.{Fits, InItem, inItem, IsItem, isItem, Flagged, Readable, LeafAdmits, patternOf}
 use Rattle.rules_grammar.specs.Admits
-
--- a truth value is one of two
-pub true-or-false : {P : Type 0} (b : Bool) → (b ≡ true → P) → (b ≡ false → P) → P
-true-or-false true f g = f refl
-true-or-false false f g = g refl
-
-pub false-true : false ≡ true → ⊥
-false-true e = let z : _≡_ {A = ℕ} 0 1 = cc in omega arith
-
-pub none-some : {A : Type 0} {a : A} → none ≡ some a → ⊥
-none-some {A} {a} e = let z : _≡_ {A = ℕ} 0 1 = cc in omega arith
-
-some-inj : {A : Type 0} {a b : A} → some a ≡ some b → a ≡ b
-some-inj {A} {a} {b} e = cc
-
--- runs are the same where they are equal
-pub same-eq : (xs ys : List ℕ) → same xs ys ≡ true → xs ≡ ys
-unfolding same
-same-eq [] [] h = refl
-same-eq [] (y ∷ ys) h = absurd (false-true h)
-same-eq (x ∷ xs) [] h = absurd (false-true h)
-same-eq (x ∷ xs) (y ∷ ys) h =
-    let p = eqb-true x y (and-left (eqb x y) (same xs ys) h) in
-    let q = same-eq xs ys (and-right (eqb x y) (same xs ys) h) in
-    λ i. p i ∷ q i
-
-pub same-self : (xs : List ℕ) → same xs xs ≡ true
-unfolding same
-same-self [] = refl
-same-self (x ∷ xs) = rw (eq-eqb x x refl) (same-self xs)
-
-pub eq-same : (xs ys : List ℕ) → xs ≡ ys → same xs ys ≡ true
-eq-same xs ys e = rw (← e) (same-self xs)
-
-pub ne-same : (xs ys : List ℕ) → xs ≢ ys → same xs ys ≡ false
-ne-same xs ys h = true-or-false (same xs ys) (λ e. absurd (h (same-eq xs ys e))) (λ e. e)
-
-pub same-ne : (xs ys : List ℕ) → same xs ys ≡ false → xs ≢ ys
-same-ne xs ys h e = false-true (sym h ∙ eq-same xs ys e)
-
--- either of two tests
-pub or-left : (a b : Bool) → a ≡ true → (a || b) ≡ true
-or-left true b h = refl
-or-left false b h = absurd (false-true h)
-
-pub or-right : (a b : Bool) → b ≡ true → (a || b) ≡ true
-or-right true b h = refl
-or-right false b h = h
-
-pub or-cases : {P : Type 0} (a b : Bool) → (a || b) ≡ true → (a ≡ true → P) → (b ≡ true → P) → P
-or-cases true b h f g = f refl
-or-cases false b h f g = g h
-
-pub and-both : (a b : Bool) → a ≡ true → b ≡ true → (a && b) ≡ true
-and-both true b h k = k
-and-both false b h k = h
+use Rattle.rules_grammar.proofs.TestLaws.{false-true, none-some, some-inj, same-eq, eq-same, or-left, or-right, or-cases, and-both}
+use Rattle.rules_grammar.proofs.DateWordLaws.{date-word}
+use Rattle.rules_grammar.proofs.TimeWordLaws.{time-word}
+use Rattle.rules_grammar.proofs.WordLaws.{boolean-word, integer-word}
 
 -- items
 in-item : (v : ℕ) (l : List Range) → inSome v l ≡ true → InItem v l
@@ -162,81 +111,90 @@ Stands l c refuted = Readable l c × (¬ LeafAdmits l c)
 Stands l c admitted = LeafAdmits l c
 
 -- a value that is tried: unless it cannot be read, it passes the test or does not
-tried : {A : Type 0} (l : Leaf) (c : Content) (o : Option A) (test : A → Bool)
-    → ((a : A) → o ≡ some a → Readable l c)
-    → (Readable l c → (a : A) × (o ≡ some a))
-    → ((a : A) → o ≡ some a → test a ≡ true → LeafAdmits l c)
-    → (LeafAdmits l c → (a : A) × (o ≡ some a) × (test a ≡ true))
+tried : {A : Type 0} (Is : A → Type 0) (l : Leaf) (c : Content) (o : Option A) (test : A → Bool)
+    → ((a : A) → (o ≡ some a) ↔ Is a)
+    → ((a : A) → Is a → Readable l c)
+    → (Readable l c → (a : A) × Is a)
+    → ((a : A) → Is a → test a ≡ true → LeafAdmits l c)
+    → (LeafAdmits l c → (a : A) × Is a × (test a ≡ true))
     → Stands l c (try o test)
-tried l c none test f g h k = λ r. none-some (g r .1)
-tried {A} l c (some a) test f g h k =
+tried Is l c none test law f g h k = λ r. let x = g r in none-some (law (x .0) .1 (x .1))
+tried {A} Is l c (some a) test law f g h k =
     by-cond (Stands l c) (test a)
-    (λ e. h a refl e)
-    (λ e. (f a refl, λ r. let x = k r in false-true (sym e ∙ (ap test (some-inj (x .1)) ∙ x .2))))
+    (λ e. h a (law a .0 refl) e)
+    (λ e. (f a (law a .0 refl), λ r. let x = k r in false-true (sym e ∙ (ap test (some-inj (law (x .0) .1 (x .1))) ∙ x .2))))
 
 -- a word that is read, and one that is admitted, under each kind
 boolean-read : {n f p : ℕ} {w : List ℕ} → Readable (single booleans n f) (Data.word p w)
-    → (b : ℕ) × (booleanOf w ≡ some b)
+    → (b : ℕ) × IsBoolean w b
 boolean-read (Readable.boolean {b = b} e) = (b, e)
 
 boolean-in : {n f p : ℕ} {w : List ℕ} → LeafAdmits (single booleans n f) (Data.word p w)
-    → (b : ℕ) × (booleanOf w ≡ some b) × (inFlag f b ≡ true)
+    → (b : ℕ) × IsBoolean w b × (inFlag f b ≡ true)
 boolean-in (LeafAdmits.boolean {b = b} e h) = (b, e, of-flagged h)
 
 integer-read : {l : List Range} {p : ℕ} {w : List ℕ} → Readable (ranges integers l) (Data.word p w)
-    → (v : ℕ) × (integerOf w ≡ some v)
+    → (v : ℕ) × IsInteger w v
 integer-read (Readable.integer {v = v} e) = (v, e)
 
 integer-in : {l : List Range} {p : ℕ} {w : List ℕ} → LeafAdmits (ranges integers l) (Data.word p w)
-    → (v : ℕ) × (integerOf w ≡ some v) × (inSome v l ≡ true)
+    → (v : ℕ) × IsInteger w v × (inSome v l ≡ true)
 integer-in (LeafAdmits.integer {v = v} e h) = (v, e, of-item h)
 
 pattern-read : {n f p : ℕ} {w : List ℕ} → Readable (single datePattern n f) (Data.word p w)
-    → (d : Date) × (dateOf w ≡ some d)
+    → (d : Date) × IsDate w d
 pattern-read (Readable.patternDate {d = d} e) = (d, e)
 
 pattern-in : {n f p : ℕ} {w : List ℕ} → LeafAdmits (single datePattern n f) (Data.word p w)
-    → (d : Date) × (dateOf w ≡ some d) × (fitsDate f (d .parts) ≡ true)
+    → (d : Date) × IsDate w d × (fitsDate f (d .parts) ≡ true)
 unfolding fitsDate
 pattern-in (LeafAdmits.patternDate {d = d} e h) = (d, e, of-fits h)
 
 date-read : {l : List Range} {p : ℕ} {w : List ℕ} → Readable (ranges dates l) (Data.word p w)
-    → (d : Date) × (dateOf w ≡ some d)
+    → (d : Date) × IsDate w d
 date-read (Readable.intervalDate {d = d} e) = (d, e)
 
 date-in : {l : List Range} {p : ℕ} {w : List ℕ} → LeafAdmits (ranges dates l) (Data.word p w)
-    → (d : Date) × (dateOf w ≡ some d) × ((eqb (d .parts) 3 && inSome (d .day) l) ≡ true)
+    → (d : Date) × IsDate w d × ((eqb (d .parts) 3 && inSome (d .day) l) ≡ true)
 date-in (LeafAdmits.fullDate {d = d} e g h) = (d, e, and-both _ _ (eq-eqb (d .parts) 3 g) (of-item h))
 
-time-read : {n f p : ℕ} {w : List ℕ} → Readable (single timePattern n f) (Data.word p w) → (k : ℕ) × (timeOf w ≡ some k)
+time-read : {n f p : ℕ} {w : List ℕ} → Readable (single timePattern n f) (Data.word p w) → (k : ℕ) × IsTime w k
 time-read (Readable.time {parts = k} e) = (k, e)
 
 time-in : {n f p : ℕ} {w : List ℕ} → LeafAdmits (single timePattern n f) (Data.word p w)
-    → (k : ℕ) × (timeOf w ≡ some k) × (fitsTime f k ≡ true)
+    → (k : ℕ) × IsTime w k × (fitsTime f k ≡ true)
 unfolding fitsTime
 time-in (LeafAdmits.time {parts = k} e h) = (k, e, of-fits h)
 
 pub word-stands : (l : Leaf) (p : ℕ) (w : List ℕ) → Stands l (Data.word p w) (wordUnder l w)
 unfolding wordUnder fitsDate fitsTime
 word-stands (single booleans n f) p w =
-    tried (single booleans n f) (Data.word p w) (booleanOf w) (inFlag f) (λ b e. Readable.boolean e) boolean-read (λ b e h. LeafAdmits.boolean e (flagged-of f b h)) boolean-in
+    tried (IsBoolean w) (single booleans n f) (Data.word p w) (booleanOf w) (inFlag f) (boolean-word w)
+    (λ b e. Readable.boolean e)
+    boolean-read
+    (λ b e h. LeafAdmits.boolean e (flagged-of f b h))
+    boolean-in
 word-stands (ranges integers l) p w =
-    tried (ranges integers l) (Data.word p w) (integerOf w) (λ v. inSome v l) (λ v e. Readable.integer e) integer-read (λ v e h. LeafAdmits.integer e (in-item v l h)) integer-in
+    tried (IsInteger w) (ranges integers l) (Data.word p w) (integerOf w) (λ v. inSome v l) (integer-word w)
+    (λ v e. Readable.integer e)
+    integer-read
+    (λ v e h. LeafAdmits.integer e (in-item v l h))
+    integer-in
 word-stands (texts l) p w = elim [ ]
 word-stands (single datePattern n f) p w =
-    tried (single datePattern n f) (Data.word p w) (dateOf w) (λ d. fitsDate f (d .parts))
+    tried (IsDate w) (single datePattern n f) (Data.word p w) (dateOf w) (λ d. fitsDate f (d .parts)) (date-word w)
     (λ d e. Readable.patternDate e)
     pattern-read
     (λ d e h. LeafAdmits.patternDate e (fits-of (patternOf datePatterns f) (d .parts) h))
     pattern-in
 word-stands (ranges dates l) p w =
-    tried (ranges dates l) (Data.word p w) (dateOf w) (λ d. eqb (d .parts) 3 && inSome (d .day) l)
+    tried (IsDate w) (ranges dates l) (Data.word p w) (dateOf w) (λ d. eqb (d .parts) 3 && inSome (d .day) l) (date-word w)
     (λ d e. Readable.intervalDate e)
     date-read
     (λ d e h. LeafAdmits.fullDate e (eqb-true (d .parts) 3 (and-left (eqb (d .parts) 3) (inSome (d .day) l) h)) (in-item (d .day) l (and-right (eqb (d .parts) 3) (inSome (d .day) l) h)))
     date-in
 word-stands (single timePattern n f) p w =
-    tried (single timePattern n f) (Data.word p w) (timeOf w) (fitsTime f)
+    tried (IsTime w) (single timePattern n f) (Data.word p w) (timeOf w) (fitsTime f) (time-word w)
     (λ k e. Readable.time e)
     time-read
     (λ k e h. LeafAdmits.time e (fits-of (patternOf timePatterns f) k h))

@@ -1,4 +1,19 @@
 -- The relations and the definitions are one.
+pub mod TestLaws
+pub mod ByteRules
+pub mod SeparatorLaws
+pub mod SpelledAtLaws
+pub mod NumberLaws
+pub mod TokensReach
+pub mod TokensSpelled
+pub mod TokenLaws
+pub mod DataTokenLaws
+pub mod DigitLaws
+pub mod DateWordLaws
+pub mod TimeWordLaws
+pub mod WordLaws
+pub mod SortLaws
+pub mod LiteralLaws
 pub mod Leaves
 pub mod Judged
 pub mod Given

@@ -7,15 +7,13 @@ use mathlib.Core.Option.{Option, none, some}
 use mathlib.Core.List.{List, [], _∷_, List·Memᴰ}
 use Prim.Native.Nat.{ℕ, zero, suc, _≤_}
 use lib.ListN.{getD}
-use Rattle.values.specs.Integers.{integerOf}
-use Rattle.values.specs.Dates.{Date, dateOf}
-use Rattle.values.specs.Times.{timeOf}
-use Rattle.values.specs.Words.{booleanOf}
+use Rattle.values.specs.Dates.{Date}
 use Rattle.values.specs.Patterns.{Part, must, may, mustNot, datePatterns, timePatterns}
 use Rattle.meaning.specs.Constraints.{Range, Text, Leaf, single, ranges, texts, booleans, datePattern, timePattern, integers, dates, ObjectHead, Object, AttributeHead, Attributes, Value, required, prohibited}
 use Rattle.meaning.specs.Constraints
 use Rattle.meaning.specs.Data.{Datum, datum, Members, Content}
 use Rattle.meaning.specs.Data
+use Rattle.rules_grammar.specs.Words.{IsBoolean, IsInteger, IsDate, IsTime}
 
 -- the type, if written, is the object's own
 pub data TypeSuits (t : List ℕ) : Option (List ℕ) → Type 0 where
@@ -63,28 +61,28 @@ pub data Flagged (b : ℕ) : ℕ → Type 0 where
 
 -- a leaf's value is read as the constraint's kind asks: a string under strings, a word under every other kind
 pub data Readable : Leaf → Content → Type 0 where
-  boolean : {n f p b : ℕ} {w : List ℕ} → booleanOf w ≡ some b → Readable (single booleans n f) (Data.word p w)
-  integer : {l : List Range} {p v : ℕ} {w : List ℕ} → integerOf w ≡ some v
+  boolean : {n f p b : ℕ} {w : List ℕ} → IsBoolean w b → Readable (single booleans n f) (Data.word p w)
+  integer : {l : List Range} {p v : ℕ} {w : List ℕ} → IsInteger w v
       → Readable (ranges integers l) (Data.word p w)
   string : {l : List Text} {p : ℕ} {w : List ℕ} → Readable (texts l) (Data.string p w)
-  patternDate : {n f p : ℕ} {w : List ℕ} {d : Date} → dateOf w ≡ some d
+  patternDate : {n f p : ℕ} {w : List ℕ} {d : Date} → IsDate w d
       → Readable (single datePattern n f) (Data.word p w)
-  intervalDate : {l : List Range} {p : ℕ} {w : List ℕ} {d : Date} → dateOf w ≡ some d
+  intervalDate : {l : List Range} {p : ℕ} {w : List ℕ} {d : Date} → IsDate w d
       → Readable (ranges dates l) (Data.word p w)
-  time : {n f p parts : ℕ} {w : List ℕ} → timeOf w ≡ some parts → Readable (single timePattern n f) (Data.word p w)
+  time : {n f p parts : ℕ} {w : List ℕ} → IsTime w parts → Readable (single timePattern n f) (Data.word p w)
 
 -- what a leaf admits
 pub data LeafAdmits : Leaf → Content → Type 0 where
-  boolean : {n f p b : ℕ} {w : List ℕ} → booleanOf w ≡ some b → Flagged b f
+  boolean : {n f p b : ℕ} {w : List ℕ} → IsBoolean w b → Flagged b f
       → LeafAdmits (single booleans n f) (Data.word p w)
-  integer : {l : List Range} {p v : ℕ} {w : List ℕ} → integerOf w ≡ some v → InItem v l
+  integer : {l : List Range} {p v : ℕ} {w : List ℕ} → IsInteger w v → InItem v l
       → LeafAdmits (ranges integers l) (Data.word p w)
   string : {l : List Text} {p : ℕ} {w : List ℕ} → IsItem w l → LeafAdmits (texts l) (Data.string p w)
-  patternDate : {n f p : ℕ} {w : List ℕ} {d : Date} → dateOf w ≡ some d → Fits (patternOf datePatterns f) (d .parts)
+  patternDate : {n f p : ℕ} {w : List ℕ} {d : Date} → IsDate w d → Fits (patternOf datePatterns f) (d .parts)
       → LeafAdmits (single datePattern n f) (Data.word p w)
-  fullDate : {l : List Range} {p : ℕ} {w : List ℕ} {d : Date} → dateOf w ≡ some d → d .parts ≡ 3 → InItem (d .day) l
+  fullDate : {l : List Range} {p : ℕ} {w : List ℕ} {d : Date} → IsDate w d → d .parts ≡ 3 → InItem (d .day) l
       → LeafAdmits (ranges dates l) (Data.word p w)
-  time : {n f p parts : ℕ} {w : List ℕ} → timeOf w ≡ some parts → Fits (patternOf timePatterns f) parts
+  time : {n f p parts : ℕ} {w : List ℕ} → IsTime w parts → Fits (patternOf timePatterns f) parts
       → LeafAdmits (single timePattern n f) (Data.word p w)
 
 mutual

@@ -3,7 +3,6 @@
 -- a block's"; a word "is good if it reads as at least one of" the kinds; 'Table', lengths of types, names and strings; 'Meaning': "at most 16 levels"; 'Numbers of refusal', 9: a
 -- "member named twice" is refused. Tokens are those of lexis. Each relation says that a part of the text s, from one place up to another, derives a tree. Assumes nothing.
 use mathlib.Core.Path.{_≡_}
-use mathlib.Core.Bool.{true}
 use mathlib.Core.Option.{none, some}
 use mathlib.Core.List.{List, [], _∷_, List·Memᴰ}
 use Prim.Native.Nat.{ℕ, suc, _≤_, max}
@@ -13,10 +12,10 @@ use Rattle.lexis.specs.Tokens.{textEnd, typeName, name, spelling, inner}
 use Rattle.lexis.specs.Tokens
 use Rattle.lexis.specs.DataTokens.{dataTokenAt, typeTokenAt, equals, openRound, closeRound, wordRun}
 use Rattle.lexis.specs.declared.Token.{Token}
-use Rattle.values.specs.Words.{good}
 use Rattle.refusals.specs.Limits.{textLimit, nameLimit, stringLimit}
 use Rattle.dadl.specs.Placed.{Block, block, Entries, noMore, entry, PlacedContent, string, word, inside, spelledSpan}
 use Rattle.dadl.specs.Data.{spanOf, innerSpan}
+use Rattle.rules_grammar.specs.Words.{IsGood}
 
 -- the next token from a place on, of a sort
 pub data NextDataToken (s : List ℕ) (from sort : ℕ) : Token → Type 0 where
@@ -55,7 +54,7 @@ unfoldable mutual
 pub data DerivesDataLeaf (s : List ℕ) (place from : ℕ) : PlacedContent → ℕ → Type 0 where
   aString : {t : Token} → NextDataToken s from Tokens.string t → length (inner s t) ≤ stringLimit
       → DerivesDataLeaf s place from (string place (innerSpan t)) (t .end)
-  aWord : {t : Token} → NextDataToken s from wordRun t → good (spelling s t) ≡ true
+  aWord : {t : Token} → NextDataToken s from wordRun t → IsGood (spelling s t)
       → DerivesDataLeaf s place from (word place (spanOf t)) (t .end)
 
 mutual

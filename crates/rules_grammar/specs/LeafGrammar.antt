@@ -6,7 +6,6 @@
 use mathlib.Core.Path.{_≡_}
 use mathlib.Core.Logic.{_≢_}
 use mathlib.Core.Bool.{true, false}
-use mathlib.Core.Option.{some}
 use mathlib.Core.List.{List, [], _∷_, List·Memᴰ}
 use Prim.Native.Nat.{ℕ, _+_, _≤_}
 use lib.ListN.{length}
@@ -15,19 +14,26 @@ use Rattle.lexis.specs.Spelling
 use Rattle.lexis.specs.Tokens.{tokenAt, integer, date, string, spelling, inner}
 use Rattle.lexis.specs.declared.Token.{Token}
 use Rattle.values.specs.Integers.{Pair, pair, inside, around}
+use Rattle.values.specs.Dates.{Date}
 use Rattle.refusals.specs.Limits.{recordLimit, stringLimit, itemLimit}
 use Rattle.meaning.specs.Constraints.{Range, Text, Leaf, single, ranges, texts, booleans, datePattern, timePattern, integers, dates}
-use Rattle.cadl_intervals.specs.Intervals.{Ends, ends, least, most, after, literalValue, empty, closed}
+use Rattle.cadl_intervals.specs.Intervals.{Ends, ends, least, most, after, empty, closed}
 use Rattle.cadl_items.specs.Ranges.{range}
+use Rattle.rules_grammar.specs.Words.{IsInteger, IsDate}
 use Rattle.rules_grammar.specs.DataGrammar.{Distinct}
 
 -- the next token from a place on, of a sort
 pub data NextToken (s : List ℕ) (from sort : ℕ) : Token → Type 0 where
   next : tokenAt s from .sort ≡ sort → NextToken s from sort (tokenAt s from)
 
+-- what a literal of a kind says: an integer, or a date with all its parts
+pub data IsLiteral : (kind : ℕ) → List ℕ → ℕ → Type 0 where
+  anInteger : {w : List ℕ} {v : ℕ} → IsInteger w v → IsLiteral integer w v
+  aFullDate : {w : List ℕ} {d : Date} → IsDate w d → d .parts ≡ 3 → IsLiteral date w (d .day)
+
 -- a literal of a kind, integer or date, and its value
 pub data DerivesLiteral (s : List ℕ) (kind from : ℕ) : ℕ → Token → Type 0 where
-  literal : {v : ℕ} {t : Token} → NextToken s from kind t → literalValue kind (spelling s t) ≡ some v
+  literal : {v : ℕ} {t : Token} → NextToken s from kind t → IsLiteral kind (spelling s t) v
       → DerivesLiteral s kind from v t
 
 -- what stands between the bars: the low end and the high end or, where it is open, the value that the interval stays below
