@@ -1,5 +1,5 @@
 -- What each way out of the C interface's functions shows. Assumes nothing.
-use mathlib.Core.Path.{_≡_, ap, _∙_}
+use mathlib.Core.Path.{_≡_, refl, ap, _∙_}
 use mathlib.Core.Option.{Option}
 use mathlib.Core.List.{List}
 use Prim.Native.Nat.{ℕ}
@@ -27,7 +27,7 @@ use Rattle.compile.specs.declared.CompileResult.the-variants as compileResult
 use Rattle.judge.specs.contracts.Answers as judges
 use Rattle.judge.specs.declared.JudgeResult.{JudgeResult}
 use Rattle.judge.specs.declared.JudgeResult.the-variants as judgeResult
-use Rattle.gateway.specs.Interface.{placed, refusalTold, AnswerIs, compileTold, checkTold, mergeSaid, mergeTold, judgeSaid, judgeTold, nameSaid, nameTold}
+use Rattle.gateway.specs.Interface.{placed, refusalTold, AnswerIs, compileTold, checkTold, mergeSaid, mergeTold, judgeSaid, judgeTold, nameSaid, nameTold, compileNumbers, checkNumbers, mergeNumbers, judgeNumbers, nameNumbers}
 
 pub told-is : (x : Refusal) (n : ℕ) → n ≡ numberOf (x .cause) → placed n (x .place) ≡ refusalTold x
 told-is x n e = ap (λ k. placed k (x .place)) e
@@ -85,6 +85,45 @@ module _ (a : NameResult) (f : Outcome Refusal Slice) (e : tables.answerOf a ≡
       → nameSaid (placed n p) 0 ≡ nameTold f
   name-refused x g n p h = ap (λ k. nameSaid k 0) h ∙ (rw g at (ap nameTold e))
 
+-- the numbers and values of an answer are those of what it stands for
+compile-said : (a : CompileResult) → compileNumbers a ≡ compileTold (compiles.answerOf a)
+compile-said (compileResult.Done length) = refl
+compile-said (compileResult.Refused r) = refl
+
+check-said : (a : CheckAnswer) → checkNumbers a ≡ checkTold (faultOf a)
+check-said checkAnswer.Passed = refl
+check-said (checkAnswer.Refused r) = refl
+
+merge-said : (a : MergeResult) → mergeNumbers a ≡ mergeTold (merges.answerOf a)
+merge-said (mergeResult.Done length records pool) = refl
+merge-said (mergeResult.Refused table r) = refl
+
+judge-said : (a : JudgeResult) → judgeNumbers a ≡ judgeTold (judges.answerOf a)
+judge-said judgeResult.Valid = refl
+judge-said (judgeResult.Refused r) = refl
+judge-said (judgeResult.Failed reason at place) = refl
+
+name-said : (a : NameResult) → nameNumbers a ≡ nameTold (tables.answerOf a)
+name-said (nameResult.Named start length) = refl
+name-said (nameResult.Refused r) = refl
+
+pub compile-numbers : (c : Answered Refusal ℕ) (a : CompileResult) (bytes : List ℕ)
+    → answered (compiles.answerOf a) bytes ≡ c → AnswerIs compileTold c (compileNumbers a) bytes
+compile-numbers c a bytes e = answer-told compileTold c (compiles.answerOf a) bytes e (compileNumbers a) (compile-said a)
+
+pub check-numbers : (a : CheckAnswer) (f : Option Refusal) → faultOf a ≡ f → checkNumbers a ≡ checkTold f
+check-numbers a f e = check-said a ∙ ap checkTold e
+
+pub merge-numbers : (m : Answered MergeRefusal MergeReport) (a : MergeResult) (bytes : List ℕ)
+    → answered (merges.answerOf a) bytes ≡ m → AnswerIs mergeTold m (mergeNumbers a) bytes
+merge-numbers m a bytes e = answer-told mergeTold m (merges.answerOf a) bytes e (mergeNumbers a) (merge-said a)
+
+pub judge-numbers : (a : JudgeResult) (f : Outcome Refusal Verdict) → judges.answerOf a ≡ f → judgeNumbers a ≡ judgeTold f
+judge-numbers a f e = judge-said a ∙ ap judgeTold e
+
+pub name-numbers : (a : NameResult) (f : Outcome Refusal Slice) → tables.answerOf a ≡ f → nameNumbers a ≡ nameTold f
+name-numbers a f e = name-said a ∙ ap nameTold e
+
 pub ruleset interface-steps = (
   told-is,
   compile-done,
@@ -99,3 +138,5 @@ pub ruleset interface-steps = (
   name-named,
   name-refused,
 )
+
+pub ruleset number-steps = (compile-numbers, check-numbers, merge-numbers, judge-numbers, name-numbers)

@@ -1,5 +1,6 @@
--- What the functions of the C interface return and set: document 01's number, 0 where there is no refusal, and for each outcome the values that it names; an argument that is not named for an
--- outcome is set to 0. Assumes nothing.
+-- What the jobs and the functions of the C interface answer: document 01's number, 0 where there is no refusal, and for each outcome the values that it names; a value that is not named for an
+-- outcome is 0. Document 01, 'What form to use where': "Where an answer is an enum, a definition gives this paper's number and values for each of the enum's cases. The promises use that
+-- definition". Assumes nothing.
 use mathlib.Core.Path.{_≡_}
 use mathlib.Core.Option.{Option, none, some}
 use mathlib.Core.List.{List}
@@ -9,7 +10,17 @@ use Rattle.refusals.specs.Outcomes.{Outcome, refused, gave, Answered}
 use Rattle.refusals.specs.declared.Refusal.{Refusal}
 use Rattle.meaning.specs.Verdicts.{Verdict, valid, fails}
 use Rattle.table.specs.Names.{Slice}
+use Rattle.table.specs.declared.check.CheckAnswer.{CheckAnswer}
+use Rattle.table.specs.declared.check.CheckAnswer.the-variants as checkAnswer
+use Rattle.table.specs.declared.names.NameResult.{NameResult}
+use Rattle.table.specs.declared.names.NameResult.the-variants as nameResult
 use Rattle.table_merge.specs.Merge.{MergeReport, MergeRefusal}
+use Rattle.table_merge.specs.declared.MergeResult.{MergeResult}
+use Rattle.table_merge.specs.declared.MergeResult.the-variants as mergeResult
+use Rattle.compile.specs.declared.CompileResult.{CompileResult}
+use Rattle.compile.specs.declared.CompileResult.the-variants as compileResult
+use Rattle.judge.specs.declared.JudgeResult.{JudgeResult}
+use Rattle.judge.specs.declared.JudgeResult.the-variants as judgeResult
 
 -- a number and a place
 pub record Placed : Type 0 where
@@ -78,3 +89,25 @@ nameSaid told length = record { told = told; length = length }
 abbrev pub nameTold : Outcome Refusal Slice → NameTold
 nameTold (refused r) = nameSaid (refusalTold r) 0
 nameTold (gave p) = nameSaid (placed 0 (p .start)) (p .length)
+
+-- the number and the values of each case of the jobs' answers
+abbrev pub compileNumbers : CompileResult → Placed
+compileNumbers (compileResult.Done length) = placed 0 length
+compileNumbers (compileResult.Refused r) = refusalTold r
+
+abbrev pub checkNumbers : CheckAnswer → Placed
+checkNumbers checkAnswer.Passed = placed 0 0
+checkNumbers (checkAnswer.Refused r) = refusalTold r
+
+abbrev pub mergeNumbers : MergeResult → MergeSaid
+mergeNumbers (mergeResult.Done length records pool) = mergeSaid (placed 0 length) (records .0) (pool .0) 0
+mergeNumbers (mergeResult.Refused table r) = mergeSaid (refusalTold r) 0 0 table
+
+abbrev pub judgeNumbers : JudgeResult → JudgeTold
+judgeNumbers judgeResult.Valid = judgeSaid (placed 0 0) 0
+judgeNumbers (judgeResult.Refused r) = judgeSaid (refusalTold r) 0
+judgeNumbers (judgeResult.Failed reason «record» place) = judgeSaid (placed reason place) («record» .0)
+
+abbrev pub nameNumbers : NameResult → NameTold
+nameNumbers (nameResult.Named start length) = nameSaid (placed 0 start) length
+nameNumbers (nameResult.Refused r) = nameSaid (refusalTold r) 0

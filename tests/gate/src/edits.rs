@@ -1,5 +1,5 @@
 //! The edits that must be refused: files `crates/CRATE/must-fail/*.edit`, which `rt must-fail` tries, and `crates/CRATE/must-fail/MODULE/*.edit`, each of
-//! the one function that its line `function:` names.
+//! the one function that its line `function:` names, or of a definition that a law holds, which its line `law:` names.
 
 use crate::sources::Sources;
 use std::fs;
@@ -17,6 +17,8 @@ pub struct Edit {
     pub wrong: String,
     /// The functions that it breaks, where it is one of code; one, where it is tried by itself.
     pub functions: Vec<String>,
+    /// The file of the law that it breaks, below the crate's `proofs` and without `.antt`, where it is one of a definition that is tried by itself.
+    pub law: Option<String>,
     pub replacements: Vec<Replacement>,
 }
 
@@ -33,10 +35,12 @@ impl Edit {
     pub fn parse(crate_name: &str, name: &str, text: &str) -> Result<Edit, String> {
         let mut lines = text.lines();
         let wrong = sentence(lines.next().unwrap_or(""))?;
-        let (mut functions, mut file, mut old, mut replacements) = (Vec::new(), None, None, Vec::new());
+        let (mut functions, mut law, mut file, mut old, mut replacements) = (Vec::new(), None, None, None, Vec::new());
         for line in lines {
             if let Some(path) = line.strip_prefix("function: ") {
                 functions.push(path.to_string());
+            } else if let Some(path) = line.strip_prefix("law: ") {
+                law = Some(path.to_string());
             } else if let Some(path) = line.strip_prefix("file: ") {
                 file = Some(path.to_string());
             } else if let Some(text) = line.strip_prefix("old: ") {
@@ -47,13 +51,13 @@ impl Edit {
                 let new = text.strip_prefix(' ').unwrap_or(text).to_string();
                 replacements.push(Replacement { file, old, new });
             } else if !line.starts_with('#') && !line.is_empty() {
-                return Err(format!("a line is neither a comment nor one of function, file, old and new: {line}"));
+                return Err(format!("a line is neither a comment nor one of function, law, file, old and new: {line}"));
             }
         }
         if replacements.is_empty() {
             return Err("it replaces nothing".to_string());
         }
-        Ok(Edit { crate_name: crate_name.to_string(), name: name.to_string(), wrong, functions, replacements })
+        Ok(Edit { crate_name: crate_name.to_string(), name: name.to_string(), wrong, functions, law, replacements })
     }
 
     /// Its file, from the repository's root on.
@@ -61,8 +65,8 @@ impl Edit {
         PathBuf::from(format!("crates/{}/must-fail/{}.edit", self.crate_name, self.name))
     }
 
-    /// Whether it is of one function, so that its own check asks more than that the crate is refused.
-    pub fn is_of_one_function(&self) -> bool {
+    /// Whether it is of one function or one law, so that its own check asks more than that the crate is refused.
+    pub fn names_what_fails(&self) -> bool {
         self.name.contains('/')
     }
 
@@ -136,8 +140,8 @@ fn read(folder: &Path, crate_name: &str, file: &str) -> Result<Edit, String> {
     let text = fs::read_to_string(folder.join(file)).map_err(|error| format!("{file}: {error}"))?;
     let edit =
         Edit::parse(crate_name, name, &text).map_err(|why| format!("crates/{crate_name}/must-fail/{file}: {why}"))?;
-    if edit.is_of_one_function() && edit.functions.len() != 1 {
-        return Err(format!("crates/{crate_name}/must-fail/{file}: it has not one line 'function:'"));
+    if edit.names_what_fails() && edit.functions.len() + usize::from(edit.law.is_some()) != 1 {
+        return Err(format!("crates/{crate_name}/must-fail/{file}: it has not one line 'function:' or 'law:'"));
     }
     Ok(edit)
 }
@@ -171,8 +175,10 @@ pub(crate) mod tests {
         );
         let only = Replacement { file: "src/lib.rt".to_string(), old: "a + b".to_string(), new: "a".to_string() };
         assert_eq!(read.replacements, [only]);
-        assert!(read.is_of_one_function() && !read.is_of_definitions());
+        assert!(read.names_what_fails() && !read.is_of_definitions());
         assert!(edit("x", "# x\nfile: specs/A.antt\nold: 1\nnew:\n").is_of_definitions());
+        let of_law = edit("laws/x", "# x\nlaw: Laws\nfile: specs/A.antt\nold: 1\nnew: 2\n");
+        assert_eq!((of_law.law.as_deref(), of_law.functions.len()), (Some("Laws"), 0));
     }
 
     #[test]

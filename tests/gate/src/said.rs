@@ -124,6 +124,25 @@ impl<'a> Log<'a> {
             .map_or(Ok(()), |said| Err(format!("what is said first of its proof is no fact: {said}")))
     }
 
+    /// Whether the check, made with an edit of a definition, shows that the law is refused that stands in a file of `proofs`; else what it shows instead.
+    pub fn law_refusal(&self, law: &str) -> Result<(), String> {
+        if self.proves() {
+            return Err("the prover does not refuse it: all is proved".to_string());
+        }
+        if !self.refuses() {
+            return Err(format!("it does not reach the prover: {}", self.last_line()));
+        }
+        let file = format!("crates/{}/proofs/{law}.antt:", self.crate_name);
+        let broken = |line: &str| line.contains("/specs/") && line.contains(": error");
+        if let Some(said) = self.text.lines().find(|line| broken(line)) {
+            return Err(format!("the definition itself is refused: {said}"));
+        }
+        match self.text.lines().any(|line| line.contains(&file) && line.contains(": error")) {
+            true => Ok(()),
+            false => Err(format!("nothing is refused in proofs/{law}.antt")),
+        }
+    }
+
     /// What is said first of a function's proof, where that is not that a fact has no proof: then only the proof no longer fits the code.
     fn misfit(&self, function: &str, proofs: &Proofs) -> Option<String> {
         let proof = format!("crates/{}/proofs/{}/Proof.antt:", self.crate_name, proofs.folder(function));
@@ -223,6 +242,19 @@ logic=not-proved";
         // an edit that changes nothing, and one that another hides
         assert!(log.refusal("low", &named, &proofs).is_err_and(|why| why.contains("low is proved")));
         assert!(log.refusal("over", &named, &proofs).is_err_and(|why| why.contains("as a caller alone")));
+    }
+
+    #[test]
+    fn a_law_is_refused_in_its_own_file() {
+        let text = "/w/crates/small/proofs/Sums.antt:9:1: error: `sum-is`: `omega`: no\nlogic=not-proved";
+        let log = Log::of("small", text, &Proofs::default());
+        assert_eq!(log.law_refusal("Sums"), Ok(()));
+        assert!(log.law_refusal("Sum").is_err_and(|why| why.contains("nothing is refused")));
+        let broken = format!("/w/crates/small/specs/Sums.antt:9:1: error: `sum`: no\n{text}");
+        let log = Log::of("small", &broken, &Proofs::default());
+        assert!(log.law_refusal("Sums").is_err_and(|why| why.contains("itself")));
+        let log = Log::of("small", "logic=proved", &Proofs::default());
+        assert!(log.law_refusal("Sums").is_err_and(|why| why.contains("all is proved")));
     }
 
     #[test]

@@ -3,11 +3,14 @@
 //!     tests/contracts write|check
 //!
 //! Each public function must have two edits of the code, its own or of private functions that serve it, or a reason why not in docs/LAWS.md.
-//! No definition outside `specs/contracts` may import one inside it.
+//! No definition outside `specs/contracts` may import one inside it, no relation may use the definition that it is proved one with, and the functions
+//! that the table of jobs in the demands names must promise its definitions.
 
 use gate::edits::{self, Edit};
+use gate::jobs;
 use gate::layers;
 use gate::page::{page, reasons};
+use gate::relations;
 use gate::sources::Sources;
 use std::fs;
 use std::path::Path;
@@ -15,6 +18,7 @@ use std::process::ExitCode;
 
 const PAGE: &str = "docs/CONTRACTS.md";
 const REASONS: &str = "docs/LAWS.md";
+const DEMANDS: &str = "crates/demands/specs/Demands.antt";
 
 fn main() -> ExitCode {
     let words: Vec<String> = std::env::args().skip(1).collect();
@@ -35,10 +39,16 @@ fn main() -> ExitCode {
 /// The page as it should stand.
 fn made() -> Result<String, String> {
     let root = Path::new(".");
-    let misplaced = layers::misplaced(&root.join("crates")).map_err(|error| error.to_string())?;
-    if !misplaced.is_empty() {
-        return Err(misplaced.join("\n"));
+    let mut wrong = layers::misplaced(&root.join("crates")).map_err(|error| error.to_string())?;
+    let (files, mixed) = relations::mixed(&root.join("crates")).map_err(|error| error.to_string())?;
+    wrong.extend(mixed);
+    let demands = fs::read_to_string(DEMANDS).map_err(|error| format!("{DEMANDS}: {error}"))?;
+    let gateway = Sources::read(&root.join("crates/gateway")).map_err(|error| error.to_string())?;
+    wrong.extend(jobs::unfounded(&demands, &gateway));
+    if !wrong.is_empty() {
+        return Err(wrong.join("\n"));
     }
+    println!("{files} files of relations name no definition that they are proved one with; the jobs promise what the demands speak of");
     let edits: Vec<Edit> = edits::all(root)?;
     let listed = fs::read_to_string("crates.txt").map_err(|error| format!("crates.txt: {error}"))?;
     let crates = names_of(&listed)

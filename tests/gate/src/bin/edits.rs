@@ -1,14 +1,16 @@
-//! Tries the edits of single functions, `crates/CRATE/must-fail/MODULE/*.edit`, and sees that the prover refuses each for the reason that it names.
+//! Tries the edits of single functions and of definitions that a law holds, `crates/CRATE/must-fail/MODULE/*.edit`, and sees that the prover refuses
+//! each for the reason that it names.
 //!
 //!     tests/edits [CRATE[/MODULE[/EDIT]]]..
 //!
-//! With no words, all. An edit is a file as `rt must-fail` takes it, with one line more, 'function: PATH'. Edits are tried in a copy of the tree by the
+//! With no words, all. An edit is a file as `rt must-fail` takes it, with one line more, 'function: PATH' or 'law: FILE'. Edits are tried in a copy of the tree by the
 //! kit's incremental check: what does not rest on an edited function is taken from a check of the crate as it stands, which is made first and must say
 //! that all is proved. Edits inside the bodies of functions of which none calls another, directly or through others, are tried together by one check;
 //! one that changes a constant, a type or a contract is tried alone. An edit is refused as it must be where the prover says 'not-proved', the function
 //! named is not proved by itself, no function fails by itself that no edit of the set names, and what is said first of its proof is that a fact has no
 //! proof, not that the proof no longer fits the code. An edit of which a set does not show this, as where another hides it, is tried again alone, and
-//! only that counts.
+//! only that counts. An edit of a definition is tried alone, and refused as it must be where the file of the law that it names has an error, whatever
+//! else has: code that meets the definition as it stands does not meet the edited one either, and shows nothing.
 
 use gate::edits::{self, Edit};
 use gate::said::{Log, Proofs};
@@ -39,7 +41,7 @@ fn main() -> ExitCode {
 fn run(words: Vec<String>) -> Result<bool, String> {
     let root = std::env::current_dir().map_err(|error| error.to_string())?;
     let chosen: Vec<Edit> =
-        edits::all(&root)?.into_iter().filter(|edit| edit.is_of_one_function() && is_asked_for(edit, &words)).collect();
+        edits::all(&root)?.into_iter().filter(|edit| edit.names_what_fails() && is_asked_for(edit, &words)).collect();
     if chosen.is_empty() {
         return Err("there is no such edit".to_string());
     }
@@ -52,7 +54,12 @@ fn run(words: Vec<String>) -> Result<bool, String> {
     waiting.sort_by_key(|(_, edits)| edits.len());
     prove(&root, &waiting)?;
     let total = try_all(&root, Mutex::new(waiting)).map_err(|error| error.to_string())?;
-    println!("{} of {} edits of single functions refused, by {} checks", total.refused, chosen.len(), total.checks);
+    println!(
+        "{} of {} edits of single functions and laws refused, by {} checks",
+        total.refused,
+        chosen.len(),
+        total.checks
+    );
     Ok(total.refused == chosen.len())
 }
 
@@ -234,7 +241,10 @@ impl<'a> Desk<'a> {
         if made.is_empty() {
             return Ok(vec![if log.proves() { Ok(()) } else { Err(log.last_line().to_string()) }]);
         }
-        let named: Vec<&str> = made.iter().map(|edit| function_of(edit)).collect();
+        if let [Edit { law: Some(law), .. }] = made {
+            return Ok(vec![log.law_refusal(law)]);
+        }
+        let named: Vec<&str> = made.iter().map(|edit| what_fails(edit)).collect();
         Ok(named.iter().map(|function| log.refusal(function, &named, &self.proofs)).collect())
     }
 
@@ -255,8 +265,9 @@ impl<'a> Desk<'a> {
     }
 }
 
-fn function_of(edit: &Edit) -> &str {
-    &edit.functions[0]
+/// The function or the file of the law that an edit names.
+fn what_fails(edit: &Edit) -> &str {
+    edit.law.as_ref().unwrap_or_else(|| &edit.functions[0])
 }
 
 /// The files below a folder, each with the time when it was last written.
@@ -279,8 +290,8 @@ fn times(folder: &Path) -> io::Result<BTreeMap<PathBuf, SystemTime>> {
 fn tell(edit: &Edit, together: usize, verdict: &Verdict) {
     let path = edit.path();
     match verdict {
-        Ok(()) if together == 1 => println!("{}: refused, {} is not proved", path.display(), function_of(edit)),
-        Ok(()) => println!("{}: refused, {} is not proved (one of {together})", path.display(), function_of(edit)),
+        Ok(()) if together == 1 => println!("{}: refused, {} is not proved", path.display(), what_fails(edit)),
+        Ok(()) => println!("{}: refused, {} is not proved (one of {together})", path.display(), what_fails(edit)),
         Err(why) => println!("{}: FAILED: {why}", path.display()),
     }
 }
