@@ -38,6 +38,7 @@ use Rattle.rules_grammar.specs.DataGrammar.{Distinct, noName, newName}
 use Rattle.rules_grammar.specs.LeafGrammar.{NextToken, next}
 use Rattle.rules_grammar.specs.ConstraintGrammar.{Opens, opens, Digit, digit, DerivesBounds, DerivesExistence, unwritten, written, DerivesCode, uncoded, coded, attributeNames, objectLevels, attributeLevels, valueLevels, behindAttribute, WithinLimit, DerivesObject, anObject, DerivesBody, anyMembers, DerivesAttributes, lastOne, oneMore, DerivesAttribute, anAttribute, DerivesValue, anything, oneObject, oneLeaf, DerivesConstraint, wholeText}
 use Rattle.rules_grammar.specs.ConstraintGrammar
+use Rattle.rules_grammar.proofs.NextLaws.{next-token, token-read, sort-read}
 use Rattle.rules_grammar.proofs.TestLaws.{same-eq}
 use Rattle.rules_grammar.proofs.Given.{Gives, got-gives, refuse-gives, cond-gives, unless-gives, then-gives, given, gives-map}
 use Rattle.rules_grammar.proofs.Items.{Took, took, expect-gives, expect-got, leaf-got, leaf-derives}
@@ -96,7 +97,7 @@ module _ (s : List ℕ) where
       → Digit s from w (tokenAt s from)
   digit-of w from e =
       let t = tokenAt s from in
-      digit (next (eqb-true _ _ (and-left (eqb (t .sort) integer) (same w (spelling s t)) e))) (same-eq w (spelling s t) (and-right (eqb (t .sort) integer) (same w (spelling s t)) e))
+      digit (next-token (eqb-true _ _ (and-left (eqb (t .sort) integer) (same w (spelling s t)) e))) (same-eq w (spelling s t) (and-right (eqb (t .sort) integer) (same w (spelling s t)) e))
 
   bounds-gives : (from : ℕ) → Gives (DerivesBounds s from) (bounds s from)
   unfolding bounds fromNought fromOne
@@ -108,14 +109,14 @@ module _ (s : List ℕ) where
       cond-gives P (isZero s t) _ _
       (λ e. let x = digit-of (bytes "0") from e in
       cond-gives P (eqb (d .sort) dots) _ _
-      (λ f. cond-gives P (isZero s u) _ _ (λ g. got-gives P prohibited (u .end) (ConstraintGrammar.noughtToNought x (next (eqb-true _ _ f)) (digit-of (bytes "0") (d .end) g)))
-      (λ g. cond-gives P (isOne s u) _ _ (λ h. got-gives P optional (u .end) (ConstraintGrammar.noughtToOne x (next (eqb-true _ _ f)) (digit-of (bytes "1") (d .end) h)))
+      (λ f. cond-gives P (isZero s u) _ _ (λ g. got-gives P prohibited (u .end) (ConstraintGrammar.noughtToNought x (next-token (eqb-true _ _ f)) (digit-of (bytes "0") (d .end) g)))
+      (λ g. cond-gives P (isOne s u) _ _ (λ h. got-gives P optional (u .end) (ConstraintGrammar.noughtToOne x (next-token (eqb-true _ _ f)) (digit-of (bytes "1") (d .end) h)))
       (λ h. refuse-gives P (syntaxCause u) (u .start))))
       (λ f. got-gives P prohibited (t .end) (ConstraintGrammar.nought x)))
       (λ e. cond-gives P (isOne s t) _ _
       (λ k. let x = digit-of (bytes "1") from k in
       cond-gives P (eqb (d .sort) dots) _ _
-      (λ f. cond-gives P (isOne s u) _ _ (λ h. got-gives P required (u .end) (ConstraintGrammar.oneToOne x (next (eqb-true _ _ f)) (digit-of (bytes "1") (d .end) h)))
+      (λ f. cond-gives P (isOne s u) _ _ (λ h. got-gives P required (u .end) (ConstraintGrammar.oneToOne x (next-token (eqb-true _ _ f)) (digit-of (bytes "1") (d .end) h)))
       (λ h. refuse-gives P (syntaxCause u) (u .start)))
       (λ f. got-gives P required (t .end) (ConstraintGrammar.one x)))
       (λ k. refuse-gives P (syntaxCause t) (t .start)))
@@ -129,7 +130,7 @@ module _ (s : List ℕ) where
       (λ e. then-gives P (OpenGiven s (t .end)) (opening s (t .end)) _ (opening-gives (t .end)) (λ b p x.
       then-gives P (DerivesBounds s p) (bounds s p) _ (bounds-gives p) (λ k q y.
       then-gives P (Took s closeBrace q) (expect s closeBrace q) _ (expect-gives s closeBrace q) (λ z r w.
-      got-gives P k r (made (next (eqb-true _ _ e)) x y w)))))
+      got-gives P k r (made (next-token (eqb-true _ _ e)) x y w)))))
       (λ e. got-gives P required from unwritten)
     where
       made : {x b z : Token} {k p q r : ℕ} → NextToken s from existence x → OpenGiven s (x .end) b p
@@ -142,7 +143,7 @@ module _ (s : List ℕ) where
       let P = DerivesCode s from in
       rw (code-is s from) (cond-gives P (eqb (t .sort) code) _ _
       (λ e. unless-gives P (ltb codeLimit (length (inner s t))) TooLong (t .start) _ (λ a.
-      got-gives P (inner s t) (t .end) (coded (next (eqb-true _ _ e)) (ltb-false _ _ a))))
+      got-gives P (inner s t) (t .end) (coded (next-token (eqb-true _ _ e)) (ltb-false _ _ a))))
       (λ e. got-gives P [] from uncoded))
 
   type-gives : (levels : ℕ) (c from : ℕ) → Gives (NameGiven s typeName c from) (objectType s levels c from)
@@ -216,7 +217,7 @@ module _ (s : List ℕ) (levels : ℕ)
   value-gives c from =
       let t = tokenAt s from in
       let P = ValueGiven s levels c from in
-      rw (value-is s levels c from) (cond-gives P (eqb (t .sort) star) _ _ (λ e. got-gives P any (t .end) (valueGiven (anything (next (eqb-true _ _ e))) (omega arith)))
+      rw (value-is s levels c from) (cond-gives P (eqb (t .sort) star) _ _ (λ e. got-gives P any (t .end) (valueGiven (anything (next-token (eqb-true _ _ e))) (omega arith)))
       (λ e. cond-gives P (eqb (t .sort) typeName) _ _
       (λ f. then-gives P (ObjectGiven s levels c from) (objectFrom s levels c from) _ (below c from) (λ o p x. got-gives P (nested o) p (nested-made x)))
       (λ f. leaf-case (Told.leaf s c from) refl)))
@@ -245,7 +246,7 @@ module _ (s : List ℕ) (levels : ℕ)
       let P = AttributesGiven s levels seen c from in
       rw (attributes-is s levels fuel seen c from) (then-gives P (AttributeGiven s levels seen c from) (attributeFrom s levels seen c from) _ (attribute-gives seen c from) (λ a p x.
       cond-gives P (eqb (tokenAt s p .sort) closeBrace) _ _
-      (λ e. got-gives P (attribute (headOf c a) (a .value) noMore) (tokenAt s p .end) (last-made x (next (eqb-true _ _ e))))
+      (λ e. got-gives P (attribute (headOf c a) (a .value) noMore) (tokenAt s p .end) (last-made x (next-token (eqb-true _ _ e))))
       (λ e. then-gives P (AttributesGiven s levels (a .name ∷ seen) (past c a) p) (attributes s levels fuel (a .name ∷ seen) (past c a) p) _ (attributes-gives fuel (a .name ∷ seen) (past c a) p) (λ xs q y.
       got-gives P (attribute (headOf c a) (a .value) xs) q (more-made x y)))))
 
@@ -255,7 +256,7 @@ module _ (s : List ℕ) (levels : ℕ)
       let t = tokenAt s from in
       let P = BodyGiven s levels c from in
       cond-gives P (eqb (t .sort) star) _ _
-      (λ e. then-gives P (Took s closeBrace (t .end)) (expect s closeBrace (t .end)) _ (expect-gives s closeBrace (t .end)) (λ z p x. got-gives P noMore p (star-made (next (eqb-true _ _ e)) x)))
+      (λ e. then-gives P (Took s closeBrace (t .end)) (expect s closeBrace (t .end)) _ (expect-gives s closeBrace (t .end)) (λ z p x. got-gives P noMore p (star-made (next-token (eqb-true _ _ e)) x)))
       (λ e. gives-map (AttributesGiven s levels [] c from) P _ (λ xs p x. made x) (attributes-gives (length s + 1) [] c from))
     where
       star-made : {t z : Token} {p : ℕ} → NextToken s from star t → Took s closeBrace (t .end) z p
@@ -309,32 +310,33 @@ opening-got (opens m b) = rw (expect-got m, expect-got b)
 -- a digit under a test for another
 is-digit : {s : List ℕ} {from : ℕ} {w : List ℕ} {t : Token} → Digit s from w t → (v : List ℕ)
     → (eqb (tokenAt s from .sort) integer && same v (spelling s (tokenAt s from))) ≡ same v w
-is-digit (digit (next e) h) v = rw (other e integer) (ap (same v) (sym h))
+is-digit (digit (next n e) h) v = rw (token-read n, other e integer) (ap (same v) (sym h))
+
+digit-read : {s : List ℕ} {from : ℕ} {w : List ℕ} {t : Token} → Digit s from w t → tokenAt s from ≡ t
+digit-read (digit (next n e) h) = token-read n
 
 bounds-got : {s : List ℕ} {from e p : ℕ} {z : Token} → DerivesBounds s from e p → NextToken s p closeBrace z
     → bounds s from ≡ got e p
 unfolding bounds fromNought fromOne same
-bounds-got (ConstraintGrammar.nought (digit (next a) b)) (next f) = rw (is-digit (digit (next a) b) (bytes "0"), other f dots)
-bounds-got (ConstraintGrammar.one (digit (next a) b)) (next f) = rw (is-digit (digit (next a) b) (bytes "0"), is-digit (digit (next a) b) (bytes "1"), other f dots)
-bounds-got (ConstraintGrammar.noughtToNought (digit (next a) b) (next d) (digit (next x) y)) n =
-    rw (is-digit (digit (next a) b) (bytes "0"), other d dots, is-digit (digit (next x) y) (bytes "0"))
-bounds-got (ConstraintGrammar.noughtToOne (digit (next a) b) (next d) (digit (next x) y)) n =
-    rw (is-digit (digit (next a) b) (bytes "0"), other d dots, is-digit (digit (next x) y) (bytes "0"), is-digit (digit (next x) y) (bytes "1"))
-bounds-got (ConstraintGrammar.oneToOne (digit (next a) b) (next d) (digit (next x) y)) n =
-    rw (is-digit (digit (next a) b) (bytes "0"), is-digit (digit (next a) b) (bytes "1"), other d dots, is-digit (digit (next x) y) (bytes "1"))
+bounds-got (ConstraintGrammar.nought x) n = rw (is-digit x (bytes "0"), digit-read x, other (sort-read n) dots)
+bounds-got (ConstraintGrammar.one x) n = rw (is-digit x (bytes "0"), is-digit x (bytes "1"), digit-read x, other (sort-read n) dots)
+bounds-got (ConstraintGrammar.noughtToNought x (next i d) y) n =
+    rw (is-digit x (bytes "0"), digit-read x, token-read i, other d dots, is-digit y (bytes "0"), digit-read y)
+bounds-got (ConstraintGrammar.noughtToOne x (next i d) y) n =
+    rw (is-digit x (bytes "0"), digit-read x, token-read i, other d dots, is-digit y (bytes "0"), is-digit y (bytes "1"), digit-read y)
+bounds-got (ConstraintGrammar.oneToOne x (next i d) y) n =
+    rw (is-digit x (bytes "0"), is-digit x (bytes "1"), digit-read x, token-read i, other d dots, is-digit y (bytes "1"), digit-read y)
 
 existence-got : {s : List ℕ} {from e p : ℕ} {b : Token} → DerivesExistence s from e p → Opens s p b
     → existenceFrom s from ≡ got e p
 unfolding existenceFrom
-existence-got unwritten (opens (next f) n) = rw (other f existence)
-existence-got (written (next x) o d z) n = rw (other x existence, opening-got o, bounds-got d z, expect-got z)
+existence-got unwritten (opens m n) = rw (other (sort-read m) existence)
+existence-got (written (next m x) o d z) n = rw (token-read m, other x existence, opening-got o, bounds-got d z, expect-got z)
 
 code-got : {s : List ℕ} {from p : ℕ} {k : List ℕ} {b : Token} → DerivesCode s from k p → Opens s p b
     → objectCode s from ≡ got k p
-code-got {s} {from} uncoded (opens (next f) n) = rw (code-is s from, other f code)
-code-got {s} {from} (coded (next e) l) n =
-    let t = tokenAt s from in
-    rw (code-is s from, other e code, le-ltb codeLimit (length (inner s t)) l)
+code-got {s} {from} uncoded (opens m n) = rw (code-is s from, other (sort-read m) code)
+code-got {s} {from} (coded {t = t} (next m e) l) n = rw (code-is s from, token-read m, other e code, le-ltb codeLimit (length (inner s t)) l)
 
 type-got : (s : List ℕ) (levels : ℕ) (c from : ℕ) (t : Token) → NextToken s from typeName t
     → WithinLimit c (spelling s t) → objectType s (suc levels) c from ≡ got t (t .end)
@@ -349,8 +351,8 @@ name-got s seen c from t n f m =
     rw (name-is s seen c from, expect-got n, le-ltb nameLimit (length (spelling s t)) (f .short), ne-eqb c recordLimit (f .room), not-listed (spelling s t) seen m)
 
 -- derived tokens lie in the text
-next-found : {s : List ℕ} {from sort : ℕ} {t : Token} → NextToken s from sort t → from ≤ length s → Found s from t
-next-found {s} {from} (next e) h = token-found s from h
+pub next-found : {s : List ℕ} {from sort : ℕ} {t : Token} → NextToken s from sort t → from ≤ length s → Found s from t
+next-found {s} {from} (next n e) h = rw (token-read n) at (token-found s from h)
 
 open-found : {s : List ℕ} {from : ℕ} {b : Token} → Opens s from b → from ≤ length s
     → (from ≤ b .end) × (b .end ≤ length s)
@@ -426,9 +428,9 @@ leaf-start s number from l p e = (
 
 star-value : (s : List ℕ) (levels : ℕ) (c from : ℕ) (t : Token) → NextToken s from star t → from ≤ length s
     → ValueGot s levels c from any (t .end)
-star-value s levels c from t (next e) h =
-    let f = token-found s from h in
-    record { is = rw (value-is s levels c from, other e star); low = omega (arith, f .start, f .order); high = f .inside }
+star-value s levels c from t (next n e) h =
+    let f = next-found (next n e) h in
+    record { is = rw (value-is s levels c from, token-read n, other e star); low = omega (arith, f .start, f .order); high = f .inside }
 
 leaf-value : (s : List ℕ) (levels : ℕ) (c from : ℕ) (l : Leaf) (p : ℕ) → Told.leaf s c from ≡ got l p → from ≤ length s
     → ValueGot s levels c from (leaf l) p
@@ -439,7 +441,7 @@ leaf-value s levels c from l p e h =
     record { is = rw (value-is s levels c from, x .0, x .1, e); low = omega (arith, y .least); high = y .most }
 
 object-starts : {s : List ℕ} {c from p : ℕ} {o : Object} → DerivesObject s c from o p → tokenAt s from .sort ≡ typeName
-object-starts (anObject (next e) f d o b m) = e
+object-starts (anObject n f d o b m) = sort-read n
 
 nested-value : (s : List ℕ) (levels : ℕ) (c from : ℕ) (o : Object) (p : ℕ) → tokenAt s from .sort ≡ typeName
     → objectFrom s levels c from ≡ got o p → from ≤ length s
@@ -477,7 +479,7 @@ attribute-got s levels seen c from a v p (anAttribute {p = q} {q = r} {t = t} {b
     }
   where
     named : {t : Token} → NextToken s from name t → from ≤ length s → t .start < t .end
-    named (next a) b = strict-of name (lit< tt) (tokenAt s from) s from (token-found s from b) a
+    named {t} (next n a) b = strict-of name (lit< tt) t s from (next-found (next n a) b) a
 
 -- attributes: the last one, and one with more behind it
 last-got : (s : List ℕ) (levels fuel : ℕ) (seen : List (List ℕ)) (c from : ℕ) (a : AttributeHead) (v : Value) (p : ℕ)
@@ -485,7 +487,9 @@ last-got : (s : List ℕ) (levels fuel : ℕ) (seen : List (List ℕ)) (c from :
     → AttributeGot s levels seen c from a v p
     → NextToken s p closeBrace z
     → attributes s levels (suc fuel) seen c from ≡ got (attribute a v noMore) (z .end)
-last-got s levels fuel seen c from a v p z g (next x) = rw (attributes-is s levels fuel seen c from, g .is, other x closeBrace) (λ i. got (attribute (record { number = g .number i; existence = a .existence; name = a .name }) v noMore) (tokenAt s p .end))
+last-got s levels fuel seen c from a v p z g (next n x) =
+    rw (attributes-is s levels fuel seen c from, g .is, token-read n, other x closeBrace)
+    (λ i. got (attribute (record { number = g .number i; existence = a .existence; name = a .name }) v noMore) (z .end))
 
 more-got : (s : List ℕ) (levels fuel : ℕ) (seen : List (List ℕ)) (c from : ℕ) (a : AttributeHead) (v : Value) (p q : ℕ)
     (xs : Attributes)
@@ -497,7 +501,7 @@ more-got s levels fuel seen c from a v p q xs g n k = rw (attributes-is s levels
 
 attribute-starts : {s : List ℕ} {c from p : ℕ} {a : AttributeHead} {v : Value} → DerivesAttribute s c from a v p
     → tokenAt s from .sort ≡ name
-attribute-starts (anAttribute (next e) f d o x y) = e
+attribute-starts (anAttribute n f d o x y) = sort-read n
 
 starts-name : {s : List ℕ} {c from p : ℕ} {xs : Attributes} → DerivesAttributes s c from xs p
     → tokenAt s from .sort ≡ name
@@ -512,7 +516,7 @@ body-got : (s : List ℕ) (levels : ℕ) (c from : ℕ) (xs : Attributes) (p : �
     → DerivesBody s c from xs p
     → ((q : ℕ) (z : Token) → DerivesAttributes s c from xs q → NextToken s q closeBrace z → attributes s levels (length s + 1) [] c from ≡ got xs (z .end))
     → body s levels c from ≡ got xs p
-body-got s levels c from xs p (anyMembers (next e) z) go = rw (other e star, expect-got z)
+body-got s levels c from xs p (anyMembers (next n e) z) go = rw (token-read n, other e star, expect-got z)
 body-got s levels c from xs p (ConstraintGrammar.members {p = q} {z = z} ds n) go = rw (other (starts-name ds) star) (go q z ds n)
 
 by-got : (s : List ℕ) (levels : ℕ) (c from p q : ℕ) (t b : Token) (k : List ℕ) (xs : Attributes)

@@ -1,24 +1,21 @@
 -- A data text is read to a tree exactly where the grammar derives the tree. Assumes nothing.
 use mathlib.Core.Path.{_≡_, refl, sym, ap, _∙_}
-use mathlib.Core.Logic.{_↔_, _≢_}
+use mathlib.Core.Logic.{_↔_}
 use mathlib.Core.Bool.{true, false, not}
 use mathlib.Core.Option.{Option, none, some}
 use mathlib.Core.List.{List, [], _∷_, List·Memᴰ, List·Memᴰ·head, List·Memᴰ·tail}
 use Prim.Native.Nat.{ℕ, zero, suc, _≤_, _<_, _+_}
 use native.Mathlib.Omega.{arith}
-use lib.Dec.{eqb, leb, ltb}
-use lib.ListN.{length, drop}
-use borrow.Author.Tests.{eqb-true, leb-true, ltb-false, le-ltb, not-false, eq-eqb}
-use Rattle.lexis.specs.Text.{byte}
-use Rattle.lexis.specs.Bytes.{is, small, wordByte, stringByte, runByte}
-use Rattle.lexis.specs.Runs.{past, byteAt, all, startsWith, listed, same}
-use Rattle.lexis.specs.Blanks.{tokenStart}
-use Rattle.lexis.specs.Spelling.{less, greater, wordSort, keywords}
+use lib.Dec.{eqb, ltb}
+use lib.ListN.{length}
+use borrow.Author.Tests.{eqb-true, ltb-false, le-ltb, not-false, eq-eqb}
+use Rattle.lexis.specs.Runs.{listed, same}
+use Rattle.lexis.specs.Spelling.{less, greater}
 use Rattle.lexis.specs.Tokens.{textEnd, typeName, name, spelling, inner}
 use Rattle.lexis.specs.Tokens
-use Rattle.lexis.specs.DataTokens.{dataTokenOn, runSort, dataTokenAt, typeTokenAt, equals, openRound, closeRound, wordRun}
+use Rattle.lexis.specs.DataTokens.{dataTokenAt, typeTokenAt, equals, openRound, closeRound, wordRun}
 use Rattle.lexis.specs.declared.Token.{Token}
-use Rattle.lexis.proofs.Cases.{by-cond, either}
+use Rattle.lexis.proofs.Cases.{by-cond}
 use Rattle.lexis.proofs.Places.{Found}
 use Rattle.lexis.proofs.DataPlaces.{data-token-found, type-token-found}
 use Rattle.values.specs.Words.{good}
@@ -33,6 +30,9 @@ use Rattle.dadl.specs.Data.{expectData, datumOf, typeFrom, leafFrom, typed, con
 use Rattle.dadl.proofs.TreeReading.{BlockRead, outermost-order, ContentRead, content-order, block-order}
 use Rattle.rules_grammar.specs.DataGrammar.{NextDataToken, next, NextType, nextType, namesOf, Distinct, noName, newName, levelsOf, memberLevels, contentLevels, DerivesDataLeaf, aString, aWord, DerivesDatum, DerivesMembers, noMember, oneMore, DerivesContent, aDatum, aLeaf, DerivesData, wholeText}
 use Rattle.rules_grammar.specs.DataGrammar
+use Rattle.rules_grammar.specs.Spellings.{SpellsData}
+use Rattle.rules_grammar.specs.LongestMatch.{Classed, NextDataIs}
+use Rattle.rules_grammar.proofs.NextLaws.{next-data, data-read, next-type, type-read}
 use Rattle.rules_grammar.proofs.TestLaws.{true-or-false, false-true, same-eq, or-cases, or-left, or-right, eq-same}
 use Rattle.rules_grammar.proofs.WordLaws.{good-word}
 
@@ -98,7 +98,7 @@ module _ (s : List ℕ) where
   expect-gives sort from =
       let t = dataTokenAt s from in
       let P = Took s sort from in
-      by-cond (λ (r : Reading Token). Yields P (asRead r)) (eqb (t .sort) sort) (λ e. parsed-yields P t (t .end) (took (next (eqb-true _ _ e)))) (λ e. stopped-yields P _)
+      by-cond (λ (r : Reading Token). Yields P (asRead r)) (eqb (t .sort) sort) (λ e. parsed-yields P t (t .end) (took (next-data (eqb-true _ _ e)))) (λ e. stopped-yields P _)
 
   type-gives : (from : ℕ) → Yields (TypeGiven s from) (typeFrom s from)
   unfolding typeFrom
@@ -107,7 +107,7 @@ module _ (s : List ℕ) where
       let P = TypeGiven s from in
       by-cond (Yields P) (eqb (t .sort) typeName)
       (λ e. noting-yields P (ltb nameLimit (length (spelling s t))) TooLong (t .start) _ (λ l.
-      then-yields P (Took s closeRound (t .end)) (expectData s closeRound (t .end)) _ (expect-gives closeRound (t .end)) (λ c p x. ends (nextType (eqb-true _ _ e)) (ltb-false _ _ l) x)))
+      then-yields P (Took s closeRound (t .end)) (expectData s closeRound (t .end)) _ (expect-gives closeRound (t .end)) (λ c p x. ends (next-type (eqb-true _ _ e)) (ltb-false _ _ l) x)))
       (λ e. stopped-yields P _)
     where
       ends : {t c : Token} {p : ℕ} → NextType s from t → length (spelling s t) ≤ nameLimit
@@ -135,9 +135,9 @@ module _ (s : List ℕ) where
       let P = LeafGiven s place from in
       by-cond (Yields P) (eqb (t .sort) Tokens.string)
       (λ e. noting-yields P (ltb stringLimit (length (inner s t))) TooLong (t .start) _ (λ l.
-      then-yields P (Took s greater (t .end)) (expectData s greater (t .end)) _ (expect-gives greater (t .end)) (λ c p x. ends (aString (next (eqb-true _ _ e)) (ltb-false _ _ l)) x)))
+      then-yields P (Took s greater (t .end)) (expectData s greater (t .end)) _ (expect-gives greater (t .end)) (λ c p x. ends (aString (next-data (eqb-true _ _ e)) (ltb-false _ _ l)) x)))
       (λ e. noting-yields P (not (good (spelling s t))) BadWord (t .start) _ (λ l.
-      then-yields P (Took s greater (t .end)) (expectData s greater (t .end)) _ (expect-gives greater (t .end)) (λ c p x. ends (aWord (next (eqb-true _ _ (h e))) (good-word (spelling s t) .0 (not-false _ l))) x)))
+      then-yields P (Took s greater (t .end)) (expectData s greater (t .end)) _ (expect-gives greater (t .end)) (λ c p x. ends (aWord (next-data (eqb-true _ _ (h e))) (good-word (spelling s t) .0 (not-false _ l))) x)))
     where
       ends : {c : PlacedContent} {q p : ℕ} {g : Token} → DerivesDataLeaf s place from c q → Took s greater q g p
           → Yields (LeafGiven s place from) (parsed c p)
@@ -204,9 +204,9 @@ module _ (s : List ℕ) (levels : ℕ)
           → Yields (DatumGiven s levels from) (blockFrom s levels (l .start) (some w) q)
       opens {w} g (took {t = l} n) = yields-map _ (DatumGiven s levels from) _ (λ b r y. datum-typed h g n y) (below (l .start) (some w) (l .end))
 
-  less-gives : (from : ℕ) → NextDataToken s from less (dataTokenAt s from)
-      → Yields (DatumGiven s levels from) (blockFrom s levels (dataTokenAt s from .start) none (dataTokenAt s from .end))
-  less-gives from h = let l = dataTokenAt s from in yields-map _ (DatumGiven s levels from) _ (λ b r y. datum-untyped h y) (below (l .start) none (l .end))
+  less-gives : (from : ℕ) (l : Token) → NextDataToken s from less l
+      → Yields (DatumGiven s levels from) (blockFrom s levels (l .start) none (l .end))
+  less-gives from l h = yields-map _ (DatumGiven s levels from) _ (λ b r y. datum-untyped h y) (below (l .start) none (l .end))
 
   inside-gives : (from : ℕ) (w : Parse Block) → Yields (DatumGiven s levels from) w
       → Yields (ContentGiven s levels from) (andThen w (λ d q. parsed (inside d) q))
@@ -219,13 +219,13 @@ module _ (s : List ℕ) (levels : ℕ)
       let u = dataTokenAt s (t .end) in
       let P = ContentGiven s levels from in
       by-cond (Yields P) (eqb (t .sort) openRound)
-      (λ e. inside-gives from _ (typed-gives from (next (eqb-true _ _ e))))
+      (λ e. inside-gives from _ (typed-gives from (next-data (eqb-true _ _ e))))
       (λ e. by-cond (Yields P) (eqb (t .sort) less)
-      (λ g. let n = next (eqb-true _ _ g) in
+      (λ g. let n = next-data (eqb-true _ _ g) in
       let leaf : (eqb (u .sort) Tokens.string ≡ false → eqb (u .sort) wordRun ≡ true) → Yields P (leafFrom s (t .start) u) =
       λ y. yields-map (LeafGiven s (t .start) (t .end)) P _ (λ c p x. content-leaf n x) (leaf-gives s (t .start) (t .end) y) in
       by-cond (Yields P) (eqb (u .sort) Tokens.string) (λ x. leaf (λ y. absurd (false-true (sym y ∙ x))))
-      (λ x. by-cond (Yields P) (eqb (u .sort) wordRun) (λ y. leaf (λ z. y)) (λ y. inside-gives from _ (less-gives from n))))
+      (λ x. by-cond (Yields P) (eqb (u .sort) wordRun) (λ y. leaf (λ z. y)) (λ y. inside-gives from _ (less-gives from t n))))
       (λ g. stopped-yields P _))
 
   members-gives : (fuel : ℕ) (seen : List (List ℕ)) (from : ℕ)
@@ -236,12 +236,12 @@ module _ (s : List ℕ) (levels : ℕ)
       let t = dataTokenAt s from in
       let P = MembersGiven s levels seen from in
       by-cond (Yields P) (eqb (t .sort) greater)
-      (λ e. parsed-yields P noMore (t .end) (no-more (next (eqb-true _ _ e))))
+      (λ e. parsed-yields P noMore (t .end) (no-more (next-data (eqb-true _ _ e))))
       (λ e. by-cond (Yields P) (eqb (t .sort) name)
       (λ g. then-yields P (NameGiven s seen t) (nameFrom s seen t) _ (name-gives s seen t) (λ w p a.
       then-yields P (ContentGiven s levels p) (contentFrom s (blockFrom s levels) p) _ (content-gives p) (λ x q b.
       then-yields P (MembersGiven s levels (spelling s t ∷ seen) q) (members s (blockFrom s levels) fuel (spelling s t ∷ seen) q) _ (members-gives fuel (spelling s t ∷ seen) q) (λ ms r c.
-      parsed-yields P (entry w x ms) r (one-more (next (eqb-true _ _ g)) a b c)))))
+      parsed-yields P (entry w x ms) r (one-more (next-data (eqb-true _ _ g)) a b c)))))
       (λ g. stopped-yields P _))
 
 block-gives : (s : List ℕ) (levels place : ℕ) (type : Option Span) (from : ℕ)
@@ -264,12 +264,12 @@ outermost-gives levels s =
     let t = dataTokenAt s 0 in
     let P = DatumGiven s levels 0 in
     by-cond (Yields P) (eqb (t .sort) openRound)
-    (λ e. typed-gives s levels (block-gives s levels) 0 (next (eqb-true _ _ e)))
+    (λ e. typed-gives s levels (block-gives s levels) 0 (next-data (eqb-true _ _ e)))
     (λ e. then-yields P (Took s less 0) (expectData s less 0) _ (expect-gives s less 0) (λ l p x. opens x))
   where
     opens : {l : Token} {p : ℕ} → Took s less 0 l p
         → Yields (DatumGiven s levels 0) (blockFrom s levels (l .start) none p)
-    opens (took (next e)) = less-gives s levels (block-gives s levels) 0 (next e)
+    opens (took {t = l} n) = less-gives s levels (block-gives s levels) 0 l n
 
 abbrev Derived : ℕ → List ℕ → Block → ℕ → Type 0
 Derived levels s b p = DerivesData levels s b
@@ -290,12 +290,12 @@ data-gives levels s =
 expect-got : {s : List ℕ} {sort from : ℕ} {t : Token} → NextDataToken s from sort t
     → expectData s sort from ≡ parsed t (t .end)
 unfolding expectData
-expect-got {sort = sort} (next e) = rw (e, eq-eqb sort sort refl)
+expect-got {sort = sort} (next n e) = rw (data-read n, e, eq-eqb sort sort refl)
 
 type-got : {s : List ℕ} {from : ℕ} {t c : Token} → NextType s from t → length (spelling s t) ≤ nameLimit
     → NextDataToken s (t .end) closeRound c → typeFrom s from ≡ parsed (spanOf t) (c .end)
 unfolding typeFrom
-type-got {s} {from} (nextType e) l n = rw (e, le-ltb nameLimit (length (spelling s (typeTokenAt s from))) l, expect-got n)
+type-got {s} (nextType {t = t} m e) l n = rw (type-read m, e, le-ltb nameLimit (length (spelling s t)) l, expect-got n)
 
 name-got : {s : List ℕ} {seen : List (List ℕ)} (t : Token) {e : Token} → length (spelling s t) ≤ nameLimit
     → ¬ List·Memᴰ (spelling s t) seen → NextDataToken s (t .end) equals e
@@ -306,8 +306,8 @@ name-got {s} {seen} t l m n = rw (le-ltb nameLimit (length (spelling s t)) l, no
 leaf-got : {s : List ℕ} {place from p : ℕ} {c : PlacedContent} {g : Token} → DerivesDataLeaf s place from c p
     → NextDataToken s p greater g → leafFrom s place (dataTokenAt s from) ≡ parsed c (g .end)
 unfolding leafFrom
-leaf-got {s} {place} {from} (aString (next e) l) n = rw (e, le-ltb stringLimit (length (inner s (dataTokenAt s from))) l, expect-got n)
-leaf-got {s = s} {from = from} (aWord (next e) l) n = rw (e, good-word (spelling s (dataTokenAt s from)) .1 l, expect-got n)
+leaf-got {s} (aString {t = t} (next m e) l) n = rw (data-read m, e, le-ltb stringLimit (length (inner s t)) l, expect-got n)
+leaf-got {s} (aWord {t = t} (next m e) l) n = rw (data-read m, e, good-word (spelling s t) .1 l, expect-got n)
 
 -- a sort compared with another
 pub other : {a b : ℕ} → a ≡ b → (k : ℕ) → eqb a k ≡ eqb b k
@@ -315,10 +315,10 @@ other e k = ap (λ z. eqb z k) e
 
 -- derived tokens lie in the text
 next-found : {s : List ℕ} {from sort : ℕ} {t : Token} → NextDataToken s from sort t → from ≤ length s → Found s from t
-next-found {s} {from} (next e) h = data-token-found s from h
+next-found {s} {from} (next n e) h = rw (data-read n) at (data-token-found s from h)
 
 type-found : {s : List ℕ} {from : ℕ} {t : Token} → NextType s from t → from ≤ length s → Found s from t
-type-found {s} {from} (nextType e) h = type-token-found s from h
+type-found {s} {from} (nextType n e) h = rw (type-read n) at (type-token-found s from h)
 
 -- so does a content that is read
 content-read : (s : List ℕ) (levels from : ℕ) (c : PlacedContent) (p : ℕ) → from ≤ length s
@@ -330,8 +330,8 @@ content-read s levels from c p h e = rw e at (order-holds s _ (rank from 0) _ (c
 no-leaf : {s : List ℕ} {from p : ℕ} {ms : Entries} {g : Token} → DerivesMembers s from ms p
     → NextDataToken s p greater g
     → (eqb (dataTokenAt s from .sort) Tokens.string ≡ false) × (eqb (dataTokenAt s from .sort) wordRun ≡ false)
-no-leaf noMember (next e) = (rw e, rw e)
-no-leaf (oneMore (next e) l n d ds) g = (rw e, rw e)
+no-leaf noMember (next m e) = (rw (data-read m, e), rw (data-read m, e))
+no-leaf (oneMore (next m e) l n d ds) g = (rw (data-read m, e), rw (data-read m, e))
 
 block-got : (s : List ℕ) (levels place : ℕ) (type : Option Span) (from : ℕ) (ms : Entries) (p : ℕ)
     → members s (blockFrom s levels) (length s + 1) [] from ≡ parsed ms p
@@ -347,10 +347,10 @@ less-got : (s : List ℕ) (levels from p : ℕ) (ms : Entries) (l g : Token)
     → members s (blockFrom s levels) (length s + 1) [] (l .end) ≡ parsed ms (g .end)
     → contentFrom s (blockFrom s (suc levels)) from ≡ parsed (inside (block (l .start) none ms)) (g .end)
 unfolding contentFrom
-less-got s levels from p ms l g (next e) m n h =
+less-got s levels from p ms l g (next k e) m n h =
     let x = no-leaf m n in
-    let b = block-got s levels (dataTokenAt s from .start) none (dataTokenAt s from .end) ms (g .end) h in
-    rw (e, x .0, x .1, b)
+    let b = block-got s levels (l .start) none (l .end) ms (g .end) h in
+    rw (data-read k, e, x .0, x .1, b)
 
 typed-got : (s : List ℕ) (levels from : ℕ) (ms : Entries) (t c l g : Token)
     → NextType s from t
@@ -373,17 +373,17 @@ round-got : (s : List ℕ) (levels from : ℕ) (ms : Entries) (o t c l g : Token
     → members s (blockFrom s levels) (length s + 1) [] (l .end) ≡ parsed ms (g .end)
     → contentFrom s (blockFrom s (suc levels)) from ≡ parsed (inside (block (l .start) (some (spanOf t)) ms)) (g .end)
 unfolding contentFrom
-round-got s levels from ms o t c l g (next e) x a y n h = rw (other e openRound, typed-got s levels (o .end) ms t c l g x a y n h)
+round-got s levels from ms o t c l g (next k e) x a y n h = rw (data-read k, other e openRound, typed-got s levels (o .end) ms t c l g x a y n h)
 
 -- a leaf behind its `<`
 leaf-content : (s : List ℕ) (levels from p : ℕ) (c : PlacedContent) (l g : Token) → NextDataToken s from less l
     → DerivesDataLeaf s (l .start) (l .end) c p → NextDataToken s p greater g
     → contentFrom s (blockFrom s levels) from ≡ parsed c (g .end)
 unfolding contentFrom
-leaf-content s levels from p c l g (next e) (aString (next f) k) n =
-    rw (other e openRound, other e less, other f Tokens.string, leaf-got {place = dataTokenAt s from .start} (aString (next f) k) n)
-leaf-content s levels from p c l g (next e) (aWord (next f) k) n =
-    rw (other e openRound, other e less, other f Tokens.string, other f wordRun, leaf-got {place = dataTokenAt s from .start} (aWord (next f) k) n)
+leaf-content s levels from p c l g (next i e) (aString (next j f) k) n =
+    rw (data-read i, other e openRound, other e less, leaf-got {place = l .start} (aString (next j f) k) n, data-read j, other f Tokens.string)
+leaf-content s levels from p c l g (next i e) (aWord (next j f) k) n =
+    rw (data-read i, other e openRound, other e less, leaf-got {place = l .start} (aWord (next j f) k) n, data-read j, other f Tokens.string, other f wordRun)
 
 no-block : {s : List ℕ} {place from p : ℕ} {b : Block} → ¬ DerivesDataLeaf s place from (inside b) p
 no-block = elim [ ]
@@ -394,7 +394,7 @@ none-got : (s : List ℕ) (levels fuel : ℕ) (seen : List (List ℕ)) (from : �
     → members s (blockFrom s levels) fuel seen from ≡ parsed noMore (t .end)
 unfolding members
 none-got s levels zero seen from t n k h = absurd (omega arith)
-none-got s levels (suc fuel) seen from t (next e) k h = rw e
+none-got s levels (suc fuel) seen from t (next n e) k h = rw (data-read n, e)
 
 more-got : (s : List ℕ) (levels fuel : ℕ) (seen : List (List ℕ)) (from p q : ℕ) (c : PlacedContent) (ms : Entries)
     (n e : Token)
@@ -404,7 +404,7 @@ more-got : (s : List ℕ) (levels fuel : ℕ) (seen : List (List ℕ)) (from p q
     → members s (blockFrom s levels) fuel (spelling s n ∷ seen) p ≡ parsed ms q
     → members s (blockFrom s levels) (suc fuel) seen from ≡ parsed (entry (spanOf n) c ms) q
 unfolding members
-more-got s levels fuel seen from p q c ms n e (next x) a b d = rw (other x greater, other x name, a, b, d)
+more-got s levels fuel seen from p q c ms n e (next m x) a b d = rw (data-read m, other x greater, other x name, a, b, d)
 
 pub head-new : {before names : List (List ℕ)} {w : List ℕ} → Distinct before (w ∷ names) → ¬ List·Memᴰ w before
 head-new (newName h d) = h
@@ -454,12 +454,12 @@ mutual
 less-outermost : (levels : ℕ) (s : List ℕ) (b : Block) (p : ℕ) (l : Token) → NextDataToken s 0 less l
     → blockFrom s levels (l .start) none (l .end) ≡ parsed b p → outermost levels s ≡ parsed b p
 unfolding outermost
-less-outermost levels s b p l (next e) h = rw (other e openRound, expect-got {from = 0} (next e)) h
+less-outermost levels s b p l (next n e) h = rw (expect-got {from = 0} (next n e), data-read n, other e openRound) h
 
 round-outermost : (levels : ℕ) (s : List ℕ) (b : Block) (p : ℕ) (o : Token) → NextDataToken s 0 openRound o
     → typed s (blockFrom s levels) (o .end) ≡ parsed b p → outermost levels s ≡ parsed b p
 unfolding outermost
-round-outermost levels s b p o (next e) h = rw (other e openRound) h
+round-outermost levels s b p o (next n e) h = rw (data-read n, other e openRound) h
 
 outermost-got : (levels : ℕ) (s : List ℕ) (b : Block) (p : ℕ) → DerivesDatum s 0 b p → levelsOf b ≤ levels
     → outermost levels s ≡ parsed b p
@@ -474,36 +474,23 @@ outermost-got (suc levels) s b p (DataGrammar.typed {o = u} {t = w} {c = v} {l =
     round-outermost (suc levels) s (block (l .start) (some (spanOf w)) ms) (t .end) u o
     (typed-got s levels (u .end) ms w v l t x a c n (members-got ms s (l .end) _ m levels (length s + 1) [] t g d (omega arith) (f .inside) (omega arith)))
 
--- the text's end, as a token, ends where the text does
-abbrev pub AtEnd : List ℕ → Token → Type 0
-AtEnd s t = t .sort ≡ textEnd → length s ≤ t .end
+-- the text's end, as a token, ends where the text does: no other token has its sort
+end-no-class : {w : List ℕ} → ¬ Classed w textEnd
+end-no-class = elim [ ]
 
-run-other : (w : List ℕ) (first : ℕ) → runSort w first ≢ textEnd
-run-other w first =
-    let P : ℕ → Type 0 = λ x. x ≢ textEnd in
-    either P (is small first)
-    (either P (all wordByte w) (either P (eqb (wordSort keywords w name) name) (λ e. omega arith) (λ e. omega arith)) (λ e. omega arith))
-    (λ e. omega arith)
+end-no-spelling : {w : List ℕ} → ¬ SpellsData textEnd w
+end-no-spelling = elim [ ]
 
-data-at-end : (s : List ℕ) (at : ℕ) → AtEnd s (dataTokenOn runSort s at)
-unfolding dataTokenOn Tokens.spelled
-data-at-end s at =
-    let P = AtEnd s in
-    let bs = drop at s in
-    by-cond P (leb (length s) at) (λ h e. leb-true (length s) at h)
-    (λ h. either P (runByte (byteAt s at)) (λ e. absurd (run-other _ _ e))
-    (either P (eqb (byteAt s at) (byte "\"")) (either P (eqb (byteAt s (past stringByte (at + 1) (drop (at + 1) s))) (byte "\"")) (λ e. absurd (omega arith)) (λ e. absurd (omega arith)))
-    (either P (startsWith (byte "<" ∷ []) bs) (λ e. absurd (omega arith))
-    (either P (startsWith (byte ">" ∷ []) bs) (λ e. absurd (omega arith))
-    (either P (startsWith (byte "=" ∷ []) bs) (λ e. absurd (omega arith))
-    (either P (startsWith (byte "(" ∷ []) bs) (λ e. absurd (omega arith))
-    (either P (startsWith (byte ")" ∷ []) bs) (λ e. absurd (omega arith)) (λ e. absurd (omega arith)))))))))
+at-end : {s : List ℕ} {from : ℕ} {t : Token} → NextDataIs Classed s from t → t .sort ≡ textEnd → length s ≤ t .end
+at-end (NextDataIs.ends p h) e = h
+at-end (NextDataIs.run p r c) e = absurd (end-no-class (rw e at c))
+at-end (NextDataIs.longest p x) e = absurd (end-no-spelling (rw e at (x .one .spelled)))
+at-end (NextDataIs.none p h r x) e = absurd (omega arith)
 
 next-at-end : {s : List ℕ} {from : ℕ} {t : Token} → NextDataToken s from textEnd t → from ≤ length s → t .end ≡ length s
-unfolding dataTokenAt
-next-at-end {s} {from} (next e) h =
-    let a : length s ≤ dataTokenAt s from .end = data-at-end s (tokenStart s from) e in
-    let b : dataTokenAt s from .end ≤ length s = data-token-found s from h .inside in
+next-at-end (next n e) h =
+    let a = at-end n e in
+    let f = next-found (next n e) h in
     omega arith
 
 -- a datum that is read ends in the text

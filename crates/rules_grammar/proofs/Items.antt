@@ -34,8 +34,8 @@ use Rattle.cadl_items.proofs.LeafParts.{start-is, ranges-none, ranges-some, sta
 use Rattle.rules_grammar.specs.DataGrammar.{Distinct, noName, newName}
 use Rattle.rules_grammar.specs.LeafGrammar.{NextToken, next, IsLiteral, DerivesLiteral, literal, DerivesEnds, DerivesItem, aValue, anInterval, DerivesItems, lastItem, moreItems, Meet, Apart, noItem, newItem, DerivesStrings, lastString, moreStrings, textsIn, Boolean, aTrue, aFalse, DerivesLeaf}
 use Rattle.rules_grammar.specs.LeafGrammar
+use Rattle.rules_grammar.proofs.NextLaws.{next-token, token-read, sort-read, date-long}
 use Rattle.rules_grammar.proofs.TestLaws.{true-or-false, false-true, or-cases, or-left, or-right, and-both}
-use Rattle.rules_grammar.proofs.SortLaws.{date-long}
 use Rattle.rules_grammar.proofs.LiteralLaws.{literal-of, integer-literal, date-literal}
 use Rattle.rules_grammar.proofs.Given.{Gives, got-gives, refuse-gives, cond-gives, unless-gives, then-gives, given, gives-map}
 use Rattle.rules_grammar.proofs.Derived.{not-listed, listed-not, other, head-new, tail-new}
@@ -66,7 +66,7 @@ decided (asked isDate) t = kept isDate
 literal-says : {s : List ℕ} {kind from v : ℕ} {t : Token} → Kind kind → NextToken s from kind t
     → literalValue kind (spelling s t) ≡ some v → IsLiteral kind (spelling s t) v
 literal-says isInteger n e = integer-literal _ _ .0 e
-literal-says {s} {from = from} isDate (next h) e = date-literal _ _ (date-long s from h) .0 e
+literal-says isDate n e = date-literal _ _ (date-long n) .0 e
 
 -- what each part of the reader gives
 pub data Took (s : List ℕ) (sort from : ℕ) : Token → ℕ → Type 0 where
@@ -123,7 +123,7 @@ module _ (s : List ℕ) where
   expect-gives sort from =
       let t = tokenAt s from in
       let P = Took s sort from in
-      cond-gives P (eqb (t .sort) sort) _ _ (λ e. got-gives P t (t .end) (took (next (eqb-true _ _ e)))) (λ e. refuse-gives P (syntaxCause t) (t .start))
+      cond-gives P (eqb (t .sort) sort) _ _ (λ e. got-gives P t (t .end) (took (next-token (eqb-true _ _ e)))) (λ e. refuse-gives P (syntaxCause t) (t .start))
 
   literal-gives : (kind from : ℕ) → Kind kind → Gives (LiteralGiven s kind from) (Told.literal s kind from)
   literal-gives kind from k =
@@ -139,7 +139,7 @@ module _ (s : List ℕ) where
       let t = tokenAt s from in
       let P = UpGiven s kind low from in
       rw (up-is s kind low from) (cond-gives P (eqb (t .sort) less) _ _
-      (λ e. then-gives P (LiteralGiven s kind (t .end)) (Told.literal s kind (t .end)) _ (literal-gives kind (t .end) k) (λ b p x. opened (next (eqb-true _ _ e)) x))
+      (λ e. then-gives P (LiteralGiven s kind (t .end)) (Told.literal s kind (t .end)) _ (literal-gives kind (t .end) k) (λ b p x. opened (next-token (eqb-true _ _ e)) x))
       (λ e. then-gives P (LiteralGiven s kind from) (Told.literal s kind from) _ (literal-gives kind from k) (λ b p x. shut x)))
     where
       opened : {l : Token} {b p : ℕ} → NextToken s from less l → LiteralGiven s kind (l .end) b p
@@ -157,7 +157,7 @@ module _ (s : List ℕ) where
       let d = tokenAt s (t .end) in
       let P = EndsGiven s kind from in
       rw (above-is s k a (t .end)) (cond-gives P (eqb (d .sort) dots) _ _
-      (λ e. gives-map (UpGiven s k (after k a) (d .end)) P _ (λ f p y. made (next (eqb-true _ _ e)) y) (up-gives k (after k a) (d .end) (suits-kind q)))
+      (λ e. gives-map (UpGiven s k (after k a) (d .end)) P _ (λ f p y. made (next-token (eqb-true _ _ e)) y) (up-gives k (after k a) (d .end) (suits-kind q)))
       (λ e. got-gives P (ends k (after k a) (most k) false) (t .end) (endsGiven q (LeafGrammar.above n x) refl)))
     where
       made : {d : Token} {f : Ends} {p : ℕ} → NextToken s (t .end) dots d → UpGiven s k (after k a) (d .end) f p
@@ -171,12 +171,12 @@ module _ (s : List ℕ) where
       let d = tokenAt s (t .end) in
       let P = EndsGiven s kind from in
       rw (from-is s k a (t .end), spread-is s a (d .end)) (cond-gives P (eqb (d .sort) dots) _ _
-      (λ e. gives-map (UpGiven s k a (d .end)) P _ (λ f p y. made (next (eqb-true _ _ e)) y) (up-gives k a (d .end) (suits-kind q)))
+      (λ e. gives-map (UpGiven s k a (d .end)) P _ (λ f p y. made (next-token (eqb-true _ _ e)) y) (up-gives k a (d .end) (suits-kind q)))
       (λ e. cond-gives P (eqb (d .sort) plusMinus) _ _
       (λ f. cond-gives P (eqb k date) _ _ (λ g. refuse-gives P (syntaxCause d) (d .start))
       (λ g. then-gives P (LiteralGiven s integer (d .end)) (Told.literal s integer (d .end)) _ (literal-gives integer (d .end) isInteger) (λ v p y.
       unless-gives P (cond (inside a v) false true) OutOfRange (tokenAt s (d .end) .start) _ (λ i.
-      got-gives P (ends integer (around a v .low) (around a v .high) false) p (spreads (next (eqb-true _ _ f)) (whole k (suits-kind q) g) y (held (inside a v) i))))))
+      got-gives P (ends integer (around a v .low) (around a v .high) false) p (spreads (next-token (eqb-true _ _ f)) (whole k (suits-kind q) g) y (held (inside a v) i))))))
       (λ f. got-gives P (ends k a a false) (t .end) (endsGiven q (LeafGrammar.point x) refl))))
     where
       made : {d : Token} {f : Ends} {p : ℕ} → NextToken s (t .end) dots d → UpGiven s k a (d .end) f p
@@ -212,13 +212,13 @@ module _ (s : List ℕ) where
       let t = tokenAt s at in
       let P = EndsGiven s kind at in
       rw (between-is s kind at) (cond-gives P (eqb (t .sort) greater) _ _
-      (λ e. with-gives kind (t .end) (Told.above s) P w (λ k a u q x. above-gives q (next (eqb-true _ _ e)) x))
+      (λ e. with-gives kind (t .end) (Told.above s) P w (λ k a u q x. above-gives q (next-token (eqb-true _ _ e)) x))
       (λ e. cond-gives P (eqb (t .sort) less) _ _
-      (λ f. with-gives kind (t .end) (λ k a p. got (ends k (least k) a true) p) P w (λ k a u q x. got-gives P _ _ (endsGiven q (LeafGrammar.below (next (eqb-true _ _ f)) x) refl)))
+      (λ f. with-gives kind (t .end) (λ k a p. got (ends k (least k) a true) p) P w (λ k a u q x. got-gives P _ _ (endsGiven q (LeafGrammar.below (next-token (eqb-true _ _ f)) x) refl)))
       (λ f. cond-gives P (eqb (t .sort) atMost) _ _
-      (λ g. with-gives kind (t .end) (λ k a p. got (ends k (least k) a false) p) P w (λ k a u q x. got-gives P _ _ (endsGiven q (LeafGrammar.upTo (next (eqb-true _ _ g)) x) refl)))
+      (λ g. with-gives kind (t .end) (λ k a p. got (ends k (least k) a false) p) P w (λ k a u q x. got-gives P _ _ (endsGiven q (LeafGrammar.upTo (next-token (eqb-true _ _ g)) x) refl)))
       (λ g. cond-gives P (eqb (t .sort) atLeast) _ _
-      (λ h. with-gives kind (t .end) (λ k a p. got (ends k a (most k) false) p) P w (λ k a u q x. got-gives P _ _ (endsGiven q (LeafGrammar.from (next (eqb-true _ _ h)) x) refl)))
+      (λ h. with-gives kind (t .end) (λ k a p. got (ends k a (most k) false) p) P w (λ k a u q x. got-gives P _ _ (endsGiven q (LeafGrammar.from (next-token (eqb-true _ _ h)) x) refl)))
       (λ h. with-gives kind at (Told.from s) P w (λ k a u q x. from-gives q x))))))
 
 data StartGiven (s : List ℕ) (kind from : ℕ) : Start → ℕ → Type 0 where
@@ -254,7 +254,7 @@ module _ (s : List ℕ) where
       let t = tokenAt s from in
       let P = StartGiven s kind from in
       rw (start-is s kind from) (cond-gives P (eqb (t .sort) bar) _ _
-      (λ e. got-gives P (record { place = t .start; single = false; value = 0 }) (t .end) (barStart (next (eqb-true _ _ e))))
+      (λ e. got-gives P (record { place = t .start; single = false; value = 0 }) (t .end) (barStart (next-token (eqb-true _ _ e))))
       (λ e. cond-gives P (eqb (t .sort) integer && not (eqb kind date)) _ _
       (λ f. then-gives P (LiteralGiven s integer from) (Told.literal s integer from) _ (literal-gives s integer from isInteger) (λ v p x.
       got-gives P (record { place = t .start; single = true; value = v }) p (made (value-suits w (not-true-false (eqb kind date) (and-right (eqb (t .sort) integer) (not (eqb kind date)) f))) x)))
@@ -295,7 +295,7 @@ module _ (s : List ℕ) where
       cond-gives P (eqb (tokenAt s q .sort) comma) _ _
       (λ e. then-gives P (RangesGiven s left (i .kind) (n + 1) (i .pair ∷ seen) (tokenAt s q .end)) (ranges s left (i .kind) (n + 1) (i .pair ∷ seen) (tokenAt s q .end)) _
       (ranges-gives left (i .kind) (n + 1) (i .pair ∷ seen) (tokenAt s q .end) (asked (item-kind z)))
-      (λ l r u. got-gives P (record { kind = l .kind; items = range n (i .pair) ∷ l .items }) r (more (eqb-false _ _ a) z (no-overlap (i .pair) seen b) (next (eqb-true _ _ e)) u)))
+      (λ l r u. got-gives P (record { kind = l .kind; items = range n (i .pair) ∷ l .items }) r (more (eqb-false _ _ a) z (no-overlap (i .pair) seen b) (next-token (eqb-true _ _ e)) u)))
       (λ e. got-gives P (record { kind = i .kind; items = range n (i .pair) ∷ [] }) q (last (eqb-false _ _ a) z (no-overlap (i .pair) seen b))))))))
     where
       item-kind : {i : Interval} {q : ℕ} → ItemGiven s kind from i q → Kind (i .kind)
@@ -336,7 +336,7 @@ module _ (s : List ℕ) where
       cond-gives P (eqb (tokenAt s p .sort) comma) _ _
       (λ e. then-gives P (StringsGiven s left (n + 1) (inner s t ∷ seen) (tokenAt s p .end)) (strings s left (n + 1) (inner s t ∷ seen) (tokenAt s p .end)) _
       (strings-gives left (n + 1) (inner s t ∷ seen) (tokenAt s p .end))
-      (λ l r u. got-gives P (record { number = n; text = inner s t } ∷ l) r (more x (eqb-false _ _ a) (listed-not _ _ b) (next (eqb-true _ _ e)) u)))
+      (λ l r u. got-gives P (record { number = n; text = inner s t } ∷ l) r (more x (eqb-false _ _ a) (listed-not _ _ b) (next-token (eqb-true _ _ e)) u)))
       (λ e. got-gives P (record { number = n; text = inner s t } ∷ []) p (last x (eqb-false _ _ a) (listed-not _ _ b)))))))
     where
       last : {t : Token} {p : ℕ} → StringGiven s from t p → n ≢ recordLimit → ¬ List·Memᴰ (inner s t) seen
@@ -353,8 +353,8 @@ module _ (s : List ℕ) where
       → Boolean s from (booleanFlag (tokenAt s from)) (tokenAt s from)
   boolean-of from h =
       let t = tokenAt s from in
-      by-cond (λ (b : ℕ). Boolean s from b t) (eqb (t .sort) trueWord) (λ e. aTrue (next (eqb-true _ _ e)))
-      (λ e. or-cases (eqb (t .sort) trueWord) (eqb (t .sort) falseWord) h (λ f. absurd (false-true (sym e ∙ f))) (λ f. aFalse (next (eqb-true _ _ f))))
+      by-cond (λ (b : ℕ). Boolean s from b t) (eqb (t .sort) trueWord) (λ e. aTrue (next-token (eqb-true _ _ e)))
+      (λ e. or-cases (eqb (t .sort) trueWord) (eqb (t .sort) falseWord) h (λ f. absurd (false-true (sym e ∙ f))) (λ f. aFalse (next-token (eqb-true _ _ f))))
 
   leaf-gives : (n from : ℕ) → Gives (DerivesLeaf s n from) (leaf s n from)
   leaf-gives n from =
@@ -367,7 +367,7 @@ module _ (s : List ℕ) where
       cond-gives P (eqb (u .sort) comma) _ _
       (λ f. cond-gives P (isBoolean v) _ _
       (λ g. unless-gives P (eqb (booleanFlag v) (booleanFlag t)) Overlap (v .start) _ (λ b.
-      got-gives P (single booleans n 3) (v .end) (LeafGrammar.twoBooleans (eqb-false _ _ a) (boolean-of from e) (next (eqb-true _ _ f)) (boolean-of (u .end) g) (eqb-false _ _ b))))
+      got-gives P (single booleans n 3) (v .end) (LeafGrammar.twoBooleans (eqb-false _ _ a) (boolean-of from e) (next-token (eqb-true _ _ f)) (boolean-of (u .end) g) (eqb-false _ _ b))))
       (λ g. refuse-gives P (syntaxCause v) (v .start)))
       (λ f. got-gives P (single booleans n (booleanFlag t)) (t .end) (LeafGrammar.oneBoolean (eqb-false _ _ a) (boolean-of from e)))))
       (λ e. cond-gives P (eqb (t .sort) integer || eqb (t .sort) bar) _ _
@@ -378,12 +378,12 @@ module _ (s : List ℕ) where
       (λ h. unless-gives P (eqb n recordLimit) TooManyRecords (t .start) _ (λ a.
       let x : 31 ≤ t .sort = leb-true _ _ (and-left (leb 31 (t .sort)) (leb (t .sort) 35) h) in
       let y : t .sort ≤ 35 = leb-true _ _ (and-right (leb 31 (t .sort)) (leb (t .sort) 35) h) in
-      got-gives P (single datePattern n (t .sort - 30)) (t .end) (LeafGrammar.aDatePattern (eqb-false _ _ a) (omega arith) (omega arith) (next (omega arith)))))
+      got-gives P (single datePattern n (t .sort - 30)) (t .end) (LeafGrammar.aDatePattern (eqb-false _ _ a) (omega arith) (omega arith) (next-token (omega arith)))))
       (λ h. cond-gives P (within 41 44 (t .sort)) _ _
       (λ i. unless-gives P (eqb n recordLimit) TooManyRecords (t .start) _ (λ a.
       let x : 41 ≤ t .sort = leb-true _ _ (and-left (leb 41 (t .sort)) (leb (t .sort) 44) i) in
       let y : t .sort ≤ 44 = leb-true _ _ (and-right (leb 41 (t .sort)) (leb (t .sort) 44) i) in
-      got-gives P (single timePattern n (t .sort - 40)) (t .end) (LeafGrammar.aTimePattern (eqb-false _ _ a) (omega arith) (omega arith) (next (omega arith)))))
+      got-gives P (single timePattern n (t .sort - 40)) (t .end) (LeafGrammar.aTimePattern (eqb-false _ _ a) (omega arith) (omega arith) (next-token (omega arith)))))
       (λ i. refuse-gives P (syntaxCause t) (t .start)))))))
     where
       by-kind : (k : ℕ) (l : List Range) (p : ℕ) → Kind k → DerivesItems s k n from l p → length l ≤ itemLimit
@@ -403,14 +403,14 @@ module _ (s : List ℕ) where
 pub expect-got : {s : List ℕ} {sort from : ℕ} {t : Token} → NextToken s from sort t
     → expect s sort from ≡ got t (t .end)
 unfolding expect
-expect-got {sort = sort} (next e) = rw (other e sort, eq-eqb sort sort refl)
+expect-got {sort = sort} (next n e) = rw (token-read n, other e sort, eq-eqb sort sort refl)
 
 literal-got : {s : List ℕ} {kind from v : ℕ} {t : Token} → DerivesLiteral s kind from v t
     → Told.literal s kind from ≡ got v (t .end)
 literal-got {s} {kind} {from} (literal n e) = rw (literal-is s kind from, expect-got n, literal-of e)
 
 literal-sort : {s : List ℕ} {kind from v : ℕ} {t : Token} → DerivesLiteral s kind from v t → tokenAt s from .sort ≡ kind
-literal-sort (literal (next e) h) = e
+literal-sort (literal n h) = sort-read n
 
 -- the kind that a literal decides
 kind-got : {k j : ℕ} (t : Token) → Suits k j → t .sort ≡ j → kindBy k t ≡ j
@@ -435,24 +435,24 @@ closed-got {s} {kind} {from} low q x = rw (up-is s kind low from, mark-not q _ l
 open-got : {s : List ℕ} {kind from b : ℕ} {l u : Token} (low : ℕ) → NextToken s from less l
     → DerivesLiteral s kind (l .end) b u
     → Told.upTo s kind low from ≡ got (ends kind low b true) (u .end)
-open-got {s} {kind} {from} low (next e) x = rw (up-is s kind low from, other e less, literal-got x)
+open-got {s} {kind} {from} low (next n e) x = rw (up-is s kind low from, token-read n, other e less, literal-got x)
 
 -- what stands first between the bars
 between-greater : {s : List ℕ} {at : ℕ} {g : Token} (kind : ℕ) → NextToken s at greater g
     → between s kind at ≡ withLiteral s kind (g .end) (Told.above s)
-between-greater {s} {at} kind (next e) = rw (between-is s kind at, other e greater)
+between-greater {s} {at} kind (next n e) = rw (between-is s kind at, token-read n, other e greater)
 
 between-less : {s : List ℕ} {at : ℕ} {g : Token} (kind : ℕ) → NextToken s at less g
     → between s kind at ≡ withLiteral s kind (g .end) (λ k a p. got (ends k (least k) a true) p)
-between-less {s} {at} kind (next e) = rw (between-is s kind at, other e greater, other e less)
+between-less {s} {at} kind (next n e) = rw (between-is s kind at, token-read n, other e greater, other e less)
 
 between-most : {s : List ℕ} {at : ℕ} {g : Token} (kind : ℕ) → NextToken s at atMost g
     → between s kind at ≡ withLiteral s kind (g .end) (λ k a p. got (ends k (least k) a false) p)
-between-most {s} {at} kind (next e) = rw (between-is s kind at, other e greater, other e less, other e atMost)
+between-most {s} {at} kind (next n e) = rw (between-is s kind at, token-read n, other e greater, other e less, other e atMost)
 
 between-least : {s : List ℕ} {at : ℕ} {g : Token} (kind : ℕ) → NextToken s at atLeast g
     → between s kind at ≡ withLiteral s kind (g .end) (λ k a p. got (ends k a (most k) false) p)
-between-least {s} {at} kind (next e) = rw (between-is s kind at, other e greater, other e less, other e atMost, other e atLeast)
+between-least {s} {at} kind (next n e) = rw (between-is s kind at, token-read n, other e greater, other e less, other e atMost, other e atLeast)
 
 between-literal : {s : List ℕ} {k at a : ℕ} {t : Token} (kind : ℕ) → Kind k → DerivesLiteral s k at a t
     → between s kind at ≡ withLiteral s kind at (Told.from s)
@@ -463,24 +463,24 @@ between-literal {s} {k} {at} kind q x =
 -- what stands behind `|>a`, and behind `|a`
 above-dots : {s : List ℕ} {at : ℕ} {d : Token} (k a : ℕ) → NextToken s at dots d
     → Told.above s k a at ≡ Told.upTo s k (after k a) (d .end)
-above-dots {s} {at} k a (next e) = rw (above-is s k a at, other e dots)
+above-dots {s} {at} k a (next n e) = rw (above-is s k a at, token-read n, other e dots)
 
 above-bar : {s : List ℕ} {at : ℕ} {d : Token} (k a : ℕ) → NextToken s at bar d
     → Told.above s k a at ≡ got (ends k (after k a) (most k) false) at
-above-bar {s} {at} k a (next e) = rw (above-is s k a at, other e dots)
+above-bar {s} {at} k a (next n e) = rw (above-is s k a at, token-read n, other e dots)
 
 from-dots : {s : List ℕ} {at : ℕ} {d : Token} (k a : ℕ) → NextToken s at dots d
     → Told.from s k a at ≡ Told.upTo s k a (d .end)
-from-dots {s} {at} k a (next e) = rw (from-is s k a at, other e dots)
+from-dots {s} {at} k a (next n e) = rw (from-is s k a at, token-read n, other e dots)
 
 from-bar : {s : List ℕ} {at : ℕ} {d : Token} (k a : ℕ) → NextToken s at bar d
     → Told.from s k a at ≡ got (ends k a a false) at
-from-bar {s} {at} k a (next e) = rw (from-is s k a at, other e dots, other e plusMinus)
+from-bar {s} {at} k a (next n e) = rw (from-is s k a at, token-read n, other e dots, other e plusMinus)
 
 from-spread : {s : List ℕ} {at v : ℕ} {m u : Token} (k a : ℕ) → k ≡ integer → NextToken s at plusMinus m
     → DerivesLiteral s integer (m .end) v u → inside a v ≡ true
     → Told.from s k a at ≡ got (ends integer (around a v .low) (around a v .high) false) (u .end)
-from-spread {s} {at} k a i (next e) x h = rw (from-is s k a at, other e dots, other e plusMinus, other i date, spread-is s a (tokenAt s at .end), literal-got x, h)
+from-spread {s} {at} {m = m} k a i (next n e) x h = rw (from-is s k a at, token-read n, other e dots, other e plusMinus, other i date, spread-is s a (m .end), literal-got x, h)
 
 module _ (s : List ℕ) (kind k : ℕ) (q : Suits kind k) where
   greater-got : (at a : ℕ) (g t : Token) → NextToken s at greater g → DerivesLiteral s k (g .end) a t
@@ -533,7 +533,7 @@ value-start s kind from v t d x = let e = literal-sort x in rw (start-is s kind 
 
 bar-start : (s : List ℕ) (kind from : ℕ) (o : Token) → NextToken s from bar o
     → start s kind from ≡ got (record { place = o .start; single = false; value = 0 }) (o .end)
-bar-start s kind from o (next e) = rw (start-is s kind from, other e bar)
+bar-start s kind from o (next n e) = rw (start-is s kind from, token-read n, other e bar)
 
 interval-got : (s : List ℕ) (kind k at p : ℕ) (z : Token) (e : Ends) → Suits kind k → DerivesEnds s k at e p
     → NextToken s p bar z → empty e ≡ false
@@ -554,7 +554,7 @@ last-got : (s : List ℕ) (left kind k n : ℕ) (seen : List Pair) (from p m : �
     → overlaps x seen ≡ false
     → NextToken s p closeBrace z
     → ranges s (suc left) kind n seen from ≡ got (record { kind = k; items = range n x ∷ [] }) p
-last-got s left kind k n seen from p m x o z a b c d (next e) = rw (ranges-some s left kind n seen from, a, ne-eqb n recordLimit c, b, d, other e comma)
+last-got s left kind k n seen from p m x o z a b c d w = rw (ranges-some s left kind n seen from, a, ne-eqb n recordLimit c, b, d, other (sort-read w) comma)
 
 more-got : (s : List ℕ) (left kind k n : ℕ) (seen : List Pair) (from p m r : ℕ) (x : Pair) (o : Start) (c : Token)
     (l : List Range)
@@ -565,7 +565,7 @@ more-got : (s : List ℕ) (left kind k n : ℕ) (seen : List Pair) (from p m r :
     → NextToken s p comma c
     → ranges s left k (n + 1) (x ∷ seen) (c .end) ≡ got (record { kind = k; items = l }) r
     → ranges s (suc left) kind n seen from ≡ got (record { kind = k; items = range n x ∷ l }) r
-more-got s left kind k n seen from p m r x o c l a b d f (next e) h = rw (ranges-some s left kind n seen from, a, ne-eqb n recordLimit d, b, f, other e comma, h)
+more-got s left kind k n seen from p m r x o c l a b d f (next i e) h = rw (ranges-some s left kind n seen from, a, ne-eqb n recordLimit d, b, f, token-read i, other e comma, h)
 
 apart-head : {seen : List Pair} {r : Range} {l : List Range} → Apart seen (r ∷ l) → (y : Pair) → List·Memᴰ y seen
     → ¬ Meet (pair (r .low) (r .high)) y
@@ -602,7 +602,7 @@ last-string : (s : List ℕ) (left n : ℕ) (seen : List (List ℕ)) (from : ℕ
     → ¬ List·Memᴰ (inner s t) seen
     → NextToken s (t .end) closeBrace z
     → strings s (suc left) n seen from ≡ got (record { number = n; text = inner s t } ∷ []) (t .end)
-last-string s left n seen from t z a b c (next e) = rw (strings-some s left n seen from, a, ne-eqb n recordLimit b, not-listed (inner s t) seen c, other e comma)
+last-string s left n seen from t z a b c w = rw (strings-some s left n seen from, a, ne-eqb n recordLimit b, not-listed (inner s t) seen c, other (sort-read w) comma)
 
 more-strings : (s : List ℕ) (left n : ℕ) (seen : List (List ℕ)) (from p : ℕ) (t m : Token) (l : List Text)
     → startString s from ≡ got t (t .end)
@@ -611,7 +611,7 @@ more-strings : (s : List ℕ) (left n : ℕ) (seen : List (List ℕ)) (from p : 
     → NextToken s (t .end) comma m
     → strings s left (n + 1) (inner s t ∷ seen) (m .end) ≡ got l p
     → strings s (suc left) n seen from ≡ got (record { number = n; text = inner s t } ∷ l) p
-more-strings s left n seen from p t m l a b c (next e) h = rw (strings-some s left n seen from, a, ne-eqb n recordLimit b, not-listed (inner s t) seen c, other e comma, h)
+more-strings s left n seen from p t m l a b c (next i e) h = rw (strings-some s left n seen from, a, ne-eqb n recordLimit b, not-listed (inner s t) seen c, token-read i, other e comma, h)
 
 strings-got : {s : List ℕ} {n from p : ℕ} {l : List Text} → DerivesStrings s n from l p
     → (left : ℕ) (seen : List (List ℕ)) (z : Token)
@@ -630,7 +630,7 @@ strings-got {s} {n} {from} {p} (moreStrings {t = t} {c = u} {l = l} m c d f ds) 
 item-starts : {s : List ℕ} {k from p : ℕ} {x : Pair} → DerivesItem s k from x p
     → (eqb (tokenAt s from .sort) integer || eqb (tokenAt s from .sort) bar) ≡ true
 item-starts (aValue i x) = let e = literal-sort x in rw (other e integer)
-item-starts (anInterval (next e) d b h) = rw (other e integer, other e bar)
+item-starts (anInterval n d b h) = let e = sort-read n in rw (other e integer, other e bar)
 
 items-start : {s : List ℕ} {k n from p : ℕ} {l : List Range} → DerivesItems s k n from l p
     → (eqb (tokenAt s from .sort) integer || eqb (tokenAt s from .sort) bar) ≡ true
@@ -645,8 +645,8 @@ items-other a h =
 
 strings-start : {s : List ℕ} {n from p : ℕ} {l : List Text} → DerivesStrings s n from l p
     → tokenAt s from .sort ≡ string
-strings-start (lastString (next e) c d) = e
-strings-start (moreStrings (next e) c d g ds) = e
+strings-start (lastString n c d) = sort-read n
+strings-start (moreStrings n c d g ds) = sort-read n
 
 items-leaf : (s : List ℕ) (n from k : ℕ) (l : List Range) (p : ℕ) (z : Token) → Kind k → DerivesItems s k n from l p
     → length l ≤ itemLimit → Apart [] l → NextToken s p closeBrace z
@@ -664,26 +664,29 @@ strings-leaf s n from l p z d a b w =
 
 one-boolean : (s : List ℕ) (n from b : ℕ) (t z : Token) → n ≢ recordLimit → Boolean s from b t
     → NextToken s (t .end) closeBrace z → leaf s n from ≡ got (single booleans n b) (t .end)
-one-boolean s n from b t z a (aTrue (next e)) (next f) = rw (leaf-is s n from, boolean-is s n (tokenAt s from), other e trueWord, ne-eqb n recordLimit a, other f comma)
-one-boolean s n from b t z a (aFalse (next e)) (next f) = rw (leaf-is s n from, boolean-is s n (tokenAt s from), other e trueWord, other e falseWord, ne-eqb n recordLimit a, other f comma)
+one-boolean s n from b t z a (aTrue (next i e)) w = rw (leaf-is s n from, token-read i, boolean-is s n t, other e trueWord, ne-eqb n recordLimit a, other (sort-read w) comma)
+one-boolean s n from b t z a (aFalse (next i e)) w = rw (leaf-is s n from, token-read i, boolean-is s n t, other e trueWord, other e falseWord, ne-eqb n recordLimit a, other (sort-read w) comma)
 
 two-booleans : (s : List ℕ) (n from a b : ℕ) (t c u : Token) → n ≢ recordLimit → Boolean s from a t
     → NextToken s (t .end) comma c → Boolean s (c .end) b u → b ≢ a
     → leaf s n from ≡ got (single booleans n 3) (u .end)
-two-booleans s n from a b t c u d (aTrue (next e)) (next f) (aTrue (next g)) h = absurd (h refl)
-two-booleans s n from a b t c u d (aTrue (next e)) (next f) (aFalse (next g)) h = rw (leaf-is s n from, boolean-is s n (tokenAt s from), other e trueWord, ne-eqb n recordLimit d, other f comma, second-is s n 1 (tokenAt s (tokenAt s from .end) .end), other g trueWord, other g falseWord)
-two-booleans s n from a b t c u d (aFalse (next e)) (next f) (aTrue (next g)) h = rw (leaf-is s n from, boolean-is s n (tokenAt s from), other e trueWord, other e falseWord, ne-eqb n recordLimit d, other f comma, second-is s n 2 (tokenAt s (tokenAt s from .end) .end), other g trueWord)
-two-booleans s n from a b t c u d (aFalse (next e)) (next f) (aFalse (next g)) h = absurd (h refl)
+two-booleans s n from a b t c u d (aTrue x) m (aTrue y) h = absurd (h refl)
+two-booleans s n from a b t c u d (aTrue (next i e)) (next j f) (aFalse (next k g)) h =
+    rw (leaf-is s n from, token-read i, boolean-is s n t, other e trueWord, ne-eqb n recordLimit d, token-read j, other f comma, second-is s n 1 (c .end), token-read k, other g trueWord, other g falseWord)
+two-booleans s n from a b t c u d (aFalse (next i e)) (next j f) (aTrue (next k g)) h =
+    rw (leaf-is s n from, token-read i, boolean-is s n t, other e trueWord, other e falseWord, ne-eqb n recordLimit d, token-read j, other f comma, second-is s n 2 (c .end), token-read k, other g trueWord)
+two-booleans s n from a b t c u d (aFalse x) m (aFalse y) h = absurd (h refl)
 
 -- a pattern's token is of no other sort
 module _ (s : List ℕ) (n from : ℕ) (r : n ≢ recordLimit) where
-  date-leaf : (f : ℕ) → 1 ≤ f → f ≤ 5 → tokenAt s from .sort ≡ 30 + f
-      → leaf s n from ≡ got (single datePattern n f) (tokenAt s from .end)
-  date-leaf f a b e =
-      let k = tokenAt s from .sort in
-      let v : tokenAt s from .sort - 30 ≡ f = omega arith in
+  date-leaf : (f : ℕ) (t : Token) → 1 ≤ f → f ≤ 5 → NextToken s from (30 + f) t
+      → leaf s n from ≡ got (single datePattern n f) (t .end)
+  date-leaf f t a b (next i e) =
+      let k = t .sort in
+      let v : t .sort - 30 ≡ f = omega arith in
       rw (
         leaf-is s n from,
+        token-read i,
         ne-eqb k trueWord (λ z. omega arith),
         ne-eqb k falseWord (λ z. omega arith),
         ne-eqb k integer (λ z. omega arith),
@@ -695,13 +698,14 @@ module _ (s : List ℕ) (n from : ℕ) (r : n ≢ recordLimit) where
         v,
       )
 
-  time-leaf : (f : ℕ) → 1 ≤ f → f ≤ 4 → tokenAt s from .sort ≡ 40 + f
-      → leaf s n from ≡ got (single timePattern n f) (tokenAt s from .end)
-  time-leaf f a b e =
-      let k = tokenAt s from .sort in
-      let v : tokenAt s from .sort - 40 ≡ f = omega arith in
+  time-leaf : (f : ℕ) (t : Token) → 1 ≤ f → f ≤ 4 → NextToken s from (40 + f) t
+      → leaf s n from ≡ got (single timePattern n f) (t .end)
+  time-leaf f t a b (next i e) =
+      let k = t .sort in
+      let v : t .sort - 40 ≡ f = omega arith in
       rw (
         leaf-is s n from,
+        token-read i,
         ne-eqb k trueWord (λ z. omega arith),
         ne-eqb k falseWord (λ z. omega arith),
         ne-eqb k integer (λ z. omega arith),
@@ -723,8 +727,8 @@ leaf-got s n from l p z (LeafGrammar.twoBooleans {a = a} {b = b} {t = t} {c = c}
 leaf-got s n from l p z (LeafGrammar.integerItems {l = x} d a b) w = items-leaf s n from integer x p z isInteger d a b w
 leaf-got s n from l p z (LeafGrammar.dateItems {l = x} d a b) w = items-leaf s n from date x p z isDate d a b w
 leaf-got s n from l p z (LeafGrammar.stringItems {l = x} d a b) w = strings-leaf s n from x p z d a b w
-leaf-got s n from l p z (LeafGrammar.aDatePattern {f = f} r a b (next e)) w = date-leaf s n from r f a b e
-leaf-got s n from l p z (LeafGrammar.aTimePattern {f = f} r a b (next e)) w = time-leaf s n from r f a b e
+leaf-got s n from l p z (LeafGrammar.aDatePattern {f = f} {t = t} r a b m) w = date-leaf s n from r f t a b m
+leaf-got s n from l p z (LeafGrammar.aTimePattern {f = f} {t = t} r a b m) w = time-leaf s n from r f t a b m
 
 -- a leaf that is read is derived
 pub leaf-derives : (s : List ℕ) (n from : ℕ) (l : Leaf) (p : ℕ) → leaf s n from ≡ got l p → DerivesLeaf s n from l p

@@ -4,15 +4,15 @@ pub mod ByteRules
 pub mod SeparatorLaws
 pub mod SpelledAtLaws
 pub mod NumberLaws
-pub mod TokensReach
 pub mod TokensSpelled
+pub mod TokensReach
 pub mod TokenLaws
 pub mod DataTokenLaws
+pub mod NextLaws
 pub mod DigitLaws
 pub mod DateWordLaws
 pub mod TimeWordLaws
 pub mod WordLaws
-pub mod SortLaws
 pub mod LiteralLaws
 pub mod Leaves
 pub mod Judged
@@ -21,3 +21,4 @@ pub mod Derived
 pub mod Items
 pub mod Constrained
 pub mod Whole
+pub mod FailurePlaces

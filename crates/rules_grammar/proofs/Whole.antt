@@ -5,11 +5,8 @@ use Prim.Native.Nat.{ℕ, _≤_}
 use native.Mathlib.Omega.{arith}
 use lib.Dec.{ltb}
 use lib.ListN.{length}
-use borrow.Author.Tests.{leb-true}
-use Rattle.lexis.specs.Blanks.{tokenStart}
-use Rattle.lexis.specs.Tokens.{tokenAt, tokenOn, textEnd}
+use Rattle.lexis.specs.Tokens.{textEnd}
 use Rattle.lexis.specs.declared.Token.{Token}
-use Rattle.lexis.proofs.Places.{token-found}
 use Rattle.refusals.specs.Limits.{textLimit, levelLimit}
 use Rattle.refusals.specs.Reading.{Reading, refused, got, readThen}
 use Rattle.refusals.specs.declared.Cause.the-variants.{TextTooLong}
@@ -20,27 +17,33 @@ use Rattle.cadl_objects.specs.contracts.Told.{objectFrom}
 use Rattle.cadl_objects.specs.Texts.{constraintOf}
 use Rattle.cadl_objects.proofs.TreeParts.{constraint-is}
 use Rattle.cadl_objects.proofs.TreeReading.{ObjectRead, object-holds}
+use Rattle.rules_grammar.specs.Spellings.{Spells}
+use Rattle.rules_grammar.specs.LongestMatch.{NextIs}
 use Rattle.rules_grammar.specs.LeafGrammar.{next}
-use Rattle.rules_grammar.proofs.SortLaws.{by-sort}
 use Rattle.rules_grammar.proofs.Given.{Gives, got-gives, refuse-gives, unless-gives, then-gives, given}
 use Rattle.rules_grammar.proofs.Items.{Took, took, expect-gives}
-use Rattle.rules_grammar.proofs.Derived.{AtEnd}
+use Rattle.rules_grammar.proofs.Constrained.{next-found}
 
--- the text's end, as a token, ends where the text does
-token-at-end : (s : List ℕ) (at : ℕ) → AtEnd s (tokenOn s at)
-token-at-end s at = by-sort (AtEnd s) s at (λ h e. leb-true (length s) at h) (λ h e. absurd (omega arith)) (λ t o e. absurd (o .notEnd e))
+-- the text's end, as a token, ends where the text does: no other token has its sort
+end-no-spelling : {w : List ℕ} → ¬ Spells textEnd w
+end-no-spelling = elim [ ]
+
+at-end : {s : List ℕ} {from : ℕ} {t : Token} → NextIs s from t → t .sort ≡ textEnd → length s ≤ t .end
+at-end (NextIs.ends p h) e = h
+at-end (NextIs.none p h x) e = absurd (omega arith)
+at-end (NextIs.longest p x) e = absurd (end-no-spelling (rw e at (x .one .spelled)))
 
 whole-gives : (s : List ℕ) → Gives (λ (o : Object) p. p ≡ length s) (constraintOf s)
-unfolding Holds tokenAt
+unfolding Holds
 whole-gives s = rw (constraint-is s) (unless-gives P (ltb textLimit (length s)) TextTooLong textLimit _ (λ l. by-object (objectFrom s levelLimit 1 0) refl))
   where
     P : Object → ℕ → Type 0
     P o p = p ≡ length s
 
     ends : {t : Token} {p q : ℕ} → Took s textEnd p t q → p ≤ length s → q ≡ length s
-    ends {p = p} (took (next e)) h =
-        let a : length s ≤ tokenAt s p .end = token-at-end s (tokenStart s p) e in
-        let b : tokenAt s p .end ≤ length s = token-found s p h .inside in
+    ends (took (next n e)) h =
+        let a = at-end n e in
+        let f = next-found (next n e) h in
         omega arith
 
     by-object : (r : Reading Object) → objectFrom s levelLimit 1 0 ≡ r

@@ -1,7 +1,7 @@
 -- The grammar of data text, as productions. Document 01, 'Data text': "At most 16,384 bytes .. Datum: optional `(`TYPE`)`, `<`, members, `>`. Member: NAME `=` then a datum, or `<`
 -- leaf `>` with no type. `<>` is a block without members. A leaf is a string or a word .. A `<` is a leaf's when it has no type, isn't the outermost, and a string or word follows; else
 -- a block's"; a word "is good if it reads as at least one of" the kinds; 'Table', lengths of types, names and strings; 'Meaning': "at most 16 levels"; 'Numbers of refusal', 9: a
--- "member named twice" is refused. Tokens are those of lexis. Each relation says that a part of the text s, from one place up to another, derives a tree. Assumes nothing.
+-- "member named twice" is refused. Tokens are those of LongestMatch. Each relation says that a part of the text s, from one place up to another, derives a tree. Assumes nothing.
 use mathlib.Core.Path.{_≡_}
 use mathlib.Core.Option.{none, some}
 use mathlib.Core.List.{List, [], _∷_, List·Memᴰ}
@@ -10,20 +10,21 @@ use lib.ListN.{length}
 use Rattle.lexis.specs.Spelling.{less, greater}
 use Rattle.lexis.specs.Tokens.{textEnd, typeName, name, spelling, inner}
 use Rattle.lexis.specs.Tokens
-use Rattle.lexis.specs.DataTokens.{dataTokenAt, typeTokenAt, equals, openRound, closeRound, wordRun}
+use Rattle.lexis.specs.DataTokens.{equals, openRound, closeRound, wordRun}
 use Rattle.lexis.specs.declared.Token.{Token}
 use Rattle.refusals.specs.Limits.{textLimit, nameLimit, stringLimit}
 use Rattle.dadl.specs.Placed.{Block, block, Entries, noMore, entry, PlacedContent, string, word, inside, spelledSpan}
 use Rattle.dadl.specs.Data.{spanOf, innerSpan}
+use Rattle.rules_grammar.specs.LongestMatch.{NextDataIs, Classed, ClassedBehind}
 use Rattle.rules_grammar.specs.Words.{IsGood}
 
 -- the next token from a place on, of a sort
 pub data NextDataToken (s : List ℕ) (from sort : ℕ) : Token → Type 0 where
-  next : dataTokenAt s from .sort ≡ sort → NextDataToken s from sort (dataTokenAt s from)
+  next : {t : Token} → NextDataIs Classed s from t → t .sort ≡ sort → NextDataToken s from sort t
 
 -- the next token from a place behind `(` on, a TYPE
 pub data NextType (s : List ℕ) (from : ℕ) : Token → Type 0 where
-  nextType : typeTokenAt s from .sort ≡ typeName → NextType s from (typeTokenAt s from)
+  nextType : {t : Token} → NextDataIs ClassedBehind s from t → t .sort ≡ typeName → NextType s from t
 
 -- the names of members
 unfoldable pub namesOf : List ℕ → Entries → List (List ℕ)

@@ -11,7 +11,7 @@ use Prim.Native.Nat.{ℕ, _+_, _≤_}
 use lib.ListN.{length}
 use Rattle.lexis.specs.Spelling.{bar, dots, less, greater, atMost, atLeast, plusMinus, comma, trueWord, falseWord}
 use Rattle.lexis.specs.Spelling
-use Rattle.lexis.specs.Tokens.{tokenAt, integer, date, string, spelling, inner}
+use Rattle.lexis.specs.Tokens.{integer, date, string, spelling, inner}
 use Rattle.lexis.specs.declared.Token.{Token}
 use Rattle.values.specs.Integers.{Pair, pair, inside, around}
 use Rattle.values.specs.Dates.{Date}
@@ -21,10 +21,11 @@ use Rattle.cadl_intervals.specs.Intervals.{Ends, ends, least, most, after, empt
 use Rattle.cadl_items.specs.Ranges.{range}
 use Rattle.rules_grammar.specs.Words.{IsInteger, IsDate}
 use Rattle.rules_grammar.specs.DataGrammar.{Distinct}
+use Rattle.rules_grammar.specs.LongestMatch.{NextIs}
 
 -- the next token from a place on, of a sort
 pub data NextToken (s : List ℕ) (from sort : ℕ) : Token → Type 0 where
-  next : tokenAt s from .sort ≡ sort → NextToken s from sort (tokenAt s from)
+  next : {t : Token} → NextIs s from t → t .sort ≡ sort → NextToken s from sort t
 
 -- what a literal of a kind says: an integer, or a date with all its parts
 pub data IsLiteral : (kind : ℕ) → List ℕ → ℕ → Type 0 where
