@@ -1,7 +1,9 @@
 -- The proofs of the demands.
-pub mod Buffers
-pub mod Rules
+pub mod JudgedTexts
 pub mod Merges
+pub mod Rules
+pub mod Failures
+pub mod Telling
 pub mod Marked
 pub mod Examples
 pub mod ListTable

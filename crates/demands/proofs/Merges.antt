@@ -1,5 +1,6 @@
 -- Demand 3: judging after a list of merges is what the two texts mean, the record moved by the sum. Assumes nothing.
-use mathlib.Core.Path.{_≡_, refl, ap, _∙_}
+use mathlib.Core.Path.{_≡_, refl, sym, ap, _∙_}
+use mathlib.Core.Logic.{_↔_}
 use mathlib.Core.Bool.{Bool, true, false, cond}
 use mathlib.Core.Option.{none}
 use mathlib.Core.List.{List, [], _∷_}
@@ -10,9 +11,14 @@ use Rattle.refusals.specs.Limits.{levelLimit}
 use Rattle.refusals.specs.Reading
 use Rattle.refusals.specs.Reading.{Reading, got}
 use Rattle.refusals.specs.Outcomes
-use Rattle.refusals.specs.Outcomes.{Outcome, gave}
+use Rattle.refusals.specs.Outcomes.{Outcome, gave, afterReading}
+use Rattle.refusals.specs.declared.Refusal.{Refusal}
+use Rattle.refusals.proofs.Outcomes.{not-gave, same-given}
 use Rattle.meaning.specs.Constraints.{Object}
 use Rattle.meaning.specs.Data.{Datum}
+use Rattle.meaning.specs.Verdicts
+use Rattle.meaning.specs.Verdicts.{Verdict}
+use Rattle.dadl.specs.Placed.{Block, spelledBlock}
 use Rattle.meaning.specs.Moving.{movedObject}
 use Rattle.meaning.specs.contracts.Proper.{ProperObject}
 use Rattle.meaning.proofs.Moved.{judge-moved, moved-none, moved-twice}
@@ -23,7 +29,9 @@ use Rattle.dadl.specs.Data.{datumOf}
 use Rattle.table.specs.Records.{count, imageOf}
 use Rattle.table.specs.Check.{tableFault}
 use Rattle.table.specs.Trees.{ofObject, treeAt}
+use Rattle.table.specs.Says.{Says}
 use Rattle.table.proofs.Checked.{Checked}
+use Rattle.table.proofs.SaysLaws.{says-there}
 use Rattle.table.proofs.CheckLaws.{check-sound, check-complete, image-back}
 use Rattle.table.proofs.TreeLaws.{movedTree}
 use Rattle.table_merge.specs.Joining.{merged}
@@ -33,12 +41,18 @@ use Rattle.table_merge.proofs.MergeLaws.{count-merged, tree-kept, tree-moved}
 use Rattle.table_merge.proofs.CheckedMerge.{checked-merge}
 use Rattle.table_merge.proofs.Answers.{Joined, merge-gives}
 use Rattle.compile_flatten.specs.Flatten.{imageOfTree}
-use Rattle.compile.specs.Compile.{tableOf}
+use Rattle.compile.specs.Compile.{compileAnswer, tableOf}
 use Rattle.compile.proofs.Answers.{compile-gives}
 use Rattle.compile_flatten.proofs.FlattenLaws.{tree-compiled}
 use Rattle.compile_flatten.proofs.CheckedCompiled.{checked-compiled}
 use Rattle.judge.specs.Judge.{judgeDatum, judgeText, judgeAnswer, movedAnswer}
-use Rattle.demands.specs.Demands.{meaningOf, Demand3}
+use Rattle.rules_grammar.specs.ConstraintGrammar.{DerivesConstraint}
+use Rattle.rules_grammar.specs.DataGrammar.{DerivesData}
+use Rattle.rules_grammar.specs.Admits.{Admits}
+use Rattle.rules_grammar.proofs.Constrained
+use Rattle.rules_grammar.proofs.Judged.{valid-admits}
+use Rattle.demands.specs.Demands.{meaningOf, Demand3, Demand3Relations}
+use Rattle.demands.proofs.JudgedTexts.{text-verdict}
 
 -- what is carried along: a table that passes the check, with the text's tree, moved by the sum, at record 1 + sum
 pub record Carries (o : Object) (c : Carried) : Type 0 where
@@ -131,3 +145,57 @@ demand3 text little out size e steps form =
     let p = tree-proper text (x .tree) (x .end) (x .is) in
     let c = carried (tableOf little (x .tree)) 0 in
     rw (x .written-is, x .is) (judge-carried (x .tree) (afterSteps steps c) p (list-carries (x .tree) steps c (start-carries text (x .tree) (x .end) (x .is) little)) form)
+
+-- the table of a text says the text's tree
+pub compiled-says : (text : List ℕ) (tree : Object) (little : Bool) → DerivesConstraint text tree → Says (tableOf little tree) 1 tree
+compiled-says text tree little d =
+    let x = Constrained.read-derives text tree .1 d in
+    let h = start-carries text tree (x .0) (x .1) little in
+    let t = h .tree in
+    says-there (tableOf little tree) 1 tree (h .passes) (rw (t, moved-none tree))
+
+-- a verdict that is valid, with its record moved or not
+valid-moved : (s : ℕ) (a : Outcome Refusal Verdict) → (movedAnswer s a ≡ gave Verdicts.valid) ↔ (a ≡ gave Verdicts.valid)
+valid-moved s (Outcomes.refused r) = (λ e. absurd (not-gave e), λ e. absurd (not-gave e))
+valid-moved s (gave Verdicts.valid) = (λ e. refl, λ e. refl)
+valid-moved s (gave (Verdicts.fails r n p)) = (λ e. absurd (fails-valid (same-given e)), λ e. absurd (fails-valid (same-given e)))
+  where
+    fails-valid : {a b c : ℕ} → Verdicts.fails a b c ≡ Verdicts.valid → ⊥
+    fails-valid e = let n = ap failed e in omega arith
+      where
+        failed : Verdict → ℕ
+        failed Verdicts.valid = 0
+        failed (Verdicts.fails r n p) = 1
+
+-- what two texts mean is valid exactly where the tree admits the datum
+meaning-valid : (text : List ℕ) (tree : Object) (end : ℕ) (form : List ℕ) → constraintOf text ≡ got tree end
+    → (meaningOf text form ≡ gave Verdicts.valid)
+    ↔ ((tree : Object) × DerivesConstraint text tree × (b : Block) × DerivesData levelLimit form b × Admits tree (spelledBlock b form))
+unfolding meaningOf
+meaning-valid text tree end form e = (λ h. there (rw e at h), λ x. back (x .0) (x .1) (x .2) (x .3) (x .4))
+  where
+    there : judgeText tree form ≡ gave Verdicts.valid
+        → (tree : Object) × DerivesConstraint text tree × (b : Block) × DerivesData levelLimit form b × Admits tree (spelledBlock b form)
+    there h = let (b, d, a) = text-verdict tree form Verdicts.valid (λ d. Admits tree d) (λ d. valid-admits tree d) .0 h in (tree, Constrained.read-derives text tree .0 (end, e), b, d, a)
+
+    back : (o : Object) → DerivesConstraint text o → (b : Block) → DerivesData levelLimit form b → Admits o (spelledBlock b form)
+        → afterReading (constraintOf text) (λ o. judgeText o form) ≡ gave Verdicts.valid
+    back o c b d a = let x = Constrained.read-derives text o .1 c in rw (x .1) (text-verdict o form Verdicts.valid (λ d. Admits o d) (λ d. valid-admits o d) .1 (b, d, a))
+
+pub demand3-relations : Demand3Relations
+demand3-relations text little out size e steps =
+    let x = compile-gives text little out size e in
+    let c = carried (tableOf little (x .tree)) 0 in
+    let k = list-carries (x .tree) steps c (start-carries text (x .tree) (x .end) (x .is) little) in
+    let d = carried (take size (compileAnswer text little out .out)) 0 in
+    let same : d ≡ c = ap (λ t. carried t 0) (x .written-is) in
+    let s = afterSteps steps d in
+    record {
+      end = s;
+      is = refl;
+      root-fits = let l = check-sound _ (k .passes) .few in let i = k .inside in rw same (omega arith);
+      valid = λ form. let y = demand3 text little out size e steps form in
+          let v = valid-moved (s .sum) (meaningOf text form) in
+          let m = meaning-valid text (x .tree) (x .end) form (x .is) in
+          (λ h. m .0 (v .0 (sym y ∙ h)), λ z. y ∙ v .1 (m .1 z));
+    }

@@ -1,7 +1,8 @@
 -- Demand 2: the answers of compiling and judging, from the rules as relations. Assumes nothing.
-use mathlib.Core.Path.{_≡_, refl, sym, subst}
+use mathlib.Core.Path.{_≡_, refl, sym, ap, _∙_, subst}
 use mathlib.Core.Logic.{_↔_, _⊎_, inl, inr, _≢_}
 use mathlib.Core.Bool.{Bool, false}
+use mathlib.Core.Option.{Option, none, some}
 use mathlib.Core.List.{List, [], _++_}
 use Prim.Native.Nat.{ℕ, _≤_}
 use lib.Dec.{ltb}
@@ -16,6 +17,7 @@ use Rattle.refusals.specs.Outcomes.{Outcome, gave, writes}
 use Rattle.refusals.proofs.Outcomes.{not-gave, same-refusal, same-given, refusal-is, too-short, Read, refused-or-read}
 use Rattle.refusals.specs.declared.Refusal.{Refusal}
 use Rattle.refusals.specs.Refusals.{refusal, numberOf}
+use Rattle.refusals.specs.declared.Cause.the-variants.{NotAnObject}
 use Rattle.meaning.specs.Constraints.{Object}
 use Rattle.meaning.specs.Data.{Datum}
 use Rattle.meaning.specs.Verdicts.{Verdict}
@@ -27,7 +29,7 @@ use Rattle.cadl_objects.specs.Texts.{constraintOf}
 use Rattle.cadl_objects.proofs.TreeReading.{not-ten}
 use Rattle.compile.specs.Compile.{compileOutcome, compileAnswer, tableOf, tableFor}
 use Rattle.compile.proofs.Answers.{compile-gives}
-use Rattle.judge.specs.Judge.{judgeAnswer, judgeDatum}
+use Rattle.judge.specs.Judge.{judgeText, judgeAnswer}
 use Rattle.rules_grammar.specs.ConstraintGrammar.{DerivesConstraint}
 use Rattle.rules_grammar.specs.DataGrammar.{DerivesData}
 use Rattle.rules_grammar.specs.Admits.{Admits}
@@ -37,10 +39,30 @@ use Rattle.rules_faults.specs.ConstraintFaults
 use Rattle.rules_faults.specs.DataFaults
 use Rattle.rules_grammar.proofs.Constrained
 use Rattle.rules_grammar.proofs.Derived
+use Rattle.rules_faults.proofs.Outcomes.{Lies}
 use Rattle.rules_faults.proofs.Scanned
 use Rattle.rules_faults.proofs.ConstraintScanned
+use Rattle.rules_grammar.proofs.TestLaws.{some-inj}
 use Rattle.rules_grammar.proofs.Judged.{valid-admits, fails-first}
-use Rattle.demands.specs.Demands.{Demand2, TooShort, RootIs}
+use Rattle.table.specs.Records.{imageOf}
+use Rattle.table.specs.Check.{tableFault}
+use Rattle.table.specs.Trees.{objectAt}
+use Rattle.table.specs.TableRules.{NoTable}
+use Rattle.table.specs.Says.{Says, NoObject}
+use Rattle.table.proofs.TableRuleLaws
+use Rattle.table.proofs.SaysLaws
+use Rattle.table.proofs.NamedLaws
+use Rattle.table_merge.proofs.MergeRuleLaws
+use Rattle.table_merge.proofs.OneJoinedLaws
+use Rattle.rules_grammar.proofs.SeparatorLaws
+use Rattle.rules_grammar.proofs.TokenLaws
+use Rattle.rules_grammar.proofs.DataTokenLaws
+use Rattle.rules_grammar.proofs.WordLaws
+use Rattle.rules_grammar.proofs.DateWordLaws
+use Rattle.rules_grammar.proofs.TimeWordLaws
+use Rattle.demands.specs.Demands.{Demand2, TooShort}
+use Rattle.demands.proofs.JudgedTexts.{text-verdict, text-unread, text-least}
+use Rattle.demands.proofs.Merges.{compiled-says}
 
 module _ (text : List ℕ) (little : Bool) (out : List ℕ) where
   abbrev Accepted : ℕ → Type 0
@@ -80,7 +102,7 @@ module _ (text : List ℕ) (little : Bool) (out : List ℕ) where
           let y = too-short refusal (length text) (length out) (writes bs (length bs)) r (x .follows) in
           inr (record { tree = x .value; derived = Constrained.read-derives text (x .value) .0 (x .place, x .is); short = y .0; told = sym (y .1) })
 
-  refused-only : (r : Refusal) → compileAnswer text little out .answer ≡ Outcomes.refused r
+  pub refused-only : (r : Refusal) → compileAnswer text little out .answer ≡ Outcomes.refused r
       → Least r (ConstraintFaults.faults text) ⊎ TooShort text little out r
   refused-only r h = by (refused-by r h)
     where
@@ -111,62 +133,61 @@ module _ (text : List ℕ) (little : Bool) (out : List ℕ) where
       let x = Constrained.read-derives text (h .tree) .1 (h .derived) in
       rw (x .1, lt-ltb (length out) (length (tableOf little (h .tree))) (h .short), h .told)
 
--- what judging answers, by what the data text gives
-module _ (table : List ℕ) (root : ℕ) (form : List ℕ) (o : Object) (h : RootIs table root o) where
-  answer-is : judgeAnswer table root form ≡ judgeDatum o (datumOf levelLimit form)
+-- what judging answers is what the data text gives under the object
+module _ (table : List ℕ) (root : ℕ) (form : List ℕ) (o : Object) (h : Says table root o) where
+  answer-is : judgeAnswer table root form ≡ judgeText o form
   unfolding judgeAnswer
-  answer-is = rw (h .checked, h .object)
+  answer-is = rw (SaysLaws.table-checked (h .table), SaysLaws.says-only table root o h)
 
-  derived-answer : (b : Block) → DerivesData levelLimit form b
-      → judgeAnswer table root form ≡ gave (judge o (spelledBlock b form))
-  derived-answer b d = let x = answer-is in rw (x, Derived.says-derived levelLimit form b d)
-
-  refused-answer : (x : Refusal) → blockOf levelLimit form ≡ Reading.refused x
-      → judgeAnswer table root form ≡ Outcomes.refused x
-  unfolding datumOf
-  refused-answer x e = let y = answer-is in rw (y, e)
-
-  -- the text is refused, or its datum judged
-  data Judging : Type 0 where
-    unread : (x : Refusal) → blockOf levelLimit form ≡ Reading.refused x
-        → judgeAnswer table root form ≡ Outcomes.refused x → Judging
-    read : (b : Block) → DerivesData levelLimit form b
-        → judgeAnswer table root form ≡ gave (judge o (spelledBlock b form)) → Judging
-
-  judging : Judging
-  judging = by (blockOf levelLimit form) refl
-    where
-      by : (r : Reading Block) → blockOf levelLimit form ≡ r → Judging
-      by (Reading.refused x) e = unread x e (refused-answer x e)
-      by (got b p) e =
-          let w : p ≡ length form = Derived.read-whole levelLimit form b p e in
-          let d = Derived.read-derives levelLimit form b .0 (subst (λ (q : ℕ). blockOf levelLimit form ≡ got b q) w e) in
-          read b d (derived-answer b d)
-
-  -- a verdict is told exactly where a datum is derived that has it
   verdict-told : (v : Verdict) (P : Datum → Type 0)
       → ((d : Datum) → (judge o d ≡ v) ↔ P d)
       → (judgeAnswer table root form ≡ gave v) ↔ ((b : Block) × DerivesData levelLimit form b × P (spelledBlock b form))
-  verdict-told v P f = (λ e. by e judging, λ x. let k = derived-answer (x .0) (x .1) in let m = f (spelledBlock (x .0) form) .1 (x .2) in rw (k, m))
-    where
-      by : judgeAnswer table root form ≡ gave v → Judging
-          → (b : Block) × DerivesData levelLimit form b × P (spelledBlock b form)
-      by e (unread x g k) = absurd (not-gave (subst (λ (a : Outcome Refusal Verdict). a ≡ gave v) k e))
-      by e (read b d k) = (b, d, f (spelledBlock b form) .0 (same-given (subst (λ (a : Outcome Refusal Verdict). a ≡ gave v) k e)))
+  verdict-told v P f = let k = text-verdict o form v P f in (λ e. k .0 (sym answer-is ∙ e), λ x. answer-is ∙ k .1 x)
 
-  unread-least : (r : Refusal) → judgeAnswer table root form ≡ Outcomes.refused r
-      → Least r (DataFaults.faults levelLimit form)
-  unread-least r e = by judging
-    where
-      by : Judging → Least r (DataFaults.faults levelLimit form)
-      by (unread x g k) = subst (λ (w : Refusal). Least w (DataFaults.faults levelLimit form)) (same-refusal (subst (λ (a : Outcome Refusal Verdict). a ≡ Outcomes.refused r) k e)) (Scanned.refused-least levelLimit form x g)
-      by (read b d k) = absurd (not-gave (sym (subst (λ (a : Outcome Refusal Verdict). a ≡ Outcomes.refused r) k e)))
+  pub unread-least : (r : Refusal) → judgeAnswer table root form ≡ Outcomes.refused r → Least r (DataFaults.faults levelLimit form)
+  unread-least r e = text-unread o form r (sym answer-is ∙ e)
 
   least-unread : (x : Refusal) → Least x (DataFaults.faults levelLimit form)
       → (r : Refusal) × (judgeAnswer table root form ≡ Outcomes.refused r) × Alike x r
-  least-unread x l =
-      let y = Scanned.least-refused levelLimit form x l in
-      (y .0, refused-answer (y .0) (y .1), y .2)
+  least-unread x l = let (r, e, a) = text-least o form x l in (r, answer-is ∙ e, a)
+
+pub fails-told : (table : List ℕ) (root : ℕ) (form : List ℕ) (o : Object) (reason number place : ℕ) → Says table root o
+    → (judgeAnswer table root form ≡ gave (Verdicts.fails reason number place)) ↔ ((b : Block) × DerivesData levelLimit form b × FirstFailure o (spelledBlock b form) reason number place)
+fails-told table root form o r n p h = verdict-told table root form o h (Verdicts.fails r n p) (λ d. FirstFailure o d r n p) (λ d. fails-first o d r n p)
+
+-- what judging answers where there is no table, or no object of that number
+no-table : (table : List ℕ) (root : ℕ) (form : List ℕ) (r : Refusal) → NoTable table r → judgeAnswer table root form ≡ Outcomes.refused r
+unfolding judgeAnswer
+no-table table root form r h = let e = TableRuleLaws.no-table table r .1 h in rw e
+
+module _ (table : List ℕ) (root : ℕ) (form : List ℕ) where
+  object-missing : NoObject table root → judgeAnswer table root form ≡ Outcomes.refused (refusal NotAnObject root)
+  unfolding judgeAnswer
+  object-missing h = let e = SaysLaws.no-object table root .1 h in rw (e .0, e .1)
+
+  -- a data text is not refused with 14, nor is a table
+  missing-object : judgeAnswer table root form ≡ Outcomes.refused (refusal NotAnObject root) → NoObject table root
+  unfolding judgeAnswer numberOf
+  missing-object h = by (tableFault table) refl
+    where
+      under : tableFault table ≡ none → (o : Option Object) → objectAt (imageOf table) root ≡ o → NoObject table root
+      under e none f = SaysLaws.no-object table root .0 (e, f)
+      under e (some o) f =
+          let l = unread-least table root form o (SaysLaws.says-there table root o e f) (refusal NotAnObject root) h in
+          absurd (few (Scanned.fault-lies levelLimit form (refusal NotAnObject root) (l .one)))
+        where
+          few : Lies form (refusal NotAnObject root) → ⊥
+          few (inl (x, k)) = let n = ap (λ (y : Refusal). numberOf (y .cause)) x in omega arith
+          few (inr x) = let n = x .most in omega arith
+
+      by : (x : Option Refusal) → tableFault table ≡ x → NoObject table root
+      by none e = under e (objectAt (imageOf table) root) refl
+      by (some x) e =
+          let k : x ≡ refusal NotAnObject root = same-refusal (rw e at h) in
+          absurd (never (TableRuleLaws.no-table table (refusal NotAnObject root) .0 (rw k at e)))
+        where
+          never : NoTable table (refusal NotAnObject root) → ⊥
+          never = elim [ ]
 
 -- a tree is derived exactly where there is no fault
 derived-faultless : (text : List ℕ)
@@ -184,22 +205,42 @@ derived-readable form = (λ x. Scanned.read-faultless levelLimit form .0 (x .0, 
     back (b, p, e) = (b, Derived.read-derives levelLimit form b .0 (subst (λ (q : ℕ). blockOf levelLimit form ≡ got b q) (Derived.read-whole levelLimit form b p e) e))
 
 pub demand2 : Demand2
-unfolding judgeAnswer
 demand2 = record {
+  separated = SeparatorLaws.separated;
+  tokens = TokenLaws.token-is;
+  data-tokens = DataTokenLaws.data-token-is;
+  type-tokens = DataTokenLaws.type-token-is;
+  booleans = WordLaws.boolean-word;
+  integers = WordLaws.integer-word;
+  dates = DateWordLaws.date-word;
+  zones = TimeWordLaws.zone-word;
+  times = TimeWordLaws.time-word;
+  words = WordLaws.good-word;
   accepted = λ text little out size. (accepted-only text little out size, accepted-all text little out size);
   one-tree = Constrained.one-tree;
   written = λ text tree little out. written text little out tree;
+  compiled-says = compiled-says;
   faultless = derived-faultless;
   refused = refused-only;
   least-refused = least-refused;
   short-refused = short-refused;
   never-ten = never-ten;
+  passes = TableRuleLaws.passes;
+  broken = TableRuleLaws.no-table;
+  object-there = SaysLaws.object-there;
+  one-object = λ bs n a b h k. some-inj (sym (SaysLaws.says-only bs n a h) ∙ SaysLaws.says-only bs n b k);
+  named = NamedLaws.name-given;
+  name-refused = NamedLaws.name-refused;
+  merged = MergeRuleLaws.merge-done;
+  merge-written = MergeRuleLaws.merge-written;
+  one-joined = OneJoinedLaws.one-joined;
+  merge-refused = MergeRuleLaws.merge-refused;
   valid = λ table root form o h. verdict-told table root form o h Verdicts.valid (λ d. Admits o d) (λ d. valid-admits o d);
-  fails = λ table root form o r n p h. verdict-told table root form o h (Verdicts.fails r n p) (λ d. FirstFailure o d r n p) (λ d. fails-first o d r n p);
+  fails = fails-told;
   one-datum = Derived.one-tree levelLimit;
   readable = derived-readable;
   unread = λ table root form o r h. unread-least table root form o h r;
   least-unread = λ table root form o x h. least-unread table root form o h x;
-  no-table = λ table root form r a. rw a;
-  no-object = λ table root form a b. rw (a, b);
+  no-table = no-table;
+  no-object = λ table root form. (missing-object table root form, object-missing table root form);
 }

@@ -1,2 +1,3 @@
+pub mod Told
 pub mod Demands
 pub mod Marked
