@@ -1,4 +1,4 @@
--- The numbers of refusal as one table: document 01, 'Numbers of refusal'. A row for each cause, with its number and what its place is. Assumes nothing.
+-- The numbers of refusal as one table: document 01, 'Numbers of refusal'. A row for each cause, with its number and what its place is. Proved one with numberOf. Assumes nothing.
 use Prim.Native.Nat.{ℕ}
 use Rattle.refusals.specs.declared.Cause.{Cause}
 use Rattle.refusals.specs.declared.Cause.the-variants.{TextTooLong, Unreadable, CannotFollow, EndsEarly, TooDeep, TooLong, Impossible, OutOfRange, BadWord, EmptyInterval, TooManyItems, TooManyRecords, Overlap, RepeatedName, PoolTooLarge, OutputTooShort, NotATable, BrokenRecord, NotAnObject, NoName}

@@ -1,6 +1,6 @@
 -- What an object admits, as rules. Document 01, 'Meaning': "An object admits a block whose type, if written, is its own and whose members satisfy each attribute. `*` in an object
 -- admits any members (its type still counts), in an attribute any leaf or block. Members that no attribute names are admitted. Lists admit a value in some item; a date interval admits
--- full dates only. Patterns: lettered parts must be there, `??` may, `XX` may not, and no part without the one before it; the zone is free." Assumes nothing.
+-- full dates only. Patterns: lettered parts must be there, `??` may, `XX` may not, and no part without the one before it; the zone is free." Proved one with judge, booleanOf, integerOf, dateOf, timeOf. Assumes nothing.
 use mathlib.Core.Path.{_≡_}
 use mathlib.Core.Logic.{_≢_}
 use mathlib.Core.Option.{Option, none, some}

@@ -1,6 +1,6 @@
 -- The failure that is told, as rules. Document 01, 'Meaning': "Judging walks type first, then attributes in table order, each finished before the next; the first failure is told";
 -- 'Numbers of refusal': 20 "block for leaf or leaf for block; leaf unreadable as the kind asked", at the "record that c names, its datum's `<`", 21 "type differs", at "record, `<`",
--- 22 "member missing", at "attribute, enclosing `<`", 23 "member present under 0..0", at "attribute, member's `<`", 24 "value not admitted", at "first item, `<`". Assumes nothing.
+-- 22 "member missing", at "attribute, enclosing `<`", 23 "member present under 0..0", at "attribute, member's `<`", 24 "value not admitted", at "first item, `<`". Proved one with judge. Assumes nothing.
 use mathlib.Core.Path.{_≡_}
 use mathlib.Core.Logic.{_≢_}
 use mathlib.Core.Option.{Option, some}

@@ -2,7 +2,7 @@
 -- pattern. An integer item is a value or an interval: `|a|`, `|a..b|`, `|a..<b|`, `|>a..b|`, `|>a..<b|`, `|a+/-d|`, `|<a|`, `|>a|`, `|<=a|`, `|>=a|`. Date items are intervals only, the
 -- same without `+/-`. Date patterns .. Time patterns .."; "Intervals become closed pairs; an open end moves by one (one calendar day for dates); a missing end is the range's end";
 -- 'Numbers of refusal': no `+/-` result outside, no empty interval, no 17th item, no record 2,048, no overlapping or equal item, no string too long.
--- Assumes nothing.
+-- Proved one with tokenAt, literalValue, leaf. Assumes nothing.
 use mathlib.Core.Path.{_≡_}
 use mathlib.Core.Logic.{_≢_}
 use mathlib.Core.Bool.{true, false}

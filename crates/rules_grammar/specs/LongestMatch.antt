@@ -1,6 +1,6 @@
 -- Which token stands next in a text, as rules. Document 01, 'Constraint text': "Tokens by longest match; space, tab, CR, LF and `--` with any bytes up to the next CR or LF separate";
 -- 'Data text': "same blanks and comments (a comment starts only where a token may)"; "the longest run of letters, digits, `_ + - . :`. A run that opens with a small letter is a NAME or
--- unreadable (2), never a word; after `(` a run is a TYPE or unreadable"; 'Numbers of refusal', 2: "text end is a token". Assumes nothing.
+-- unreadable (2), never a word; after `(` a run is a TYPE or unreadable"; 'Numbers of refusal', 2: "text end is a token". Proved one with tokenStart, tokenAt, dataTokenAt, typeTokenAt. Assumes nothing.
 use mathlib.Core.Path.{_≡_}
 use mathlib.Core.List.{List, [], _∷_}
 use Prim.Native.Nat.{ℕ, _+_, _≤_, _<_}

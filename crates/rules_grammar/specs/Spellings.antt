@@ -1,7 +1,7 @@
 -- What bytes spell a token, as rules. Document 01, 'Constraint text': "Marks: `{ } , * | .. < > <= >= +/-`. TYPE: capital, then letters, digits, `_`; `True` and `False` aren't TYPEs.
 -- NAME: small letter, then the same; the keywords aren't NAMEs. Keywords: `matches` (also the bytes E2 88 88, ∈) and `existence`. code: `at`, digits, then any number of dot and digits; one
 -- token with its `[ ]`, no blank inside. integer: optional `-` and digits. date: four digits, `-`, two, `-`, two. string: `"`, bytes 20 to 7E hex except `"` and `\`, `"`"; the patterns;
--- 'Data text': "a word, the longest run of letters, digits, `_ + - . :`". Assumes nothing.
+-- 'Data text': "a word, the longest run of letters, digits, `_ + - . :`". Proved one with tokenOn, tokenAt, dataTokenAt, typeTokenAt. Assumes nothing.
 use mathlib.Core.Path.{_≡_}
 use mathlib.Core.Logic.{_≢_}
 use mathlib.Core.List.{List, [], _∷_, _++_}

@@ -1,7 +1,7 @@
 -- What a word says, as rules. Document 01, 'Constraint text': "An integer is spelled without needless zeros, isn't `-0`, and lies in -2,147,483,648..2,147,483,647"; 'Data text': "it is good
 -- if it reads as at least one of: True or False; an integer; a date `yyyy`, `yyyy-mm` or `yyyy-mm-dd`; a time `hh`, `hh:mm` or `hh:mm:ss` with optional zone. Hours 00..23 (002: 24:00:00
 -- nowhere), minutes and seconds 00..59. Zone: `Z`, or sign and two digits, alone or with `:` and two more digits; hours to 13 after `+`, to 12 after `-`, minutes 00..59; nought is never
--- `-`." Assumes nothing.
+-- `-`." Proved one with booleanOf, integerOf, dateOf, zone, timeOf, good. Assumes nothing.
 use mathlib.Core.Path.{_≡_}
 use mathlib.Core.Logic.{_≢_}
 use mathlib.Core.List.{List, [], _∷_, _++_}

@@ -1,5 +1,5 @@
 -- What a record of a table says, as rules: its links are followed by number. Document 01, 'Table', the table of kinds; "Asked for a name (an object's type, an attribute's name, a string item)
--- by record number, the build hands out the part of the pool itself". Assumes nothing.
+-- by record number, the build hands out the part of the pool itself". Proved one with objectAt, treeAt, nameAnswer. Assumes nothing.
 use mathlib.Core.Path.{_≡_}
 use mathlib.Core.Bool.{Bool}
 use mathlib.Core.List.{List, [], _∷_}

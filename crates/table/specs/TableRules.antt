@@ -1,6 +1,6 @@
 -- What a table is, as rules, read from the bytes. Document 01, 'Table': "Records of 24 bytes, number 0 first, then the name pool; length exactly 24 × count + pool. Each record: a two-byte mark
 -- (C0 AD: numbers big-endian; AD C0: little-endian, per record), kind, flag, five 32-bit numbers a b c d e. A field not named is 0", the table of kinds, and the rules behind it;
--- 'Numbers of refusal', 12: "not a table: length, header, root", 13: "record breaks a rule", at the "lowest such record"; "12 comes before 13". Assumes nothing.
+-- 'Numbers of refusal', 12: "not a table: length, header, root", 13: "record breaks a rule", at the "lowest such record"; "12 comes before 13". Proved one with tableFault, framed, obeys, decode, recordIn. Assumes nothing.
 use mathlib.Core.Path.{_≡_}
 use mathlib.Core.Bool.{Bool, true, false}
 use mathlib.Core.List.{List, [], _∷_}

@@ -1,7 +1,7 @@
 -- What merging writes and when it refuses, as rules. Document 01, 'Table': "Merging writes all in the order asked: first table's records keep their numbers, the second's gain first count − 1;
 -- links other than 0 move so, pool places of length above 0 gain the first pool's bytes. Header: counts summed less one, pools summed, first root. Both shifts are reported"; 'Numbers of
 -- refusal': "Merge: first table, second, 8, 10, 11, naming the table for 12 and 13", 8 at 0: "merged count above 2,048", 10 at 0: "pool above 16,384", 11 at the needed length: "output too
--- short". Assumes nothing.
+-- short". Proved one with mergeAnswer, mergeOutcome, join. Assumes nothing.
 use mathlib.Core.Path.{_≡_}
 use mathlib.Core.Logic.{_≢_}
 use mathlib.Core.Bool.{Bool}
