@@ -113,7 +113,8 @@ fn sentence(line: &str) -> Result<String, String> {
 /// Where a text has another one, which must stand there once.
 fn place_of(text: &str, old: &str) -> Result<usize, &'static str> {
     let at = text.find(old).filter(|_| !old.is_empty()).ok_or("is not in")?;
-    match text[at + 1..].contains(old) {
+    let behind = at + text[at..].chars().next().map_or(0, char::len_utf8);
+    match text[behind..].contains(old) {
         true => Err("is more than once in"),
         false => Ok(at),
     }
@@ -206,6 +207,7 @@ pub(crate) mod tests {
     #[test]
     fn a_text_must_stand_once() {
         assert_eq!(place_of("abc", "b"), Ok(1));
+        assert_eq!(place_of("a→b", "→"), Ok(1));
         assert!(place_of("abc", "d").is_err() && place_of("abab", "ab").is_err() && place_of("abc", "").is_err());
     }
 }
