@@ -2,3 +2,5 @@
 pub mod Placed
 pub mod FlattenLaws
 pub mod CheckedCompiled
+pub mod LayoutLaws
+pub mod OneLayoutLaws

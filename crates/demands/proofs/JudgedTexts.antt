@@ -2,21 +2,24 @@
 use mathlib.Core.Path.{_≡_, refl, sym, subst}
 use mathlib.Core.Logic.{_↔_}
 use mathlib.Core.List.{List}
-use Prim.Native.Nat.{ℕ}
+use Prim.Native.Nat.{ℕ, _<_}
 use lib.ListN.{length}
-use Rattle.refusals.specs.Limits.{levelLimit}
+use borrow.Author.Tests.{lt-ltb}
+use Rattle.refusals.specs.Limits.{textLimit, levelLimit}
 use Rattle.refusals.specs.Reading
 use Rattle.refusals.specs.Reading.{Reading, got}
 use Rattle.refusals.specs.Outcomes
 use Rattle.refusals.specs.Outcomes.{Outcome, gave}
+use Rattle.refusals.specs.Refusals.{refusal}
 use Rattle.refusals.specs.declared.Refusal.{Refusal}
+use Rattle.refusals.specs.declared.Cause.the-variants.{TextTooLong}
 use Rattle.refusals.proofs.Outcomes.{not-gave, same-refusal, same-given}
 use Rattle.meaning.specs.Constraints.{Object}
 use Rattle.meaning.specs.Data.{Datum}
 use Rattle.meaning.specs.Verdicts.{Verdict}
 use Rattle.meaning.specs.Judging.{judge}
 use Rattle.dadl.specs.Placed.{Block, spelledBlock}
-use Rattle.dadl.specs.Data.{blockOf, datumOf}
+use Rattle.dadl.specs.Data.{dataText, blockOf, datumOf}
 use Rattle.judge.specs.Judge.{judgeText}
 use Rattle.rules_grammar.specs.DataGrammar.{DerivesData}
 use Rattle.rules_grammar.proofs.Derived
@@ -67,3 +70,8 @@ module _ (o : Object) (form : List ℕ) where
   pub text-least : (x : Refusal) → Least x (DataFaults.faults levelLimit form)
       → (r : Refusal) × (judgeText o form ≡ Outcomes.refused r) × Alike x r
   text-least x l = let y = Scanned.least-refused levelLimit form x l in (y .0, refused-answer (y .0) (y .1), y .2)
+
+  -- a text that is too long
+  pub text-long : textLimit < length form → judgeText o form ≡ Outcomes.refused (refusal TextTooLong textLimit)
+  unfolding datumOf blockOf dataText
+  text-long l = rw (lt-ltb textLimit (length form) l)

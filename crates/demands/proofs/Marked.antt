@@ -8,6 +8,4 @@ use Rattle.demands.specs.Marked.{none, oneMore, MarkedHold}
 pub all-hold : MarkedHold
 unfolding mergeComputes compileComputes judgeComputes
 all-hold =
-    oneMore refl (oneMore refl (oneMore refl (oneMore refl (oneMore refl (oneMore refl (oneMore refl (oneMore refl (oneMore refl (oneMore refl (oneMore refl
-    (oneMore refl (oneMore refl (oneMore refl (oneMore refl (oneMore refl (oneMore refl (oneMore refl (oneMore refl (oneMore refl (oneMore refl (oneMore refl
-    none)))))))))))))))))))))
+    oneMore refl (oneMore refl (oneMore refl (oneMore refl (oneMore refl (oneMore refl (oneMore refl (oneMore refl (oneMore refl (oneMore refl (oneMore refl (oneMore refl (oneMore refl (oneMore refl (oneMore refl (oneMore refl (oneMore refl (oneMore refl (oneMore refl (oneMore refl (oneMore refl (oneMore refl (oneMore refl (oneMore refl none)))))))))))))))))))))))

@@ -1,10 +1,10 @@
 -- Demand 3: judging after a list of merges is what the two texts mean, the record moved by the sum. Assumes nothing.
-use mathlib.Core.Path.{_≡_, refl, sym, ap, _∙_}
+use mathlib.Core.Path.{_≡_, refl, sym, ap, _∙_, subst}
 use mathlib.Core.Logic.{_↔_}
 use mathlib.Core.Bool.{Bool, true, false, cond}
 use mathlib.Core.Option.{none}
 use mathlib.Core.List.{List, [], _∷_}
-use Prim.Native.Nat.{ℕ, _+_, _<_}
+use Prim.Native.Nat.{ℕ, _+_, _^_, _<_}
 use native.Mathlib.Omega.{arith}
 use lib.ListN.{length, take}
 use Rattle.refusals.specs.Limits.{levelLimit}
@@ -40,19 +40,26 @@ use Rattle.table_merge.specs.Lists.{MergeStep, Carried, carried, behind, afterS
 use Rattle.table_merge.proofs.MergeLaws.{count-merged, tree-kept, tree-moved}
 use Rattle.table_merge.proofs.CheckedMerge.{checked-merge}
 use Rattle.table_merge.proofs.Answers.{Joined, merge-gives}
+use Rattle.table_merge.proofs.StepLaws.{step-is}
 use Rattle.compile_flatten.specs.Flatten.{imageOfTree}
 use Rattle.compile.specs.Compile.{compileAnswer, tableOf}
-use Rattle.compile.proofs.Answers.{compile-gives}
+use Rattle.compile.proofs.Answers.{Compiled, compile-gives}
+use Rattle.compile_flatten.specs.Layout.{IsCompiled}
 use Rattle.compile_flatten.proofs.FlattenLaws.{tree-compiled}
+use Rattle.compile_flatten.proofs.LayoutLaws.{compiled-is}
+use Rattle.compile_flatten.proofs.OneLayoutLaws.{compiled-only}
 use Rattle.compile_flatten.proofs.CheckedCompiled.{checked-compiled}
 use Rattle.judge.specs.Judge.{judgeDatum, judgeText, judgeAnswer, movedAnswer}
 use Rattle.rules_grammar.specs.ConstraintGrammar.{DerivesConstraint}
 use Rattle.rules_grammar.specs.DataGrammar.{DerivesData}
 use Rattle.rules_grammar.specs.Admits.{Admits}
 use Rattle.rules_grammar.proofs.Constrained
-use Rattle.rules_grammar.proofs.Judged.{valid-admits}
-use Rattle.demands.specs.Demands.{meaningOf, Demand3, Demand3Relations}
-use Rattle.demands.proofs.JudgedTexts.{text-verdict}
+use Rattle.rules_grammar.specs.FirstFailure.{FirstFailure}
+use Rattle.rules_faults.specs.Faults.{Least}
+use Rattle.rules_faults.specs.DataFaults
+use Rattle.rules_grammar.proofs.Judged.{valid-admits, fails-first}
+use Rattle.demands.specs.Demands.{meaningOf, Demand3, AfterMerges, Demand3Relations}
+use Rattle.demands.proofs.JudgedTexts.{text-verdict, text-unread}
 
 -- what is carried along: a table that passes the check, with the text's tree, moved by the sum, at record 1 + sum
 pub record Carries (o : Object) (c : Carried) : Type 0 where
@@ -146,7 +153,14 @@ demand3 text little out size e steps form =
     let c = carried (tableOf little (x .tree)) 0 in
     rw (x .written-is, x .is) (judge-carried (x .tree) (afterSteps steps c) p (list-carries (x .tree) steps c (start-carries text (x .tree) (x .end) (x .is) little)) form)
 
--- the table of a text says the text's tree
+-- the table of a text is the one that the rules lay out
+pub compiled-table : (text : List ℕ) (tree : Object) (little : Bool) → DerivesConstraint text tree → (bs : List ℕ) → (bs ≡ tableOf little tree) ↔ IsCompiled little tree bs
+compiled-table text tree little d bs =
+    let (end, e) = Constrained.read-derives text tree .1 d in
+    let k = compiled-is little tree (object-numbered tree 1 (pre-order text tree end e)) (tree-proper text tree end e) (records-fit text tree end e) (pool-fits text tree end e) in
+    (λ h. subst (IsCompiled little tree) (sym h) k, λ h. compiled-only little tree bs h)
+
+-- it says the text's tree
 pub compiled-says : (text : List ℕ) (tree : Object) (little : Bool) → DerivesConstraint text tree → Says (tableOf little tree) 1 tree
 compiled-says text tree little d =
     let x = Constrained.read-derives text tree .1 d in
@@ -182,20 +196,58 @@ meaning-valid text tree end form e = (λ h. there (rw e at h), λ x. back (x .0)
         → afterReading (constraintOf text) (λ o. judgeText o form) ≡ gave Verdicts.valid
     back o c b d a = let x = Constrained.read-derives text o .1 c in rw (x .1) (text-verdict o form Verdicts.valid (λ d. Admits o d) (λ d. valid-admits o d) .1 (b, d, a))
 
+-- a refusal stays, whatever is moved
+refused-moved : (s : ℕ) (a : Outcome Refusal Verdict) (r : Refusal) → movedAnswer s a ≡ Outcomes.refused r → a ≡ Outcomes.refused r
+refused-moved s (Outcomes.refused x) r e = e
+refused-moved s (gave v) r e = absurd (not-gave (sym e))
+
+-- what is carried behind the list, and what judging by it answers
+module _ (text : List ℕ) (little : Bool) (out : List ℕ) (size : ℕ) (e : compileAnswer text little out .answer ≡ gave size) (steps : List MergeStep) where
+  x : Compiled text little out size
+  x = compile-gives text little out size e
+
+  abbrev start : Carried
+  start = carried (take size (compileAnswer text little out .out)) 0
+
+  abbrev last : Carried
+  last = afterSteps steps start
+
+  last-fits : 1 + last .sum < 2 ^ 32
+  last-fits =
+      let k = list-carries (x .tree) steps (carried (tableOf little (x .tree)) 0) (start-carries text (x .tree) (x .end) (x .is) little) in
+      let same : start ≡ carried (tableOf little (x .tree)) 0 = ap (λ t. carried t 0) (x .written-is) in
+      let l = check-sound _ (k .passes) .few in
+      let i = k .inside in
+      rw same (omega arith)
+
+  last-answer : (form : List ℕ) → judgeAnswer (last .table) (1 + last .sum) form ≡ movedAnswer (last .sum) (meaningOf text form)
+  last-answer form = demand3 text little out size e steps form
+
+  last-valid : (form : List ℕ) → (judgeAnswer (last .table) (1 + last .sum) form ≡ gave Verdicts.valid)
+      ↔ ((tree : Object) × DerivesConstraint text tree × (b : Block) × DerivesData levelLimit form b × Admits tree (spelledBlock b form))
+  last-valid form =
+      let v = valid-moved (last .sum) (meaningOf text form) in
+      let m = meaning-valid text (x .tree) (x .end) form (x .is) in
+      (λ h. m .0 (v .0 (sym (last-answer form) ∙ h)), λ z. last-answer form ∙ v .1 (m .1 z))
+
+  last-fails : (form : List ℕ) (reason number place : ℕ) → (tree : Object) → DerivesConstraint text tree → (b : Block) → DerivesData levelLimit form b
+      → FirstFailure tree (spelledBlock b form) reason number place
+      → judgeAnswer (last .table) (1 + last .sum) form ≡ gave (Verdicts.fails reason (last .sum + number) place)
+  unfolding meaningOf
+  last-fails form reason number place tree c b d f =
+      let y = Constrained.read-derives text tree .1 c in
+      let k = text-verdict tree form (Verdicts.fails reason number place) (λ z. FirstFailure tree z reason number place) (λ z. fails-first tree z reason number place) .1 (b, d, f) in
+      let m : meaningOf text form ≡ gave (Verdicts.fails reason number place) = rw (y .1) k in
+      last-answer form ∙ ap (movedAnswer (last .sum)) m
+
+  last-unread : (form : List ℕ) (r : Refusal) → judgeAnswer (last .table) (1 + last .sum) form ≡ Outcomes.refused r → Least r (DataFaults.faults levelLimit form)
+  unfolding meaningOf
+  last-unread form r h =
+      let k = refused-moved (last .sum) (meaningOf text form) r (sym (last-answer form) ∙ h) in
+      text-unread (x .tree) form r (rw (x .is) at k)
+
+  carried-on : AfterMerges text little out size steps
+  carried-on = record { end = last; is = refl; root-fits = last-fits; valid = last-valid; fails = last-fails; unread = last-unread }
+
 pub demand3-relations : Demand3Relations
-demand3-relations text little out size e steps =
-    let x = compile-gives text little out size e in
-    let c = carried (tableOf little (x .tree)) 0 in
-    let k = list-carries (x .tree) steps c (start-carries text (x .tree) (x .end) (x .is) little) in
-    let d = carried (take size (compileAnswer text little out .out)) 0 in
-    let same : d ≡ c = ap (λ t. carried t 0) (x .written-is) in
-    let s = afterSteps steps d in
-    record {
-      end = s;
-      is = refl;
-      root-fits = let l = check-sound _ (k .passes) .few in let i = k .inside in rw same (omega arith);
-      valid = λ form. let y = demand3 text little out size e steps form in
-          let v = valid-moved (s .sum) (meaningOf text form) in
-          let m = meaning-valid text (x .tree) (x .end) form (x .is) in
-          (λ h. m .0 (v .0 (sym y ∙ h)), λ z. y ∙ v .1 (m .1 z));
-    }
+demand3-relations = record { no-step = λ c. refl; further = λ s steps c. refl; step = step-is; after = carried-on }

@@ -4,12 +4,12 @@ use mathlib.Core.Logic.{_↔_, _⊎_, inl, inr, _≢_}
 use mathlib.Core.Bool.{Bool, false}
 use mathlib.Core.Option.{Option, none, some}
 use mathlib.Core.List.{List, [], _++_}
-use Prim.Native.Nat.{ℕ, _≤_}
+use Prim.Native.Nat.{ℕ, _≤_, _<_}
 use lib.Dec.{ltb}
-use lib.ListN.{length, drop}
+use lib.ListN.{length, take, drop}
 use native.Mathlib.Omega.{arith}
 use borrow.Author.Tests.{lt-ltb, le-ltb}
-use Rattle.refusals.specs.Limits.{levelLimit}
+use Rattle.refusals.specs.Limits.{textLimit, levelLimit}
 use Rattle.refusals.specs.Reading
 use Rattle.refusals.specs.Reading.{Reading, got}
 use Rattle.refusals.specs.Outcomes
@@ -17,7 +17,7 @@ use Rattle.refusals.specs.Outcomes.{Outcome, gave, writes}
 use Rattle.refusals.proofs.Outcomes.{not-gave, same-refusal, same-given, refusal-is, too-short, Read, refused-or-read}
 use Rattle.refusals.specs.declared.Refusal.{Refusal}
 use Rattle.refusals.specs.Refusals.{refusal, numberOf}
-use Rattle.refusals.specs.declared.Cause.the-variants.{NotAnObject}
+use Rattle.refusals.specs.declared.Cause.the-variants.{TextTooLong, NotAnObject}
 use Rattle.meaning.specs.Constraints.{Object}
 use Rattle.meaning.specs.Data.{Datum}
 use Rattle.meaning.specs.Verdicts.{Verdict}
@@ -25,7 +25,7 @@ use Rattle.meaning.specs.Verdicts
 use Rattle.meaning.specs.Judging.{judge}
 use Rattle.dadl.specs.Placed.{Block, spelledBlock}
 use Rattle.dadl.specs.Data.{blockOf, datumOf}
-use Rattle.cadl_objects.specs.Texts.{constraintOf}
+use Rattle.cadl_objects.specs.Texts.{constraintText, constraintOf}
 use Rattle.cadl_objects.proofs.TreeReading.{not-ten}
 use Rattle.compile.specs.Compile.{compileOutcome, compileAnswer, tableOf, tableFor}
 use Rattle.compile.proofs.Answers.{compile-gives}
@@ -48,7 +48,8 @@ use Rattle.table.specs.Records.{imageOf}
 use Rattle.table.specs.Check.{tableFault}
 use Rattle.table.specs.Trees.{objectAt}
 use Rattle.table.specs.TableRules.{NoTable}
-use Rattle.table.specs.Says.{Says, NoObject}
+use Rattle.table.specs.Names.{nameAnswer, sliceBytes}
+use Rattle.table.specs.Says.{Says, NoObject, Named, NameRefuses}
 use Rattle.table.proofs.TableRuleLaws
 use Rattle.table.proofs.SaysLaws
 use Rattle.table.proofs.NamedLaws
@@ -61,8 +62,8 @@ use Rattle.rules_grammar.proofs.WordLaws
 use Rattle.rules_grammar.proofs.DateWordLaws
 use Rattle.rules_grammar.proofs.TimeWordLaws
 use Rattle.demands.specs.Demands.{Demand2, TooShort}
-use Rattle.demands.proofs.JudgedTexts.{text-verdict, text-unread, text-least}
-use Rattle.demands.proofs.Merges.{compiled-says}
+use Rattle.demands.proofs.JudgedTexts.{text-verdict, text-unread, text-long, text-least}
+use Rattle.demands.proofs.Merges.{compiled-table, compiled-says}
 
 module _ (text : List ℕ) (little : Bool) (out : List ℕ) where
   abbrev Accepted : ℕ → Type 0
@@ -126,6 +127,10 @@ module _ (text : List ℕ) (little : Bool) (out : List ℕ) where
       let y = ConstraintScanned.least-refused text x l in
       (y .0, rw (y .1), y .2)
 
+  long-refused : textLimit < length text → compileAnswer text little out .answer ≡ Outcomes.refused (refusal TextTooLong textLimit)
+  unfolding compileAnswer constraintOf constraintText
+  long-refused h = rw (lt-ltb textLimit (length text) h)
+
   short-refused : (r : Refusal) → TooShort text little out r
       → compileAnswer text little out .answer ≡ Outcomes.refused r
   unfolding compileAnswer
@@ -146,6 +151,9 @@ module _ (table : List ℕ) (root : ℕ) (form : List ℕ) (o : Object) (h : Say
 
   pub unread-least : (r : Refusal) → judgeAnswer table root form ≡ Outcomes.refused r → Least r (DataFaults.faults levelLimit form)
   unread-least r e = text-unread o form r (sym answer-is ∙ e)
+
+  long-unread : textLimit < length form → judgeAnswer table root form ≡ Outcomes.refused (refusal TextTooLong textLimit)
+  long-unread l = answer-is ∙ text-long o form l
 
   least-unread : (x : Refusal) → Least x (DataFaults.faults levelLimit form)
       → (r : Refusal) × (judgeAnswer table root form ≡ Outcomes.refused r) × Alike x r
@@ -189,6 +197,13 @@ module _ (table : List ℕ) (root : ℕ) (form : List ℕ) where
           never : NoTable table (refusal NotAnObject root) → ⊥
           never = elim [ ]
 
+-- the bytes of a name, and none with a refusal
+named-bytes : (bs : List ℕ) (n start size : ℕ) → Named bs n start size → sliceBytes bs (nameAnswer bs n) ≡ take size (drop start bs)
+named-bytes bs n start size h = let e = NamedLaws.name-given bs n start size .1 h in rw e
+
+unnamed-bytes : (bs : List ℕ) (n : ℕ) (r : Refusal) → NameRefuses bs n r → sliceBytes bs (nameAnswer bs n) ≡ []
+unnamed-bytes bs n r h = let e = NamedLaws.name-refused bs n r .1 h in rw e
+
 -- a tree is derived exactly where there is no fault
 derived-faultless : (text : List ℕ)
     → ((tree : Object) × DerivesConstraint text tree) ↔ (ConstraintFaults.faults text ≡ [])
@@ -219,10 +234,12 @@ demand2 = record {
   accepted = λ text little out size. (accepted-only text little out size, accepted-all text little out size);
   one-tree = Constrained.one-tree;
   written = λ text tree little out. written text little out tree;
+  compiled = compiled-table;
   compiled-says = compiled-says;
   faultless = derived-faultless;
   refused = refused-only;
   least-refused = least-refused;
+  long-refused = long-refused;
   short-refused = short-refused;
   never-ten = never-ten;
   passes = TableRuleLaws.passes;
@@ -231,6 +248,8 @@ demand2 = record {
   one-object = λ bs n a b h k. some-inj (sym (SaysLaws.says-only bs n a h) ∙ SaysLaws.says-only bs n b k);
   named = NamedLaws.name-given;
   name-refused = NamedLaws.name-refused;
+  named-bytes = named-bytes;
+  unnamed-bytes = unnamed-bytes;
   merged = MergeRuleLaws.merge-done;
   merge-written = MergeRuleLaws.merge-written;
   one-joined = OneJoinedLaws.one-joined;
@@ -241,6 +260,7 @@ demand2 = record {
   readable = derived-readable;
   unread = λ table root form o r h. unread-least table root form o h r;
   least-unread = λ table root form o x h. least-unread table root form o h x;
+  long-unread = long-unread;
   no-table = no-table;
   no-object = λ table root form. (missing-object table root form, object-missing table root form);
 }

@@ -15,7 +15,7 @@ use mathlib.Core.Path.{_≡_}
 use mathlib.Core.Logic.{_↔_, _⊎_, _≢_}
 use mathlib.Core.Bool.{Bool, true}
 use mathlib.Core.Option.{none, some}
-use mathlib.Core.List.{List, [], _++_}
+use mathlib.Core.List.{List, [], _∷_, _++_}
 use Prim.Native.Nat.{ℕ, _+_, _^_, _≤_, _<_}
 use lib.ListN.{length, take, drop}
 use Rattle.lexis.specs.Blanks.{tokenStart}
@@ -26,26 +26,27 @@ use Rattle.values.specs.Integers.{integerOf}
 use Rattle.values.specs.Dates.{Date, dateOf}
 use Rattle.values.specs.Times.{zone, timeOf}
 use Rattle.values.specs.Words.{booleanOf, good}
-use Rattle.refusals.specs.Limits.{levelLimit}
+use Rattle.refusals.specs.Limits.{textLimit, levelLimit}
 use Rattle.refusals.specs.Outcomes
 use Rattle.refusals.specs.Outcomes.{Outcome, gave, afterReading}
 use Rattle.refusals.specs.declared.Refusal.{Refusal}
 use Rattle.refusals.specs.Refusals.{numberOf, refusal}
 use Rattle.refusals.specs.Numbers.{PlaceSort, Row}
 use Rattle.refusals.specs.declared.Cause.{Cause}
-use Rattle.refusals.specs.declared.Cause.the-variants.{OutputTooShort, NotAnObject}
+use Rattle.refusals.specs.declared.Cause.the-variants.{TextTooLong, OutputTooShort, NotAnObject}
 use Rattle.meaning.specs.Constraints.{Object}
 use Rattle.meaning.specs.Verdicts
 use Rattle.meaning.specs.Verdicts.{Verdict}
 use Rattle.dadl.specs.Placed.{Block, spelledBlock}
 use Rattle.table.specs.Check.{tableFault}
-use Rattle.table.specs.Names.{nameAnswer}
+use Rattle.table.specs.Names.{nameAnswer, sliceBytes}
 use Rattle.table.specs.TableRules.{IsTable, NoTable, KindAt}
 use Rattle.table.specs.Says.{Says, NoObject, Named, NameRefuses}
 use Rattle.cadl_objects.specs.Texts.{constraintOf}
 use Rattle.table_merge.specs.Merge.{MergeRequest, MergeReport, MergeRefusal, mergeAnswer}
-use Rattle.table_merge.specs.MergeRules.{Sizes, BothTables, IsMerged, Merges, MergeRefuses}
-use Rattle.table_merge.specs.Lists.{MergeStep, Carried, carried, afterSteps}
+use Rattle.table_merge.specs.MergeRules.{Sizes, BothTables, IsMerged, Merges, MergeRefuses, StepIs}
+use Rattle.table_merge.specs.Lists.{MergeStep, Carried, carried, afterStep, afterSteps}
+use Rattle.compile_flatten.specs.Layout.{IsCompiled}
 use Rattle.compile.specs.Compile.{compileAnswer, tableOf}
 use Rattle.judge.specs.Judge.{judgeText, judgeAnswer, movedAnswer}
 use Rattle.rules_grammar.specs.LongestMatch.{Separates, NextIs, NextDataIs, Classed, ClassedBehind}
@@ -113,10 +114,13 @@ pub record Demand2 : Type 0 where
   pub accepted : (text : List ℕ) (little : Bool) (out : List ℕ) (size : ℕ)
       → (compileAnswer text little out .answer ≡ gave size) ↔ ((tree : Object) × DerivesConstraint text tree × (size ≡ length (tableOf little tree)) × (size ≤ length out))
   pub one-tree : (text : List ℕ) (a b : Object) → DerivesConstraint text a → DerivesConstraint text b → a ≡ b
-  -- 'Table': "Compiling numbers records and fills the pool in text order"; 'Numbers of refusal': "on success only bytes past the table's end stay". What is written is a table that says the tree.
+  -- 'Table': "Compiling numbers records and fills the pool in text order"; 'Numbers of refusal': "on success only bytes past the table's end stay". What is written is the
+  -- table of the tree, laid out by the rules; it says the tree.
   pub written : (text : List ℕ) (tree : Object) (little : Bool) (out : List ℕ)
       → DerivesConstraint text tree → length (tableOf little tree) ≤ length out
       → compileAnswer text little out .out ≡ tableOf little tree ++ drop (length (tableOf little tree)) out
+  pub compiled : (text : List ℕ) (tree : Object) (little : Bool) → DerivesConstraint text tree
+      → (bs : List ℕ) → (bs ≡ tableOf little tree) ↔ IsCompiled little tree bs
   pub compiled-says : (text : List ℕ) (tree : Object) (little : Bool) → DerivesConstraint text tree → Says (tableOf little tree) 1 tree
   -- 'Numbers of refusal': "In one text the smallest place wins, then the smallest number; 1 comes before all, 11 after all". A tree is derived exactly where the text has no fault. A refusal is the
   -- least of its faults or, where it has none, 11 at its end; and the least fault is told.
@@ -126,6 +130,8 @@ pub record Demand2 : Type 0 where
       → compileAnswer text little out .answer ≡ Outcomes.refused r → Least r (ConstraintFaults.faults text) ⊎ TooShort text little out r
   pub least-refused : (text : List ℕ) (little : Bool) (out : List ℕ) (x : Refusal)
       → Least x (ConstraintFaults.faults text) → (r : Refusal) × (compileAnswer text little out .answer ≡ Outcomes.refused r) × Alike x r
+  pub long-refused : (text : List ℕ) (little : Bool) (out : List ℕ) → textLimit < length text
+      → compileAnswer text little out .answer ≡ Outcomes.refused (refusal TextTooLong textLimit)
   pub short-refused : (text : List ℕ) (little : Bool) (out : List ℕ) (r : Refusal) → TooShort text little out r
       → compileAnswer text little out .answer ≡ Outcomes.refused r
   -- Compiling never answers 10, "pool above 16,384". That no text needs it is `pool-fits` in crates/cadl_objects/proofs/TreeReading.antt: each byte of the pool is a byte of its own of the text.
@@ -138,10 +144,12 @@ pub record Demand2 : Type 0 where
   pub object-there : (bs : List ℕ) (n count pool root : ℕ) → IsTable bs count pool root → n < count → KindAt bs n 1
       → (o : Object) × Says bs n o
   pub one-object : (bs : List ℕ) (n : ℕ) (a b : Object) → Says bs n a → Says bs n b → a ≡ b
-  -- "Name: table, 14": "the part of the pool itself", by its start and its length
+  -- "Name: table, 14": "the part of the pool itself", by its start and its length; "with a refusal, an empty part"
   pub named : (bs : List ℕ) (n start size : ℕ)
       → (nameAnswer bs n ≡ gave (record { start = start; length = size })) ↔ Named bs n start size
   pub name-refused : (bs : List ℕ) (n : ℕ) (r : Refusal) → (nameAnswer bs n ≡ Outcomes.refused r) ↔ NameRefuses bs n r
+  pub named-bytes : (bs : List ℕ) (n start size : ℕ) → Named bs n start size → sliceBytes bs (nameAnswer bs n) ≡ take size (drop start bs)
+  pub unnamed-bytes : (bs : List ℕ) (n : ℕ) (r : Refusal) → NameRefuses bs n r → sliceBytes bs (nameAnswer bs n) ≡ []
   -- "Merging writes all in the order asked .. Both shifts are reported"; "Merge: first table, second, 8, 10, 11, naming the table for 12 and 13"
   pub merged : (q : MergeRequest) (out : List ℕ) (m : MergeReport)
       → (mergeAnswer q out .answer ≡ gave m) ↔ ((z : Sizes) × Merges q (length out) z m)
@@ -167,6 +175,8 @@ pub record Demand2 : Type 0 where
       → judgeAnswer table root form ≡ Outcomes.refused r → Least r (DataFaults.faults levelLimit form)
   pub least-unread : (table : List ℕ) (root : ℕ) (form : List ℕ) (o : Object) (x : Refusal)
       → Says table root o → Least x (DataFaults.faults levelLimit form) → (r : Refusal) × (judgeAnswer table root form ≡ Outcomes.refused r) × Alike x r
+  pub long-unread : (table : List ℕ) (root : ℕ) (form : List ℕ) (o : Object) → Says table root o → textLimit < length form
+      → judgeAnswer table root form ≡ Outcomes.refused (refusal TextTooLong textLimit)
   pub no-table : (table : List ℕ) (root : ℕ) (form : List ℕ) (r : Refusal) → NoTable table r
       → judgeAnswer table root form ≡ Outcomes.refused r
   pub no-object : (table : List ℕ) (root : ℕ) (form : List ℕ)
@@ -182,16 +192,23 @@ Demand3 =
     → let c = afterSteps steps (carried (take size (compileAnswer text little out .out)) 0) in
     judgeAnswer (c .table) (1 + c .sum) form ≡ movedAnswer (c .sum) (meaningOf text form)
 
--- Beside demand 3, of the same list: 1 + the sum is a number of 32 bits, as judging takes it; and, by the relations alone, the data is valid exactly where the grammar derives a tree from the
--- constraint text and a datum from the data text, and the tree admits the datum.
+-- Beside demand 3, of the same list: 1 + the sum is a number of 32 bits, as judging takes it; and, by the relations alone, what judging answers. The data is valid exactly where the grammar derives a
+-- tree from the constraint text and a datum from the data text, and the tree admits the datum; a failure is the first one, with the record moved by the sum; a refusal is the data text's.
 pub record AfterMerges (text : List ℕ) (little : Bool) (out : List ℕ) (size : ℕ) (steps : List MergeStep) : Type 0 where
   pub end : Carried
   pub is : end ≡ afterSteps steps (carried (take size (compileAnswer text little out .out)) 0)
   pub root-fits : 1 + end .sum < 2 ^ 32
   pub valid : (form : List ℕ) → (judgeAnswer (end .table) (1 + end .sum) form ≡ gave Verdicts.valid)
       ↔ ((tree : Object) × DerivesConstraint text tree × (b : Block) × DerivesData levelLimit form b × Admits tree (spelledBlock b form))
+  pub fails : (form : List ℕ) (reason number place : ℕ) → (tree : Object) → DerivesConstraint text tree → (b : Block) → DerivesData levelLimit form b
+      → FirstFailure tree (spelledBlock b form) reason number place
+      → judgeAnswer (end .table) (1 + end .sum) form ≡ gave (Verdicts.fails reason (end .sum + number) place)
+  pub unread : (form : List ℕ) (r : Refusal) → judgeAnswer (end .table) (1 + end .sum) form ≡ Outcomes.refused r → Least r (DataFaults.faults levelLimit form)
 
-abbrev pub Demand3Relations : Type 0
-Demand3Relations =
-    (text : List ℕ) (little : Bool) (out : List ℕ) (size : ℕ) → compileAnswer text little out .answer ≡ gave size
-    → (steps : List MergeStep) → AfterMerges text little out size steps
+-- the list's steps: nothing is carried on but by the rules of merging
+pub record Demand3Relations : Type 0 where
+  pub no-step : (c : Carried) → afterSteps [] c ≡ c
+  pub further : (s : MergeStep) (steps : List MergeStep) (c : Carried) → afterSteps (s ∷ steps) c ≡ afterSteps steps (afterStep s c)
+  pub step : (s : MergeStep) (c : Carried) → StepIs s c (afterStep s c)
+  pub after : (text : List ℕ) (little : Bool) (out : List ℕ) (size : ℕ) → compileAnswer text little out .answer ≡ gave size
+      → (steps : List MergeStep) → AfterMerges text little out size steps

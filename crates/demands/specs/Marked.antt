@@ -41,7 +41,7 @@ judgedBy (refused r) = dataRefused (numberOf (r .cause))
 judgedBy (gave v) = judged v
 
 abbrev pub room : List ℕ
-room = replicate 200 0
+room = replicate 200 255
 
 -- judged by the table of the text, lent alone, or the text's own refusal
 abbrev pub afterCompile : List ℕ → Outcome Refusal ℕ → List ℕ → Found
@@ -56,18 +56,18 @@ abbrev pub tableIn : List ℕ → Outcome Refusal ℕ → List ℕ
 tableIn out (refused r) = []
 tableIn out (gave size) = take size out
 
--- the place of the string in the last record of a merge: of 7 records, the header among them
-abbrev pub lastPlace : List ℕ → Outcome MergeRefusal MergeReport → Found
-lastPlace out (refused r) = mergeRefused (numberOf (r .why .cause))
-lastPlace out (gave m) = poolPlace (field (recordAt (imageOf (take (m .length) out)) 6) 0)
+-- the place of the string in a record of a merge
+abbrev pub placeIn : ℕ → List ℕ → Outcome MergeRefusal MergeReport → Found
+placeIn n out (refused r) = mergeRefused (numberOf (r .why .cause))
+placeIn n out (gave m) = poolPlace (field (recordAt (imageOf (take (m .length) out)) n) 0)
 
--- two tables in an order, each with one empty string
-abbrev pub emptyPlace : Bool → Found
-emptyPlace little =
+-- two tables in an order, each with one empty string: of the 7 records of their merge, number 3 and number 6
+abbrev pub emptyPlace : Bool → ℕ → Found
+emptyPlace little n =
     let c = compileAnswer (under "\"\"") little room in
     let t = tableIn (c .out) (c .answer) in
     let r = mergeAnswer (request t t little) room in
-    lastPlace (r .out) (r .answer)
+    placeIn n (r .out) (r .answer)
 
 -- an example: its number, what is computed and what document 01 says
 pub record Mark : Type 0 where
@@ -100,8 +100,10 @@ markedExamples =
     ∷ m 10 (found "*" "12+14:00") (dataRefused 5)
     ∷ m 11 (found "*" "12-00:30") valid
     ∷ m 11 (found "*" "12-00:00") (dataRefused 5)
-    ∷ m 12 (emptyPlace false) (poolPlace 0)
-    ∷ m 12 (emptyPlace true) (poolPlace 0)
+    ∷ m 12 (emptyPlace false 3) (poolPlace 0)
+    ∷ m 12 (emptyPlace false 6) (poolPlace 0)
+    ∷ m 12 (emptyPlace true 3) (poolPlace 0)
+    ∷ m 12 (emptyPlace true 6) (poolPlace 0)
     ∷ []
 
 -- what is computed is what document 01 says, in each example

@@ -5,10 +5,11 @@ use mathlib.Core.Bool.{Bool, true, false, cond, not, _||_, _&&_}
 use mathlib.Core.Option.{Option, none, some}
 use mathlib.Core.List.{List, [], _∷_, List·Memᴰ, List·Memᴰ·head, List·Memᴰ·tail}
 use Prim.Native.Nat.{ℕ, zero, suc, _≤_, _+_, _-_}
+use native.Mathlib.Nat.{le-of-lt}
 use native.Mathlib.Omega.{arith}
 use lib.Dec.{eqb, leb, ltb}
 use lib.ListN.{length}
-use borrow.Author.Tests.{eqb-true, eqb-false, ltb-false, le-ltb, leb-true, le-leb, lt-leb, eq-eqb, ne-eqb}
+use borrow.Author.Tests.{eqb-true, eqb-false, ltb-false, le-ltb, leb-true, leb-false, le-leb, lt-leb, eq-eqb, ne-eqb}
 use Rattle.lexis.specs.Bytes.{within}
 use Rattle.lexis.specs.Runs.{listed}
 use Rattle.lexis.specs.Spelling.{bar, dots, less, greater, atMost, atLeast, plusMinus, comma, trueWord, falseWord, closeBrace}
@@ -30,21 +31,19 @@ use Rattle.cadl_items.specs.Ranges.{Start, meet, overlaps, Ranges, range}
 use Rattle.cadl_items.specs.contracts.Told.{start, item, ranges, startString, strings, leaf}
 use Rattle.cadl_items.specs.Leaves.{isBoolean, booleanFlag, rangeLeaf}
 use Rattle.cadl_intervals.proofs.IntervalParts.{literal-is, up-is, above-is, spread-is, from-is, between-is, interval-is}
+use Rattle.cadl_intervals.proofs.Pairs.{Value, value-read, least-good, most-good, after-good}
 use Rattle.cadl_items.proofs.LeafParts.{start-is, ranges-none, ranges-some, start-string-is, strings-none, strings-some, second-is, boolean-is, leaf-is}
 use Rattle.rules_grammar.specs.DataGrammar.{Distinct, noName, newName}
-use Rattle.rules_grammar.specs.LeafGrammar.{NextToken, next, IsLiteral, DerivesLiteral, literal, DerivesEnds, DerivesItem, aValue, anInterval, DerivesItems, lastItem, moreItems, Meet, Apart, noItem, newItem, DerivesStrings, lastString, moreStrings, textsIn, Boolean, aTrue, aFalse, DerivesLeaf}
+use Rattle.rules_grammar.specs.LeafGrammar.{NextToken, next, IsLiteral, DerivesLiteral, literal, StepsTo, DerivesEnds, DerivesItem, aValue, anInterval, DerivesItems, lastItem, moreItems, Meet, Apart, noItem, newItem, DerivesStrings, lastString, moreStrings, textsIn, Boolean, aTrue, aFalse, DerivesLeaf}
 use Rattle.rules_grammar.specs.LeafGrammar
 use Rattle.rules_grammar.proofs.NextLaws.{next-token, token-read, sort-read, date-long}
 use Rattle.rules_grammar.proofs.TestLaws.{true-or-false, false-true, or-cases, or-left, or-right, and-both}
 use Rattle.rules_grammar.proofs.LiteralLaws.{literal-of, integer-literal, date-literal}
+use Rattle.rules_grammar.proofs.EndLaws.{Kind, isInteger, isDate, value-least, value-most, bounds-of, bounds-are, step-after, step-least, stepped, step-below, Spread, spread-of, spread-got}
 use Rattle.rules_grammar.proofs.Given.{Gives, got-gives, refuse-gives, cond-gives, unless-gives, then-gives, given, gives-map}
 use Rattle.rules_grammar.proofs.Derived.{not-listed, listed-not, other, head-new, tail-new}
 
--- the kinds of lists, and how a list's kind is decided
-pub data Kind : ℕ → Type 0 where
-  isInteger : Kind integer
-  isDate : Kind date
-
+-- how a list's kind is decided
 data Asked : ℕ → Type 0 where
   unasked : Asked undecided
   asked : {k : ℕ} → Kind k → Asked k
@@ -68,6 +67,10 @@ literal-says : {s : List ℕ} {kind from v : ℕ} {t : Token} → Kind kind → 
 literal-says isInteger n e = integer-literal _ _ .0 e
 literal-says isDate n e = date-literal _ _ (date-long n) .0 e
 
+-- and it is a value of its kind
+literal-good : {s : List ℕ} {kind from v : ℕ} {t : Token} → DerivesLiteral s kind from v t → Value kind v
+literal-good (literal n h) = value-read _ _ _ (literal-of h)
+
 -- what each part of the reader gives
 pub data Took (s : List ℕ) (sort from : ℕ) : Token → ℕ → Type 0 where
   took : {t : Token} → NextToken s from sort t → Took s sort from t (t .end)
@@ -82,7 +85,8 @@ data UpGiven (s : List ℕ) (kind low from : ℕ) : Ends → ℕ → Type 0 wher
       → UpGiven s kind low from (ends kind low b true) (u .end)
 
 data EndsGiven (s : List ℕ) (kind from : ℕ) : Ends → ℕ → Type 0 where
-  endsGiven : {k p : ℕ} {e : Ends} → Suits kind k → DerivesEnds s k from e p → e .kind ≡ k → EndsGiven s kind from e p
+  endsGiven : {k p : ℕ} {e : Ends} → Suits kind k → (empty e ≡ false → DerivesEnds s k from (closed e) p) → e .kind ≡ k
+      → EndsGiven s kind from e p
 
 data ItemGiven (s : List ℕ) (kind from : ℕ) : Interval → ℕ → Type 0 where
   itemGiven : {i : Interval} {p : ℕ} → Suits kind (i .kind) → DerivesItem s (i .kind) from (i .pair) p
@@ -158,12 +162,20 @@ module _ (s : List ℕ) where
       let P = EndsGiven s kind from in
       rw (above-is s k a (t .end)) (cond-gives P (eqb (d .sort) dots) _ _
       (λ e. gives-map (UpGiven s k (after k a) (d .end)) P _ (λ f p y. made (next-token (eqb-true _ _ e)) y) (up-gives k (after k a) (d .end) (suits-kind q)))
-      (λ e. got-gives P (ends k (after k a) (most k) false) (t .end) (endsGiven q (LeafGrammar.above n x) refl)))
+      (λ e. got-gives P (ends k (after k a) (most k) false) (t .end) (endsGiven q (λ h. LeafGrammar.above n x (bounds-of j) (step-after j v (most-good k) (ltb-false _ _ h)) (ltb-false _ _ h)) refl)))
     where
+      j : Kind k
+      j = suits-kind q
+
+      v : Value k a
+      v = literal-good x
+
       made : {d : Token} {f : Ends} {p : ℕ} → NextToken s (t .end) dots d → UpGiven s k (after k a) (d .end) f p
           → EndsGiven s kind from f p
-      made m (closedUp y) = endsGiven q (LeafGrammar.openLow n x m y) refl
-      made m (openUp l y) = endsGiven q (LeafGrammar.openBoth n x m l y) refl
+      made m (closedUp y) = endsGiven q (λ h. LeafGrammar.openLow n x m y (step-after j v (literal-good y) (ltb-false _ _ h)) (ltb-false _ _ h)) refl
+      made m (openUp {b = b} l y) = endsGiven q (λ h.
+          let z = step-below j (record { low = after-good k a v; high = literal-good y }) h in
+          LeafGrammar.openBoth n x m l y (step-after j v (literal-good y) (le-of-lt (leb-false b (after k a) h))) (z .0) (z .1)) refl
 
   from-gives : {kind k from a : ℕ} {t : Token} → Suits kind k → DerivesLiteral s k from a t
       → Gives (EndsGiven s kind from) (Told.from s k a (t .end))
@@ -177,12 +189,14 @@ module _ (s : List ℕ) where
       (λ g. then-gives P (LiteralGiven s integer (d .end)) (Told.literal s integer (d .end)) _ (literal-gives integer (d .end) isInteger) (λ v p y.
       unless-gives P (cond (inside a v) false true) OutOfRange (tokenAt s (d .end) .start) _ (λ i.
       got-gives P (ends integer (around a v .low) (around a v .high) false) p (spreads (next-token (eqb-true _ _ f)) (whole k (suits-kind q) g) y (held (inside a v) i))))))
-      (λ f. got-gives P (ends k a a false) (t .end) (endsGiven q (LeafGrammar.point x) refl))))
+      (λ f. got-gives P (ends k a a false) (t .end) (endsGiven q (λ h. LeafGrammar.point x) refl))))
     where
       made : {d : Token} {f : Ends} {p : ℕ} → NextToken s (t .end) dots d → UpGiven s k a (d .end) f p
           → EndsGiven s kind from f p
-      made m (closedUp y) = endsGiven q (LeafGrammar.closedEnds x m y) refl
-      made m (openUp l y) = endsGiven q (LeafGrammar.openHigh x m l y) refl
+      made m (closedUp y) = endsGiven q (λ h. LeafGrammar.closedEnds x m y (ltb-false _ _ h)) refl
+      made m (openUp l y) = endsGiven q (λ h.
+          let z = step-below (suits-kind q) (record { low = λ e i. literal-good x .day e; high = literal-good y }) h in
+          LeafGrammar.openHigh x m l y (z .0) (z .1)) refl
 
       whole : (j : ℕ) → Kind j → eqb j date ≡ false → j ≡ integer
       whole j isInteger g = refl
@@ -192,10 +206,14 @@ module _ (s : List ℕ) where
       held true i = refl
       held false i = sym i
 
+      spreads-by : {m u : Token} {v : ℕ} → NextToken s (t .end) plusMinus m → k ≡ integer
+          → DerivesLiteral s integer (m .end) v u → Spread a v → DerivesEnds s k from (around a v) (u .end)
+      spreads-by m e y z = rw (z .ends) (LeafGrammar.spread (z .size) e x m (rw (z .value) at y) (z .least) (z .most))
+
       spreads : {m : Token} {v p : ℕ} → NextToken s (t .end) plusMinus m → k ≡ integer
           → LiteralGiven s integer (m .end) v p → inside a v ≡ true
           → EndsGiven s kind from (ends integer (around a v .low) (around a v .high) false) p
-      spreads m e (literalGiven y) i = endsGiven q (LeafGrammar.spread e x m y i) (sym e)
+      spreads {v = v} m e (literalGiven y) i = endsGiven q (λ h. spreads-by m e y (spread-of a v i h)) (sym e)
 
   with-gives : (kind at : ℕ) (go : ℕ → ℕ → ℕ → Reading Ends) (P : Ends → ℕ → Type 0) → Asked kind
       → ((k a : ℕ) (t : Token) → Suits kind k → DerivesLiteral s k at a t → Gives P (go k a (t .end)))
@@ -214,11 +232,13 @@ module _ (s : List ℕ) where
       rw (between-is s kind at) (cond-gives P (eqb (t .sort) greater) _ _
       (λ e. with-gives kind (t .end) (Told.above s) P w (λ k a u q x. above-gives q (next-token (eqb-true _ _ e)) x))
       (λ e. cond-gives P (eqb (t .sort) less) _ _
-      (λ f. with-gives kind (t .end) (λ k a p. got (ends k (least k) a true) p) P w (λ k a u q x. got-gives P _ _ (endsGiven q (LeafGrammar.below (next-token (eqb-true _ _ f)) x) refl)))
+      (λ f. with-gives kind (t .end) (λ k a p. got (ends k (least k) a true) p) P w (λ k a u q x. got-gives P _ _ (endsGiven q (λ h.
+      let z = step-below (suits-kind q) (record { low = least-good k; high = literal-good x }) h in
+      LeafGrammar.below (next-token (eqb-true _ _ f)) x (bounds-of (suits-kind q)) (z .0)) refl)))
       (λ f. cond-gives P (eqb (t .sort) atMost) _ _
-      (λ g. with-gives kind (t .end) (λ k a p. got (ends k (least k) a false) p) P w (λ k a u q x. got-gives P _ _ (endsGiven q (LeafGrammar.upTo (next-token (eqb-true _ _ g)) x) refl)))
+      (λ g. with-gives kind (t .end) (λ k a p. got (ends k (least k) a false) p) P w (λ k a u q x. got-gives P _ _ (endsGiven q (λ h. LeafGrammar.upTo (next-token (eqb-true _ _ g)) x (bounds-of (suits-kind q))) refl)))
       (λ g. cond-gives P (eqb (t .sort) atLeast) _ _
-      (λ h. with-gives kind (t .end) (λ k a p. got (ends k a (most k) false) p) P w (λ k a u q x. got-gives P _ _ (endsGiven q (LeafGrammar.from (next-token (eqb-true _ _ h)) x) refl)))
+      (λ h. with-gives kind (t .end) (λ k a p. got (ends k a (most k) false) p) P w (λ k a u q x. got-gives P _ _ (endsGiven q (λ i. LeafGrammar.from (next-token (eqb-true _ _ h)) x (bounds-of (suits-kind q))) refl)))
       (λ h. with-gives kind at (Told.from s) P w (λ k a u q x. from-gives q x))))))
 
 data StartGiven (s : List ℕ) (kind from : ℕ) : Start → ℕ → Type 0 where
@@ -274,7 +294,7 @@ module _ (s : List ℕ) where
     where
       made : {e : Ends} {p q : ℕ} {t : Token} → EndsGiven s kind (o .end) e p → Took s bar p t q → empty e ≡ false
           → ItemGiven s kind from (record { kind = e .kind; pair = closed e }) q
-      made {e} {p} (endsGiven j d f) (took b) z = itemGiven (subst (Suits kind) (sym f) j) (anInterval n (subst (λ k. DerivesEnds s k (o .end) e p) (sym f) d) b z)
+      made {e} {p} (endsGiven j d f) (took b) z = itemGiven (subst (Suits kind) (sym f) j) (anInterval n (subst (λ k. DerivesEnds s k (o .end) (closed e) p) (sym f) (d z)) b)
 
   item-gives : (kind from p : ℕ) (x : Start) → Asked kind → StartGiven s kind from x p
       → Gives (ItemGiven s kind from) (item s kind x p)
@@ -482,6 +502,25 @@ from-spread : {s : List ℕ} {at v : ℕ} {m u : Token} (k a : ℕ) → k ≡ in
     → Told.from s k a at ≡ got (ends integer (around a v .low) (around a v .high) false) (u .end)
 from-spread {s} {at} {m = m} k a i (next n e) x h = rw (from-is s k a at, token-read n, other e dots, other e plusMinus, other i date, spread-is s a (m .end), literal-got x, h)
 
+-- what stands between the bars as it is read
+record EndsGot (s : List ℕ) (kind k at : ℕ) (x : Pair) (p : ℕ) : Type 0 where
+  read : Ends
+  reads : between s kind at ≡ got read p
+  of-kind : read .kind ≡ k
+  filled : empty read ≡ false
+  becomes : closed read ≡ x
+
+shut-got : {s : List ℕ} {kind k at low high p : ℕ} → between s kind at ≡ got (ends k low high false) p → low ≤ high
+    → EndsGot s kind k at (pair low high) p
+shut-got {k = k} {low = low} {high = high} e h =
+    record { read = ends k low high false; reads = e; of-kind = refl; filled = le-ltb high low h; becomes = refl }
+
+below-got : {s : List ℕ} {kind k at low high b p : ℕ} → Kind k → between s kind at ≡ got (ends k low b true) p
+    → StepsTo k high b → low ≤ high → EndsGot s kind k at (pair low high) p
+below-got {k = k} {low = low} {b = b} q e i h =
+    let c = stepped q i in
+    record { read = ends k low b true; reads = e; of-kind = refl; filled = lt-leb b low (omega arith); becomes = rw (c .last) }
+
 module _ (s : List ℕ) (kind k : ℕ) (q : Suits kind k) where
   greater-got : (at a : ℕ) (g t : Token) → NextToken s at greater g → DerivesLiteral s k (g .end) a t
       → between s kind at ≡ Told.above s k a (t .end)
@@ -490,30 +529,27 @@ module _ (s : List ℕ) (kind k : ℕ) (q : Suits kind k) where
   literal-first : (at a : ℕ) (t : Token) → DerivesLiteral s k at a t → between s kind at ≡ Told.from s k a (t .end)
   literal-first at a t x = between-literal kind (suits-kind q) x ∙ with-got s kind k at a t (Told.from s) q x
 
-  ends-got : (at p : ℕ) (z : Token) (e : Ends) → DerivesEnds s k at e p → NextToken s p bar z
-      → between s kind at ≡ got e p
-  ends-got at p z e (LeafGrammar.point {a = a} {t = t} x) b = literal-first at a t x ∙ from-bar k a b
-  ends-got at p z e (LeafGrammar.closedEnds {a = a} {t = t} x d y) b = literal-first at a t x ∙ (from-dots k a d ∙ closed-got a (suits-kind q) y)
-  ends-got at p z e (LeafGrammar.openHigh {a = a} {t = t} x d l y) b = literal-first at a t x ∙ (from-dots k a d ∙ open-got a l y)
-  ends-got at p z e (LeafGrammar.openLow {a = a} {g = g} {t = t} n x d y) b = greater-got at a g t n x ∙ (above-dots k a d ∙ closed-got (after k a) (suits-kind q) y)
-  ends-got at p z e (LeafGrammar.openBoth {a = a} {g = g} {t = t} n x d l y) b = greater-got at a g t n x ∙ (above-dots k a d ∙ open-got (after k a) l y)
-  ends-got at p z e (LeafGrammar.spread {a = a} {t = t} i x m y h) b = literal-first at a t x ∙ from-spread k a i m y h
-  ends-got at p z e (LeafGrammar.below {a = a} {l = g} {t = t} n x) b = between-less kind n ∙ with-got s kind k (g .end) a t (λ j v r. got (ends j (least j) v true) r) q x
-  ends-got at p z e (LeafGrammar.above {a = a} {g = g} {t = t} n x) b = greater-got at a g t n x ∙ above-bar k a b
-  ends-got at p z e (LeafGrammar.upTo {a = a} {l = g} {t = t} n x) b = between-most kind n ∙ with-got s kind k (g .end) a t (λ j v r. got (ends j (least j) v false) r) q x
-  ends-got at p z e (LeafGrammar.from {a = a} {g = g} {t = t} n x) b = between-least kind n ∙ with-got s kind k (g .end) a t (λ j v r. got (ends j v (most j) false) r) q x
-
-ends-kind : {s : List ℕ} {k at p : ℕ} {e : Ends} → DerivesEnds s k at e p → e .kind ≡ k
-ends-kind (LeafGrammar.point x) = refl
-ends-kind (LeafGrammar.closedEnds x d y) = refl
-ends-kind (LeafGrammar.openHigh x d l y) = refl
-ends-kind (LeafGrammar.openLow n x d y) = refl
-ends-kind (LeafGrammar.openBoth n x d l y) = refl
-ends-kind (LeafGrammar.spread i x m y h) = sym i
-ends-kind (LeafGrammar.below n x) = refl
-ends-kind (LeafGrammar.above n x) = refl
-ends-kind (LeafGrammar.upTo n x) = refl
-ends-kind (LeafGrammar.from n x) = refl
+  ends-got : (at p : ℕ) (z : Token) (x : Pair) → DerivesEnds s k at x p → NextToken s p bar z → EndsGot s kind k at x p
+  ends-got at p z e (LeafGrammar.point {a = a} {t = t} x) b = shut-got (literal-first at a t x ∙ from-bar k a b) (omega arith)
+  ends-got at p z e (LeafGrammar.closedEnds {a = a} {t = t} x d y h) b = shut-got (literal-first at a t x ∙ (from-dots k a d ∙ closed-got a (suits-kind q) y)) h
+  ends-got at p z e (LeafGrammar.openHigh {a = a} {t = t} x d l y i h) b = below-got (suits-kind q) (literal-first at a t x ∙ (from-dots k a d ∙ open-got a l y)) i h
+  ends-got at p z e (LeafGrammar.openLow {a = a} {g = g} {t = t} n x d y i h) b =
+      let c = stepped (suits-kind q) i .next in
+      shut-got (rw c at (greater-got at a g t n x ∙ (above-dots k a d ∙ closed-got (after k a) (suits-kind q) y))) h
+  ends-got at p z e (LeafGrammar.openBoth {a = a} {g = g} {t = t} n x d l y i j h) b =
+      let c = stepped (suits-kind q) i .next in
+      below-got (suits-kind q) (rw c at (greater-got at a g t n x ∙ (above-dots k a d ∙ open-got (after k a) l y))) j h
+  ends-got at p z e (LeafGrammar.spread {a = a} {low = low} m {t = t} i x n y g h) b =
+      let c = spread-got a low m g h in
+      shut-got (subst (λ j. between s kind at ≡ got (ends j low (a + m) false) p) (sym i) (rw (c .1) at (literal-first at a t x ∙ from-spread k a i n y (c .0)))) (omega arith)
+  ends-got at p z e (LeafGrammar.below {a = a} {l = g} {t = t} n x c i) b =
+      below-got (suits-kind q) (rw (bounds-are c .0) at (between-less kind n ∙ with-got s kind k (g .end) a t (λ j v r. got (ends j (least j) v true) r) q x)) i (step-least c i)
+  ends-got at p z e (LeafGrammar.above {a = a} {g = g} {t = t} n x c i h) b =
+      shut-got (rw (stepped (suits-kind q) i .next, bounds-are c .1) at (greater-got at a g t n x ∙ above-bar k a b)) h
+  ends-got at p z e (LeafGrammar.upTo {a = a} {l = g} {t = t} n x c) b =
+      shut-got (rw (bounds-are c .0) at (between-most kind n ∙ with-got s kind k (g .end) a t (λ j v r. got (ends j (least j) v false) r) q x)) (rw (bounds-are c .0) at (value-least (suits-kind q) (literal-good x)))
+  ends-got at p z e (LeafGrammar.from {a = a} {g = g} {t = t} n x c) b =
+      shut-got (rw (bounds-are c .1) at (between-least kind n ∙ with-got s kind k (g .end) a t (λ j v r. got (ends j v (most j) false) r) q x)) (rw (bounds-are c .1) at (value-most (suits-kind q) (literal-good x)))
 
 -- an item by its first token and the rest
 record ItemGot (s : List ℕ) (kind k from : ℕ) (x : Pair) (p : ℕ) : Type 0 where
@@ -535,17 +571,18 @@ bar-start : (s : List ℕ) (kind from : ℕ) (o : Token) → NextToken s from ba
     → start s kind from ≡ got (record { place = o .start; single = false; value = 0 }) (o .end)
 bar-start s kind from o (next n e) = rw (start-is s kind from, token-read n, other e bar)
 
-interval-got : (s : List ℕ) (kind k at p : ℕ) (z : Token) (e : Ends) → Suits kind k → DerivesEnds s k at e p
-    → NextToken s p bar z → empty e ≡ false
-    → interval s kind at ≡ got (record { kind = k; pair = closed e }) (z .end)
-interval-got s kind k at p z e q d b h = rw (interval-is s kind at, ends-got s kind k q at p z e d b, expect-got b, h, ends-kind d)
+interval-got : (s : List ℕ) (kind k at p : ℕ) (z : Token) (x : Pair) → Suits kind k → DerivesEnds s k at x p
+    → NextToken s p bar z → interval s kind at ≡ got (record { kind = k; pair = x }) (z .end)
+interval-got s kind k at p z x q d b =
+    let e = ends-got s kind k q at p z x d b in
+    rw (interval-is s kind at, e .reads, expect-got b, e .filled) (λ i. got (record { kind = e .of-kind i; pair = e .becomes i }) (z .end))
 
 item-got : (s : List ℕ) (kind k from : ℕ) (x : Pair) (p : ℕ) → Suits kind k → DerivesItem s k from x p
     → ItemGot s kind k from x p
 item-got s kind k from x p q (aValue {v = v} {t = t} i l) =
     record { opening = record { place = tokenAt s from .start; single = true; value = v }; middle = t .end; begins = value-start s kind from v t (value-kind q i) l; ends = rw i }
-item-got s kind k from x p q (anInterval {e = e} {p = r} {o = o} {z = z} n d b h) =
-    record { opening = record { place = o .start; single = false; value = 0 }; middle = o .end; begins = bar-start s kind from o n; ends = interval-got s kind k (o .end) r z e q d b h }
+item-got s kind k from x p q (anInterval {p = r} {o = o} {z = z} n d b) =
+    record { opening = record { place = o .start; single = false; value = 0 }; middle = o .end; begins = bar-start s kind from o n; ends = interval-got s kind k (o .end) r z x q d b }
 
 last-got : (s : List ℕ) (left kind k n : ℕ) (seen : List Pair) (from p m : ℕ) (x : Pair) (o : Start) (z : Token)
     → start s kind from ≡ got o m
@@ -630,7 +667,7 @@ strings-got {s} {n} {from} {p} (moreStrings {t = t} {c = u} {l = l} m c d f ds) 
 item-starts : {s : List ℕ} {k from p : ℕ} {x : Pair} → DerivesItem s k from x p
     → (eqb (tokenAt s from .sort) integer || eqb (tokenAt s from .sort) bar) ≡ true
 item-starts (aValue i x) = let e = literal-sort x in rw (other e integer)
-item-starts (anInterval n d b h) = let e = sort-read n in rw (other e integer, other e bar)
+item-starts (anInterval n d b) = let e = sort-read n in rw (other e integer, other e bar)
 
 items-start : {s : List ℕ} {k n from p : ℕ} {l : List Range} → DerivesItems s k n from l p
     → (eqb (tokenAt s from .sort) integer || eqb (tokenAt s from .sort) bar) ≡ true

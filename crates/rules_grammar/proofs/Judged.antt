@@ -160,9 +160,9 @@ readable : {l : Leaf} {c : Content} → LeafAdmits l c → Readable l c
 readable (LeafAdmits.boolean e h) = Readable.boolean e
 readable (LeafAdmits.integer e h) = Readable.integer e
 readable (LeafAdmits.string h) = Readable.string
-readable (LeafAdmits.patternDate e h) = Readable.patternDate e
+readable (LeafAdmits.patternDate e k h) = Readable.patternDate e
 readable (LeafAdmits.fullDate e g h) = Readable.intervalDate e
-readable (LeafAdmits.time e h) = Readable.time e
+readable (LeafAdmits.time e k h) = Readable.time e
 
 -- a value stands to a leaf in one way
 one-finding : (l : Leaf) (c : Content) (f g : Finding) → Stands l c f → Stands l c g → f ≡ g

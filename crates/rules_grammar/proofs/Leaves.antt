@@ -7,6 +7,7 @@ use mathlib.Core.List.{List, [], _∷_, List·Memᴰ, List·Memᴰ·head, List·
 use Prim.Native.Nat.{ℕ, zero, suc, _≤_, _-_}
 use native.Mathlib.Omega.{arith}
 use lib.Dec.{eqb, leb, eqb·suc-zero}
+use lib.ListN.{getD}
 use borrow.Author.Tests.{eqb-true, leb-true, le-leb, eq-eqb}
 use Rattle.lexis.specs.Runs.{same}
 use Rattle.lexis.proofs.Cases.{by-cond, and-left, and-right}
@@ -21,8 +22,9 @@ use Rattle.meaning.specs.Data
 use Rattle.meaning.specs.Findings.{Finding, unsuited, refuted, admitted, try}
 use Rattle.meaning.specs.Sorts.{inRange, inSome, inFlag}
 use Rattle.meaning.specs.Admission.{isSome, wordUnder, stringUnder}
+use Rattle.rules_grammar.specs.Words
 use Rattle.rules_grammar.specs.Words.{IsBoolean, IsInteger, IsDate, IsTime}
-use Rattle.rules_grammar.specs.Admits.{Fits, InItem, inItem, IsItem, isItem, Flagged, Readable, LeafAdmits, patternOf}
+use Rattle.rules_grammar.specs.Admits.{Fits, InItem, inItem, IsItem, isItem, Flagged, Readable, LeafAdmits, DatePattern, TimePattern}
 use Rattle.rules_grammar.specs.Admits
 use Rattle.rules_grammar.proofs.TestLaws.{false-true, none-some, some-inj, same-eq, eq-same, or-left, or-right, or-cases, and-both}
 use Rattle.rules_grammar.proofs.DateWordLaws.{date-word}
@@ -93,6 +95,57 @@ of-fits (Admits.mayBe {ps = ps} {n = n} h) = more-parts may ps n ∙ of-fits h
 of-fits (Admits.mayNotBe h) = of-fits h
 of-fits (Admits.never h) = of-fits h
 
+-- the patterns by their flags are those listed
+abbrev patternOf : List (List Part) → ℕ → List Part
+patternOf patterns flag = getD ([] ∷ patterns) flag []
+
+date-listed : {f : ℕ} {ps : List Part} → DatePattern f ps → patternOf datePatterns f ≡ ps
+date-listed Admits.wholeDay = refl
+date-listed Admits.mayHaveDay = refl
+date-listed Admits.mayHaveMonth = refl
+date-listed Admits.noDay = refl
+date-listed Admits.mayHaveMonthNoDay = refl
+
+time-listed : {f : ℕ} {ps : List Part} → TimePattern f ps → patternOf timePatterns f ≡ ps
+time-listed Admits.wholeTime = refl
+time-listed Admits.noSecond = refl
+time-listed Admits.mayHaveMinuteNoSecond = refl
+time-listed Admits.mayHaveMinute = refl
+
+-- a flag that is none has no parts, and a date or a time has one at least
+no-parts : (n : ℕ) → 1 ≤ n → fits [] n ≡ true → ⊥
+unfolding fits
+no-parts n l h = let e = eqb-true n 0 h in omega arith
+
+date-pattern : (f n : ℕ) → 1 ≤ n → fitsDate f n ≡ true → (ps : List Part) × DatePattern f ps × Fits ps n
+unfolding fitsDate
+date-pattern zero n l h = absurd (no-parts n l h)
+date-pattern (suc zero) n l h = (_, Admits.wholeDay, fits-of _ n h)
+date-pattern (suc (suc zero)) n l h = (_, Admits.mayHaveDay, fits-of _ n h)
+date-pattern (suc (suc (suc zero))) n l h = (_, Admits.mayHaveMonth, fits-of _ n h)
+date-pattern (suc (suc (suc (suc zero)))) n l h = (_, Admits.noDay, fits-of _ n h)
+date-pattern (suc (suc (suc (suc (suc zero))))) n l h = (_, Admits.mayHaveMonthNoDay, fits-of _ n h)
+date-pattern (suc (suc (suc (suc (suc (suc f)))))) n l h = absurd (no-parts n l h)
+
+time-pattern : (f n : ℕ) → 1 ≤ n → fitsTime f n ≡ true → (ps : List Part) × TimePattern f ps × Fits ps n
+unfolding fitsTime
+time-pattern zero n l h = absurd (no-parts n l h)
+time-pattern (suc zero) n l h = (_, Admits.wholeTime, fits-of _ n h)
+time-pattern (suc (suc zero)) n l h = (_, Admits.noSecond, fits-of _ n h)
+time-pattern (suc (suc (suc zero))) n l h = (_, Admits.mayHaveMinuteNoSecond, fits-of _ n h)
+time-pattern (suc (suc (suc (suc zero)))) n l h = (_, Admits.mayHaveMinute, fits-of _ n h)
+time-pattern (suc (suc (suc (suc (suc f))))) n l h = absurd (no-parts n l h)
+
+date-parts : {w : List ℕ} {d : Date} → IsDate w d → 1 ≤ d .parts
+date-parts (Words.year y i) = omega arith
+date-parts (Words.month y m i) = omega arith
+date-parts (Words.day y m d i) = omega arith
+
+time-parts : {w : List ℕ} {n : ℕ} → IsTime w n → 1 ≤ n
+time-parts (Words.hour h z) = omega arith
+time-parts (Words.minute h m z) = omega arith
+time-parts (Words.second h m s z) = omega arith
+
 -- flags of Booleans
 flagged-of : (f b : ℕ) → inFlag f b ≡ true → Flagged b f
 flagged-of f b h =
@@ -148,7 +201,7 @@ pattern-read (Readable.patternDate {d = d} e) = (d, e)
 pattern-in : {n f p : ℕ} {w : List ℕ} → LeafAdmits (single datePattern n f) (Data.word p w)
     → (d : Date) × IsDate w d × (fitsDate f (d .parts) ≡ true)
 unfolding fitsDate
-pattern-in (LeafAdmits.patternDate {d = d} e h) = (d, e, of-fits h)
+pattern-in (LeafAdmits.patternDate {d = d} e k h) = (d, e, rw (date-listed k) (of-fits h))
 
 date-read : {l : List Range} {p : ℕ} {w : List ℕ} → Readable (ranges dates l) (Data.word p w)
     → (d : Date) × IsDate w d
@@ -164,7 +217,7 @@ time-read (Readable.time {parts = k} e) = (k, e)
 time-in : {n f p : ℕ} {w : List ℕ} → LeafAdmits (single timePattern n f) (Data.word p w)
     → (k : ℕ) × IsTime w k × (fitsTime f k ≡ true)
 unfolding fitsTime
-time-in (LeafAdmits.time {parts = k} e h) = (k, e, of-fits h)
+time-in (LeafAdmits.time {parts = k} e l h) = (k, e, rw (time-listed l) (of-fits h))
 
 pub word-stands : (l : Leaf) (p : ℕ) (w : List ℕ) → Stands l (Data.word p w) (wordUnder l w)
 unfolding wordUnder fitsDate fitsTime
@@ -185,7 +238,7 @@ word-stands (single datePattern n f) p w =
     tried (IsDate w) (single datePattern n f) (Data.word p w) (dateOf w) (λ d. fitsDate f (d .parts)) (date-word w)
     (λ d e. Readable.patternDate e)
     pattern-read
-    (λ d e h. LeafAdmits.patternDate e (fits-of (patternOf datePatterns f) (d .parts) h))
+    (λ d e h. let (ps, k, x) = date-pattern f (d .parts) (date-parts e) h in LeafAdmits.patternDate e k x)
     pattern-in
 word-stands (ranges dates l) p w =
     tried (IsDate w) (ranges dates l) (Data.word p w) (dateOf w) (λ d. eqb (d .parts) 3 && inSome (d .day) l) (date-word w)
@@ -197,7 +250,7 @@ word-stands (single timePattern n f) p w =
     tried (IsTime w) (single timePattern n f) (Data.word p w) (timeOf w) (fitsTime f) (time-word w)
     (λ k e. Readable.time e)
     time-read
-    (λ k e h. LeafAdmits.time e (fits-of (patternOf timePatterns f) k h))
+    (λ k e h. let (ps, l, x) = time-pattern f k (time-parts e) h in LeafAdmits.time e l x)
     time-in
 
 -- a string is read under strings alone

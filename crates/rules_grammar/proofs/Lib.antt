@@ -18,6 +18,7 @@ pub mod Leaves
 pub mod Judged
 pub mod Given
 pub mod Derived
+pub mod EndLaws
 pub mod Items
 pub mod Constrained
 pub mod Whole

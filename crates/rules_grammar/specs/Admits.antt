@@ -6,10 +6,9 @@ use mathlib.Core.Logic.{_≢_}
 use mathlib.Core.Option.{Option, none, some}
 use mathlib.Core.List.{List, [], _∷_, List·Memᴰ}
 use Prim.Native.Nat.{ℕ, zero, suc, _≤_}
-use lib.ListN.{getD}
 use Rattle.values.specs.Dates.{Date}
-use Rattle.values.specs.Patterns.{Part, must, may, mustNot, datePatterns, timePatterns}
-use Rattle.meaning.specs.Constraints.{Range, Text, Leaf, single, ranges, texts, booleans, datePattern, timePattern, integers, dates, ObjectHead, Object, AttributeHead, Attributes, Value, required, prohibited}
+use Rattle.values.specs.Patterns.{Part, must, may, mustNot}
+use Rattle.meaning.specs.Constraints.{Range, Text, Leaf, single, ranges, texts, booleans, datePattern, timePattern, integers, dates, ObjectHead, Object, AttributeHead, Attributes, Value}
 use Rattle.meaning.specs.Constraints
 use Rattle.meaning.specs.Data.{Datum, datum, Members, Content}
 use Rattle.meaning.specs.Data
@@ -43,9 +42,20 @@ pub data Fits : List Part → ℕ → Type 0 where
   mayNotBe : {ps : List Part} → Fits ps zero → Fits (may ∷ ps) zero
   never : {ps : List Part} → Fits ps zero → Fits (mustNot ∷ ps) zero
 
--- the pattern with a flag, counted from 1 as listed
-abbrev pub patternOf : List (List Part) → ℕ → List Part
-patternOf patterns flag = getD ([] ∷ patterns) flag []
+-- what a date pattern's flag says of year, month and day: yyyy-mm-dd, yyyy-mm-??, yyyy-??-??, yyyy-mm-XX, yyyy-??-XX
+pub data DatePattern : (flag : ℕ) → List Part → Type 0 where
+  wholeDay : DatePattern 1 (must ∷ must ∷ must ∷ [])
+  mayHaveDay : DatePattern 2 (must ∷ must ∷ may ∷ [])
+  mayHaveMonth : DatePattern 3 (must ∷ may ∷ may ∷ [])
+  noDay : DatePattern 4 (must ∷ must ∷ mustNot ∷ [])
+  mayHaveMonthNoDay : DatePattern 5 (must ∷ may ∷ mustNot ∷ [])
+
+-- what a time pattern's flag says of hour, minute and second: Thh:mm:ss, Thh:mm:XX, Thh:??:XX, Thh:??:??
+pub data TimePattern : (flag : ℕ) → List Part → Type 0 where
+  wholeTime : TimePattern 1 (must ∷ must ∷ must ∷ [])
+  noSecond : TimePattern 2 (must ∷ must ∷ mustNot ∷ [])
+  mayHaveMinuteNoSecond : TimePattern 3 (must ∷ may ∷ mustNot ∷ [])
+  mayHaveMinute : TimePattern 4 (must ∷ may ∷ may ∷ [])
 
 -- a number, a day or a text in some item of a list
 pub data InItem (v : ℕ) (l : List Range) : Type 0 where
@@ -78,11 +88,11 @@ pub data LeafAdmits : Leaf → Content → Type 0 where
   integer : {l : List Range} {p v : ℕ} {w : List ℕ} → IsInteger w v → InItem v l
       → LeafAdmits (ranges integers l) (Data.word p w)
   string : {l : List Text} {p : ℕ} {w : List ℕ} → IsItem w l → LeafAdmits (texts l) (Data.string p w)
-  patternDate : {n f p : ℕ} {w : List ℕ} {d : Date} → IsDate w d → Fits (patternOf datePatterns f) (d .parts)
+  patternDate : {n f p : ℕ} {w : List ℕ} {d : Date} {ps : List Part} → IsDate w d → DatePattern f ps → Fits ps (d .parts)
       → LeafAdmits (single datePattern n f) (Data.word p w)
   fullDate : {l : List Range} {p : ℕ} {w : List ℕ} {d : Date} → IsDate w d → d .parts ≡ 3 → InItem (d .day) l
       → LeafAdmits (ranges dates l) (Data.word p w)
-  time : {n f p parts : ℕ} {w : List ℕ} → IsTime w parts → Fits (patternOf timePatterns f) parts
+  time : {n f p parts : ℕ} {w : List ℕ} {ps : List Part} → IsTime w parts → TimePattern f ps → Fits ps parts
       → LeafAdmits (single timePattern n f) (Data.word p w)
 
 mutual
@@ -93,11 +103,11 @@ mutual
         → ((a : AttributeHead) (v : Value) → AttributeOf a v xs → Satisfy ms a v)
         → Admits (Constraints.object o xs) (datum p u ms)
 
-  -- members satisfy an attribute: without a member of its name, unless it is required, or with one, unless it is prohibited, whose content its value admits
+  -- members satisfy an attribute: without a member of its name, unless it is 1..1, or with one, unless it is 0..0, whose content its value admits
   pub data Satisfy : Members → AttributeHead → Value → Type 0 where
-    without : {ms : Members} {a : AttributeHead} {v : Value} → a .existence ≢ required → Missing (a .name) ms
+    without : {ms : Members} {a : AttributeHead} {v : Value} → a .existence ≢ 2 → Missing (a .name) ms
         → Satisfy ms a v
-    holding : {ms : Members} {a : AttributeHead} {v : Value} {c : Content} → a .existence ≢ prohibited
+    holding : {ms : Members} {a : AttributeHead} {v : Value} {c : Content} → a .existence ≢ 0
         → MemberOf (a .name) c ms → ValueAdmits v c → Satisfy ms a v
 
   -- `*` admits any leaf or block, an object a block, a leaf a leaf

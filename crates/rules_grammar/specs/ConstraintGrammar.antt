@@ -12,7 +12,7 @@ use Rattle.lexis.specs.Spelling.{matches, existence, openBrace, closeBrace, dot
 use Rattle.lexis.specs.Tokens.{textEnd, typeName, name, code, integer, spelling, inner}
 use Rattle.lexis.specs.declared.Token.{Token}
 use Rattle.refusals.specs.Limits.{textLimit, levelLimit, recordLimit, nameLimit, codeLimit}
-use Rattle.meaning.specs.Constraints.{Object, object, AttributeHead, Attributes, noMore, attribute, Value, any, nested, leaf, Leaf, prohibited, optional, required}
+use Rattle.meaning.specs.Constraints.{Object, object, AttributeHead, Attributes, noMore, attribute, Value, any, nested, leaf, Leaf}
 use Rattle.meaning.specs.Counting.{valueRecords}
 use Rattle.rules_grammar.specs.DataGrammar.{Distinct}
 use Rattle.rules_grammar.specs.LeafGrammar.{NextToken, DerivesLeaf}
@@ -25,20 +25,20 @@ pub data Opens (s : List ℕ) (from : ℕ) : Token → Type 0 where
 pub data Digit (s : List ℕ) (from : ℕ) (w : List ℕ) : Token → Type 0 where
   digit : {t : Token} → NextToken s from integer t → w ≡ spelling s t → Digit s from w t
 
--- 0, 1, 0..0, 0..1 or 1..1
+-- 0, 1, 0..0, 0..1 or 1..1: 0 for 0..0, 1 for 0..1, 2 for 1..1, as in the flag of kind 2
 pub data DerivesBounds (s : List ℕ) (from : ℕ) : ℕ → ℕ → Type 0 where
-  nought : {t : Token} → Digit s from (bytes "0") t → DerivesBounds s from prohibited (t .end)
-  one : {t : Token} → Digit s from (bytes "1") t → DerivesBounds s from required (t .end)
+  nought : {t : Token} → Digit s from (bytes "0") t → DerivesBounds s from 0 (t .end)
+  one : {t : Token} → Digit s from (bytes "1") t → DerivesBounds s from 2 (t .end)
   noughtToNought : {t d u : Token} → Digit s from (bytes "0") t → NextToken s (t .end) dots d
-      → Digit s (d .end) (bytes "0") u → DerivesBounds s from prohibited (u .end)
+      → Digit s (d .end) (bytes "0") u → DerivesBounds s from 0 (u .end)
   noughtToOne : {t d u : Token} → Digit s from (bytes "0") t → NextToken s (t .end) dots d
-      → Digit s (d .end) (bytes "1") u → DerivesBounds s from optional (u .end)
+      → Digit s (d .end) (bytes "1") u → DerivesBounds s from 1 (u .end)
   oneToOne : {t d u : Token} → Digit s from (bytes "1") t → NextToken s (t .end) dots d → Digit s (d .end) (bytes "1") u
-      → DerivesBounds s from required (u .end)
+      → DerivesBounds s from 2 (u .end)
 
 -- no existence means 1..1
 pub data DerivesExistence (s : List ℕ) (from : ℕ) : ℕ → ℕ → Type 0 where
-  unwritten : DerivesExistence s from required from
+  unwritten : DerivesExistence s from 2 from
   written : {e p : ℕ} {x b z : Token} → NextToken s from existence x → Opens s (x .end) b → DerivesBounds s (b .end) e p
       → NextToken s p closeBrace z → DerivesExistence s from e (z .end)
 

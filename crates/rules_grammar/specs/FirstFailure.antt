@@ -6,7 +6,7 @@ use mathlib.Core.Logic.{_≢_}
 use mathlib.Core.Option.{Option, some}
 use mathlib.Core.List.{List}
 use Prim.Native.Nat.{ℕ}
-use Rattle.meaning.specs.Constraints.{Leaf, ObjectHead, Object, AttributeHead, Attributes, Value, required, prohibited}
+use Rattle.meaning.specs.Constraints.{Leaf, ObjectHead, Object, AttributeHead, Attributes, Value}
 use Rattle.meaning.specs.Constraints
 use Rattle.meaning.specs.Data.{Datum, datum, Members, Content}
 use Rattle.meaning.specs.Data
@@ -41,14 +41,14 @@ mutual
 
   -- an attribute's own failure
   pub data AttributeFails : AttributeHead → Value → ℕ → Members → (reason number place : ℕ) → Type 0 where
-    missing : {a : AttributeHead} {p : ℕ} {v : Value} {ms : Members} → a .existence ≡ required → Missing (a .name) ms
+    missing : {a : AttributeHead} {p : ℕ} {v : Value} {ms : Members} → a .existence ≡ 2 → Missing (a .name) ms
         → AttributeFails a v p ms 22 (a .number) p
     forbidden : {a : AttributeHead} {p : ℕ} {v : Value} {ms : Members} {c : Content}
-        → a .existence ≡ prohibited
+        → a .existence ≡ 0
         → MemberOf (a .name) c ms
         → AttributeFails a v p ms 23 (a .number) (placeOf c)
     valueFails : {a : AttributeHead} {p r k q : ℕ} {v : Value} {ms : Members} {c : Content}
-        → a .existence ≢ prohibited
+        → a .existence ≢ 0
         → MemberOf (a .name) c ms
         → ValueFails v c r k q
         → AttributeFails a v p ms r k q

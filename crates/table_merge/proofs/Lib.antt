@@ -14,3 +14,4 @@ pub mod MoveRuleLaws
 pub mod JoinedLaws
 pub mod OneJoinedLaws
 pub mod MergeRuleLaws
+pub mod StepLaws

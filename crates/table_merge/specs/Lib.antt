@@ -1,5 +1,5 @@
 pub mod Joining
 pub mod Merge
-pub mod MergeRules
 pub mod Lists
+pub mod MergeRules
 pub mod contracts

@@ -1,10 +1,10 @@
 -- What merging writes and when it refuses, as rules. Document 01, 'Table': "Merging writes all in the order asked: first table's records keep their numbers, the second's gain first count − 1;
 -- links other than 0 move so, pool places of length above 0 gain the first pool's bytes. Header: counts summed less one, pools summed, first root. Both shifts are reported"; 'Numbers of
 -- refusal': "Merge: first table, second, 8, 10, 11, naming the table for 12 and 13", 8 at 0: "merged count above 2,048", 10 at 0: "pool above 16,384", 11 at the needed length: "output too
--- short". Proved one with mergeAnswer, mergeOutcome, join. Assumes nothing.
+-- short". Proved one with mergeAnswer, mergeOutcome, join, afterStep. Assumes nothing.
 use mathlib.Core.Path.{_≡_}
 use mathlib.Core.Logic.{_≢_}
-use mathlib.Core.Bool.{Bool}
+use mathlib.Core.Bool.{Bool, true, false}
 use mathlib.Core.List.{List, [], _∷_}
 use Prim.Native.Nat.{ℕ, _+_, _*_, _-_, _≤_, _<_}
 use lib.ListN.{length}
@@ -14,7 +14,8 @@ use Rattle.refusals.specs.declared.Refusal.{Refusal}
 use Rattle.refusals.specs.declared.Cause.the-variants.{TooManyRecords, PoolTooLarge, OutputTooShort}
 use Rattle.table.specs.Records.{Record, recordSize, make}
 use Rattle.table.specs.TableRules.{Holds, IsTable, NoTable}
-use Rattle.table_merge.specs.Merge.{MergeRequest, MergeReport, MergeRefusal, ofTable, neither}
+use Rattle.table_merge.specs.Merge.{MergeRequest, request, MergeReport, MergeRefusal, ofTable, neither}
+use Rattle.table_merge.specs.Lists.{MergeStep, Carried, carried}
 
 -- "links other than 0 move"
 pub data LinkMoves (by : ℕ) : (link moved : ℕ) → Type 0 where
@@ -104,3 +105,20 @@ pub data MergeRefuses (q : MergeRequest) (room : ℕ) : MergeRefusal → Type 0 
   pool : {z : Sizes} → BothTables (q .first) (q .second) z → countOf z ≤ recordLimit → poolLimit < poolOf z → MergeRefuses q room (neither PoolTooLarge 0)
   short : {z : Sizes} → BothTables (q .first) (q .second) z → countOf z ≤ recordLimit → poolOf z ≤ poolLimit → room < lengthOf z
       → MergeRefuses q room (neither OutputTooShort (lengthOf z))
+
+-- one merge of a list: document 01, 'The merges of demand 3': "Each merge is lent the carried table alone .. as first or second; the other table is any bytes .. It is refused exactly when the rules of
+-- merging say so, and then table and sum stay. Otherwise the table written .. is the carried one from there on; where the carried table was second, the sum grows by the record shift reported, which is the
+-- first table's count less 1"
+pub data StepIs (s : MergeStep) (c : Carried) : Carried → Type 0 where
+  firstRefused : {r : MergeRefusal} → s .carriedFirst ≡ true → MergeRefuses (request (c .table) (s .other) (s .little)) (length (s .out)) r → StepIs s c c
+  secondRefused : {r : MergeRefusal} → s .carriedFirst ≡ false → MergeRefuses (request (s .other) (c .table) (s .little)) (length (s .out)) r → StepIs s c c
+  asFirst : {z : Sizes} {m : MergeReport} {joined : List ℕ}
+      → s .carriedFirst ≡ true
+      → Merges (request (c .table) (s .other) (s .little)) (length (s .out)) z m
+      → IsMerged (c .table) (s .other) (s .little) z joined
+      → StepIs s c (carried joined (c .sum))
+  asSecond : {z : Sizes} {m : MergeReport} {joined : List ℕ}
+      → s .carriedFirst ≡ false
+      → Merges (request (s .other) (c .table) (s .little)) (length (s .out)) z m
+      → IsMerged (s .other) (c .table) (s .little) z joined
+      → StepIs s c (carried joined (c .sum + (z .count₁ - 1)))

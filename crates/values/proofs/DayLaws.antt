@@ -51,7 +51,7 @@ month-has y m l h =
     row (λ i. MonthHas y i (monthDays y i)) 1 12
     (january, (february-has y, (march, (april, (may, (june, (july, (august, (september, (october, (november, (december, tt)))))))))))) m l (omega arith)
 
-has-month : {y m n : ℕ} → MonthHas y m n → (1 ≤ m) × (m ≤ 12) × (monthDays y m ≡ n)
+pub has-month : {y m n : ℕ} → MonthHas y m n → (1 ≤ m) × (m ≤ 12) × (monthDays y m ≡ n)
 unfolding monthDays
 has-month january = omega arith
 has-month {y} (february h) = (omega arith, omega arith, by-cond (λ n. n ≡ 28) (leap y) (λ e. absurd (h (leap-by y e))) (λ e. refl))
