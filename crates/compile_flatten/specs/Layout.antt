@@ -34,7 +34,8 @@ pub data LaysDates (bs : List ℕ) (little : Bool) : (n : ℕ) → List Range �
       → LaysDates bs little (n + 1) l e m → LaysDates bs little n (record { number = n; low = a; high = b } ∷ l) n m
 
 -- strings from record n and place p of the pool on, the link to the first, and the next record and place behind them
-pub data LaysStrings (bs : List ℕ) (little : Bool) (count : ℕ) : (n p : ℕ) → List Text → (first behind pool : ℕ) → Type 0 where
+pub data LaysStrings (bs : List ℕ) (little : Bool) (count : ℕ) : (n p : ℕ) → List Text → (first behind pool : ℕ)
+    → Type 0 where
   noMore : {n p : ℕ} → LaysStrings bs little count n p [] 0 n p
   string : {n p a e m q : ℕ} {w : List ℕ} {l : List Text}
       → Holds bs n little (make 5 0 (a ∷ length w ∷ 0 ∷ 0 ∷ e ∷ []))
@@ -44,12 +45,18 @@ pub data LaysStrings (bs : List ℕ) (little : Bool) (count : ℕ) : (n p : ℕ)
 
 -- a leaf from record n and place p on
 pub data LaysLeaf (bs : List ℕ) (little : Bool) (count : ℕ) : (n p : ℕ) → Leaf → (behind pool : ℕ) → Type 0 where
-  boolean : {n p flag : ℕ} → Holds bs n little (make 3 flag []) → LaysLeaf bs little count n p (single booleans n flag) (n + 1) p
-  integer : {n p m : ℕ} {x : Range} {l : List Range} → LaysIntegers bs little n (x ∷ l) n m → LaysLeaf bs little count n p (ranges integers (x ∷ l)) m p
-  string : {n p m q : ℕ} {x : Text} {l : List Text} → LaysStrings bs little count n p (x ∷ l) n m q → LaysLeaf bs little count n p (texts (x ∷ l)) m q
-  datePattern : {n p flag : ℕ} → Holds bs n little (make 6 flag []) → LaysLeaf bs little count n p (single Constraints.datePattern n flag) (n + 1) p
-  dateInterval : {n p m : ℕ} {x : Range} {l : List Range} → LaysDates bs little n (x ∷ l) n m → LaysLeaf bs little count n p (ranges dates (x ∷ l)) m p
-  timePattern : {n p flag : ℕ} → Holds bs n little (make 8 flag []) → LaysLeaf bs little count n p (single Constraints.timePattern n flag) (n + 1) p
+  boolean : {n p flag : ℕ} → Holds bs n little (make 3 flag [])
+      → LaysLeaf bs little count n p (single booleans n flag) (n + 1) p
+  integer : {n p m : ℕ} {x : Range} {l : List Range} → LaysIntegers bs little n (x ∷ l) n m
+      → LaysLeaf bs little count n p (ranges integers (x ∷ l)) m p
+  string : {n p m q : ℕ} {x : Text} {l : List Text} → LaysStrings bs little count n p (x ∷ l) n m q
+      → LaysLeaf bs little count n p (texts (x ∷ l)) m q
+  datePattern : {n p flag : ℕ} → Holds bs n little (make 6 flag [])
+      → LaysLeaf bs little count n p (single Constraints.datePattern n flag) (n + 1) p
+  dateInterval : {n p m : ℕ} {x : Range} {l : List Range} → LaysDates bs little n (x ∷ l) n m
+      → LaysLeaf bs little count n p (ranges dates (x ∷ l)) m p
+  timePattern : {n p flag : ℕ} → Holds bs n little (make 8 flag [])
+      → LaysLeaf bs little count n p (single Constraints.timePattern n flag) (n + 1) p
 
 mutual
   -- an object: its record, its type and then its code, its attributes
@@ -62,7 +69,8 @@ mutual
         → LaysObject bs little count n p (Constraints.object (record { number = n; type = type; code = code }) xs) m q
 
   -- attributes, the link to the first among them: each with its record, its name, its value, and then the next
-  pub data LaysAttributes (bs : List ℕ) (little : Bool) (count : ℕ) : (n p : ℕ) → Attributes → (first behind pool : ℕ) → Type 0 where
+  pub data LaysAttributes (bs : List ℕ) (little : Bool) (count : ℕ) : (n p : ℕ) → Attributes → (first behind pool : ℕ)
+      → Type 0 where
     noMore : {n p : ℕ} → LaysAttributes bs little count n p Constraints.noMore 0 n p
     attribute : {n p flag a c d m q k r : ℕ} {name : List ℕ} {v : Value} {more : Attributes}
         → Holds bs n little (make 2 flag (a ∷ length name ∷ c ∷ d ∷ []))
@@ -72,10 +80,13 @@ mutual
         → LaysAttributes bs little count n p (Constraints.attribute (record { number = n; existence = flag; name = name }) v more) n k r
 
   -- a value, and the link to it
-  pub data LaysValue (bs : List ℕ) (little : Bool) (count : ℕ) : (n p : ℕ) → Value → (link behind pool : ℕ) → Type 0 where
+  pub data LaysValue (bs : List ℕ) (little : Bool) (count : ℕ) : (n p : ℕ) → Value → (link behind pool : ℕ)
+      → Type 0 where
     anything : {n p : ℕ} → LaysValue bs little count n p Constraints.any 0 n p
-    anObject : {n p m q : ℕ} {o : Object} → LaysObject bs little count n p o m q → LaysValue bs little count n p (Constraints.nested o) n m q
-    aLeaf : {n p m q : ℕ} {l : Leaf} → LaysLeaf bs little count n p l m q → LaysValue bs little count n p (Constraints.leaf l) n m q
+    anObject : {n p m q : ℕ} {o : Object} → LaysObject bs little count n p o m q
+        → LaysValue bs little count n p (Constraints.nested o) n m q
+    aLeaf : {n p m q : ℕ} {l : Leaf} → LaysLeaf bs little count n p l m q
+        → LaysValue bs little count n p (Constraints.leaf l) n m q
 
 -- the table of a tree: the header, all records and the pool from record 1 and place 0 on, and nothing behind them
 pub record IsCompiled (little : Bool) (tree : Object) (bs : List ℕ) : Type 0 where

@@ -75,15 +75,18 @@ pub record Demand1 : Type 0 where
   pub merge-told : (q : MergeRequest) (out : List ℕ) (r : MergeRefusal) → mergeAnswer q out .answer ≡ Outcomes.refused r
       → MergeTold q r
   pub judge-told : (table : List ℕ) (root : ℕ) (form : List ℕ) (r : Refusal)
-      → judgeAnswer table root form ≡ Outcomes.refused r → Told (InTable table) r ⊎ Told (AsAsked root) r ⊎ Told (InText form) r
+      → judgeAnswer table root form ≡ Outcomes.refused r
+      → Told (InTable table) r ⊎ Told (AsAsked root) r ⊎ Told (InText form) r
   pub failure-told : (table : List ℕ) (root : ℕ) (form : List ℕ) (reason number place : ℕ)
-      → judgeAnswer table root form ≡ gave (Verdicts.fails reason number place) → FailureTold table form reason number place
+      → judgeAnswer table root form ≡ gave (Verdicts.fails reason number place)
+      → FailureTold table form reason number place
   pub name-told : (table : List ℕ) (n : ℕ) (r : Refusal) → nameAnswer table n ≡ Outcomes.refused r
       → Told (InTable table) r ⊎ Told (AsAsked n) r
   -- "On refusal no byte of output changes"
   pub compile-keeps : (text : List ℕ) (little : Bool) (out : List ℕ) (r : Refusal)
       → compileAnswer text little out .answer ≡ Outcomes.refused r → compileAnswer text little out .out ≡ out
-  pub merge-keeps : (q : MergeRequest) (out : List ℕ) (r : MergeRefusal) → mergeAnswer q out .answer ≡ Outcomes.refused r
+  pub merge-keeps : (q : MergeRequest) (out : List ℕ) (r : MergeRefusal)
+      → mergeAnswer q out .answer ≡ Outcomes.refused r
       → mergeAnswer q out .out ≡ out
 
 -- a text without fault whose table the output has no room for: 11, at the text's end
@@ -121,15 +124,18 @@ pub record Demand2 : Type 0 where
       → compileAnswer text little out .out ≡ tableOf little tree ++ drop (length (tableOf little tree)) out
   pub compiled : (text : List ℕ) (tree : Object) (little : Bool) → DerivesConstraint text tree
       → (bs : List ℕ) → (bs ≡ tableOf little tree) ↔ IsCompiled little tree bs
-  pub compiled-says : (text : List ℕ) (tree : Object) (little : Bool) → DerivesConstraint text tree → Says (tableOf little tree) 1 tree
+  pub compiled-says : (text : List ℕ) (tree : Object) (little : Bool) → DerivesConstraint text tree
+      → Says (tableOf little tree) 1 tree
   -- 'Numbers of refusal': "In one text the smallest place wins, then the smallest number; 1 comes before all, 11 after all". A tree is derived exactly where the text has no fault. A refusal is the
   -- least of its faults or, where it has none, 11 at its end; and the least fault is told.
   pub faultless : (text : List ℕ)
       → ((tree : Object) × DerivesConstraint text tree) ↔ (ConstraintFaults.faults text ≡ [])
   pub refused : (text : List ℕ) (little : Bool) (out : List ℕ) (r : Refusal)
-      → compileAnswer text little out .answer ≡ Outcomes.refused r → Least r (ConstraintFaults.faults text) ⊎ TooShort text little out r
+      → compileAnswer text little out .answer ≡ Outcomes.refused r
+      → Least r (ConstraintFaults.faults text) ⊎ TooShort text little out r
   pub least-refused : (text : List ℕ) (little : Bool) (out : List ℕ) (x : Refusal)
-      → Least x (ConstraintFaults.faults text) → (r : Refusal) × (compileAnswer text little out .answer ≡ Outcomes.refused r) × Alike x r
+      → Least x (ConstraintFaults.faults text)
+      → (r : Refusal) × (compileAnswer text little out .answer ≡ Outcomes.refused r) × Alike x r
   pub long-refused : (text : List ℕ) (little : Bool) (out : List ℕ) → textLimit < length text
       → compileAnswer text little out .answer ≡ Outcomes.refused (refusal TextTooLong textLimit)
   pub short-refused : (text : List ℕ) (little : Bool) (out : List ℕ) (r : Refusal) → TooShort text little out r
@@ -138,7 +144,8 @@ pub record Demand2 : Type 0 where
   pub never-ten : (text : List ℕ) (little : Bool) (out : List ℕ) (r : Refusal)
       → compileAnswer text little out .answer ≡ Outcomes.refused r → numberOf (r .cause) ≢ 10
   -- 'Table', and 12 and 13 of 'Numbers of refusal': the check passes exactly where the bytes are a table, and tells why they are none
-  pub passes : (bs : List ℕ) → (tableFault bs ≡ none) ↔ ((count : ℕ) × (pool : ℕ) × (root : ℕ) × IsTable bs count pool root)
+  pub passes : (bs : List ℕ)
+      → (tableFault bs ≡ none) ↔ ((count : ℕ) × (pool : ℕ) × (root : ℕ) × IsTable bs count pool root)
   pub broken : (bs : List ℕ) (r : Refusal) → (tableFault bs ≡ some r) ↔ NoTable bs r
   -- An object of a table is there exactly where the record asked has the kind 1, and says one tree.
   pub object-there : (bs : List ℕ) (n count pool root : ℕ) → IsTable bs count pool root → n < count → KindAt bs n 1
@@ -148,7 +155,8 @@ pub record Demand2 : Type 0 where
   pub named : (bs : List ℕ) (n start size : ℕ)
       → (nameAnswer bs n ≡ gave (record { start = start; length = size })) ↔ Named bs n start size
   pub name-refused : (bs : List ℕ) (n : ℕ) (r : Refusal) → (nameAnswer bs n ≡ Outcomes.refused r) ↔ NameRefuses bs n r
-  pub named-bytes : (bs : List ℕ) (n start size : ℕ) → Named bs n start size → sliceBytes bs (nameAnswer bs n) ≡ take size (drop start bs)
+  pub named-bytes : (bs : List ℕ) (n start size : ℕ) → Named bs n start size
+      → sliceBytes bs (nameAnswer bs n) ≡ take size (drop start bs)
   pub unnamed-bytes : (bs : List ℕ) (n : ℕ) (r : Refusal) → NameRefuses bs n r → sliceBytes bs (nameAnswer bs n) ≡ []
   -- "Merging writes all in the order asked .. Both shifts are reported"; "Merge: first table, second, 8, 10, 11, naming the table for 12 and 13"
   pub merged : (q : MergeRequest) (out : List ℕ) (m : MergeReport)
@@ -162,7 +170,8 @@ pub record Demand2 : Type 0 where
   -- 'Meaning': "An object admits a block whose type, if written, is its own and whose members satisfy each attribute". Under an object of a table a data text is valid exactly where the productions
   -- of 'Data text' derive a datum that the object admits.
   pub valid : (table : List ℕ) (root : ℕ) (form : List ℕ) (o : Object)
-      → Says table root o → (judgeAnswer table root form ≡ gave Verdicts.valid) ↔ ((b : Block) × DerivesData levelLimit form b × Admits o (spelledBlock b form))
+      → Says table root o
+      → (judgeAnswer table root form ≡ gave Verdicts.valid) ↔ ((b : Block) × DerivesData levelLimit form b × Admits o (spelledBlock b form))
   -- "Judging walks type first, then attributes in table order, each finished before the next; the first failure is told".
   pub fails : (table : List ℕ) (root : ℕ) (form : List ℕ) (o : Object) (reason number place : ℕ)
       → Says table root o
@@ -174,8 +183,10 @@ pub record Demand2 : Type 0 where
   pub unread : (table : List ℕ) (root : ℕ) (form : List ℕ) (o : Object) (r : Refusal) → Says table root o
       → judgeAnswer table root form ≡ Outcomes.refused r → Least r (DataFaults.faults levelLimit form)
   pub least-unread : (table : List ℕ) (root : ℕ) (form : List ℕ) (o : Object) (x : Refusal)
-      → Says table root o → Least x (DataFaults.faults levelLimit form) → (r : Refusal) × (judgeAnswer table root form ≡ Outcomes.refused r) × Alike x r
-  pub long-unread : (table : List ℕ) (root : ℕ) (form : List ℕ) (o : Object) → Says table root o → textLimit < length form
+      → Says table root o → Least x (DataFaults.faults levelLimit form)
+      → (r : Refusal) × (judgeAnswer table root form ≡ Outcomes.refused r) × Alike x r
+  pub long-unread : (table : List ℕ) (root : ℕ) (form : List ℕ) (o : Object) → Says table root o
+      → textLimit < length form
       → judgeAnswer table root form ≡ Outcomes.refused (refusal TextTooLong textLimit)
   pub no-table : (table : List ℕ) (root : ℕ) (form : List ℕ) (r : Refusal) → NoTable table r
       → judgeAnswer table root form ≡ Outcomes.refused r
@@ -200,15 +211,19 @@ pub record AfterMerges (text : List ℕ) (little : Bool) (out : List ℕ) (size 
   pub root-fits : 1 + end .sum < 2 ^ 32
   pub valid : (form : List ℕ) → (judgeAnswer (end .table) (1 + end .sum) form ≡ gave Verdicts.valid)
       ↔ ((tree : Object) × DerivesConstraint text tree × (b : Block) × DerivesData levelLimit form b × Admits tree (spelledBlock b form))
-  pub fails : (form : List ℕ) (reason number place : ℕ) → (tree : Object) → DerivesConstraint text tree → (b : Block) → DerivesData levelLimit form b
+  pub fails : (form : List ℕ) (reason number place : ℕ) → (tree : Object) → DerivesConstraint text tree → (b : Block)
+      → DerivesData levelLimit form b
       → FirstFailure tree (spelledBlock b form) reason number place
       → judgeAnswer (end .table) (1 + end .sum) form ≡ gave (Verdicts.fails reason (end .sum + number) place)
-  pub unread : (form : List ℕ) (r : Refusal) → judgeAnswer (end .table) (1 + end .sum) form ≡ Outcomes.refused r → Least r (DataFaults.faults levelLimit form)
+  pub unread : (form : List ℕ) (r : Refusal) → judgeAnswer (end .table) (1 + end .sum) form ≡ Outcomes.refused r
+      → Least r (DataFaults.faults levelLimit form)
 
 -- the list's steps: nothing is carried on but by the rules of merging
 pub record Demand3Relations : Type 0 where
   pub no-step : (c : Carried) → afterSteps [] c ≡ c
-  pub further : (s : MergeStep) (steps : List MergeStep) (c : Carried) → afterSteps (s ∷ steps) c ≡ afterSteps steps (afterStep s c)
+  pub further : (s : MergeStep) (steps : List MergeStep) (c : Carried)
+      → afterSteps (s ∷ steps) c ≡ afterSteps steps (afterStep s c)
   pub step : (s : MergeStep) (c : Carried) → StepIs s c (afterStep s c)
-  pub after : (text : List ℕ) (little : Bool) (out : List ℕ) (size : ℕ) → compileAnswer text little out .answer ≡ gave size
+  pub after : (text : List ℕ) (little : Bool) (out : List ℕ) (size : ℕ)
+      → compileAnswer text little out .answer ≡ gave size
       → (steps : List MergeStep) → AfterMerges text little out size steps

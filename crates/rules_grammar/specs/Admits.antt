@@ -88,7 +88,8 @@ pub data LeafAdmits : Leaf → Content → Type 0 where
   integer : {l : List Range} {p v : ℕ} {w : List ℕ} → IsInteger w v → InItem v l
       → LeafAdmits (ranges integers l) (Data.word p w)
   string : {l : List Text} {p : ℕ} {w : List ℕ} → IsItem w l → LeafAdmits (texts l) (Data.string p w)
-  patternDate : {n f p : ℕ} {w : List ℕ} {d : Date} {ps : List Part} → IsDate w d → DatePattern f ps → Fits ps (d .parts)
+  patternDate : {n f p : ℕ} {w : List ℕ} {d : Date} {ps : List Part} → IsDate w d → DatePattern f ps
+      → Fits ps (d .parts)
       → LeafAdmits (single datePattern n f) (Data.word p w)
   fullDate : {l : List Range} {p : ℕ} {w : List ℕ} {d : Date} → IsDate w d → d .parts ≡ 3 → InItem (d .day) l
       → LeafAdmits (ranges dates l) (Data.word p w)

@@ -49,7 +49,8 @@ pub record LongestAt (Spelled : (sort : ℕ) → List ℕ → Type 0) (s : List 
 -- the next token of a constraint text, from a place on; where none can be read, its place is both its start and its end
 pub data NextIs (s : List ℕ) (from : ℕ) : Token → Type 0 where
   ends : {at : ℕ} → Separates s from at → length s ≤ at → NextIs s from (token textEnd at at)
-  none : {at : ℕ} → Separates s from at → at < length s → ((sort end : ℕ) → ¬ SpelledAt Spells s at sort end) → NextIs s from (token unreadable at at)
+  none : {at : ℕ} → Separates s from at → at < length s → ((sort end : ℕ) → ¬ SpelledAt Spells s at sort end)
+      → NextIs s from (token unreadable at at)
   longest : {at sort end : ℕ} → Separates s from at → LongestAt Spells s at sort end → NextIs s from (token sort at end)
 
 -- the longest run at a place: at least one byte, and none behind it goes on in it
@@ -77,8 +78,10 @@ pub data ClassedBehind : List ℕ → (sort : ℕ) → Type 0 where
 -- the next token of a data text, from a place on, where runs are classed so
 pub data NextDataIs (Class : List ℕ → (sort : ℕ) → Type 0) (s : List ℕ) (from : ℕ) : Token → Type 0 where
   ends : {at : ℕ} → Separates s from at → length s ≤ at → NextDataIs Class s from (token textEnd at at)
-  run : {at sort end : ℕ} → Separates s from at → RunAt s at end → Class (part s at end) sort → NextDataIs Class s from (token sort at end)
-  longest : {at sort end : ℕ} → Separates s from at → LongestAt SpellsData s at sort end → NextDataIs Class s from (token sort at end)
+  run : {at sort end : ℕ} → Separates s from at → RunAt s at end → Class (part s at end) sort
+      → NextDataIs Class s from (token sort at end)
+  longest : {at sort end : ℕ} → Separates s from at → LongestAt SpellsData s at sort end
+      → NextDataIs Class s from (token sort at end)
   none : {at : ℕ}
       → Separates s from at
       → at < length s

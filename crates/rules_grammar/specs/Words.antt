@@ -37,7 +37,8 @@ pub data Fixed (size : ℕ) : List ℕ → ℕ → Type 0 where
 
 -- a date, how many of its parts are there, and its day, packed, with 1 for a part that is not there
 pub data IsDate : List ℕ → Date → Type 0 where
-  year : {y : List ℕ} {year : ℕ} → Fixed 4 y year → IsDay year 1 1 → IsDate y (record { parts = 1; day = year * 10_000 + 1 * 100 + 1 })
+  year : {y : List ℕ} {year : ℕ} → Fixed 4 y year → IsDay year 1 1
+      → IsDate y (record { parts = 1; day = year * 10_000 + 1 * 100 + 1 })
   month : {y m : List ℕ} {year month : ℕ} → Fixed 4 y year → Fixed 2 m month → IsDay year month 1
       → IsDate (y ++ (byte "-" ∷ m)) (record { parts = 2; day = year * 10_000 + month * 100 + 1 })
   day : {y m d : List ℕ} {year month day : ℕ} → Fixed 4 y year → Fixed 2 m month → Fixed 2 d day → IsDay year month day
@@ -54,13 +55,15 @@ pub data IsZone : List ℕ → Type 0 where
   eastHours : {h : List ℕ} {hours : ℕ} → UpTo 13 h hours → IsZone (byte "+" ∷ h)
   east : {h m : List ℕ} {hours minutes : ℕ} → UpTo 13 h hours → UpTo 59 m minutes → IsZone (byte "+" ∷ (h ++ (byte ":" ∷ m)))
   westHours : {h : List ℕ} {hours : ℕ} → UpTo 12 h hours → hours ≢ 0 → IsZone (byte "-" ∷ h)
-  west : {h m : List ℕ} {hours minutes : ℕ} → UpTo 12 h hours → UpTo 59 m minutes → hours + minutes ≢ 0 → IsZone (byte "-" ∷ (h ++ (byte ":" ∷ m)))
+  west : {h m : List ℕ} {hours minutes : ℕ} → UpTo 12 h hours → UpTo 59 m minutes → hours + minutes ≢ 0
+      → IsZone (byte "-" ∷ (h ++ (byte ":" ∷ m)))
 
 -- a time, and how many of its parts are there
 pub data IsTime : List ℕ → ℕ → Type 0 where
   hour : {h z : List ℕ} {hours : ℕ} → UpTo 23 h hours → IsZone z → IsTime (h ++ z) 1
   minute : {h m z : List ℕ} {hours minutes : ℕ} → UpTo 23 h hours → UpTo 59 m minutes → IsZone z → IsTime (h ++ (byte ":" ∷ (m ++ z))) 2
-  second : {h m s z : List ℕ} {hours minutes seconds : ℕ} → UpTo 23 h hours → UpTo 59 m minutes → UpTo 59 s seconds → IsZone z
+  second : {h m s z : List ℕ} {hours minutes seconds : ℕ} → UpTo 23 h hours → UpTo 59 m minutes → UpTo 59 s seconds
+      → IsZone z
       → IsTime (h ++ (byte ":" ∷ (m ++ (byte ":" ∷ (s ++ z))))) 3
 
 -- a good word reads as at least one of these

@@ -17,21 +17,21 @@ use Rattle.table.proofs.RecordLaws.{decode-counted}
 use Rattle.table.proofs.OrderSteps.{two-bytes, four-bytes}
 use Rattle.table.proofs.FrameLaws.{decode-kind}
 
--- a list of five numbers is its five elements
-pub five : (xs : List ℕ) → length xs ≡ fieldCount
+-- a list of as many numbers as a record has is its elements
+pub all-fields : (xs : List ℕ) → length xs ≡ fieldCount
     → xs ≡ getD xs 0 0 ∷ getD xs 1 0 ∷ getD xs 2 0 ∷ getD xs 3 0 ∷ getD xs 4 0 ∷ []
-five [] h = absurd (omega arith)
-five (a ∷ []) h = absurd (omega arith)
-five (a ∷ b ∷ []) h = absurd (omega arith)
-five (a ∷ b ∷ c ∷ []) h = absurd (omega arith)
-five (a ∷ b ∷ c ∷ d ∷ []) h = absurd (omega arith)
-five (a ∷ b ∷ c ∷ d ∷ e ∷ []) h = refl
-five (a ∷ b ∷ c ∷ d ∷ e ∷ x ∷ xs) h = absurd (omega arith)
+all-fields [] h = absurd (omega arith)
+all-fields (a ∷ []) h = absurd (omega arith)
+all-fields (a ∷ b ∷ []) h = absurd (omega arith)
+all-fields (a ∷ b ∷ c ∷ []) h = absurd (omega arith)
+all-fields (a ∷ b ∷ c ∷ d ∷ []) h = absurd (omega arith)
+all-fields (a ∷ b ∷ c ∷ d ∷ e ∷ []) h = refl
+all-fields (a ∷ b ∷ c ∷ d ∷ e ∷ x ∷ xs) h = absurd (omega arith)
 
 -- so a record with all its fields is made of them
 pub made : (r : Record) → length (r .fields) ≡ fieldCount
     → r ≡ make (r .kind) (r .flag) (field r 0 ∷ field r 1 ∷ field r 2 ∷ field r 3 ∷ field r 4 ∷ [])
-made r h = λ i. record { kind = r .kind; flag = r .flag; fields = five (r .fields) h i }
+made r h = λ i. record { kind = r .kind; flag = r .flag; fields = all-fields (r .fields) h i }
 
 -- bytes that stand at a place lie within
 pub bytes-room : (bs : List ℕ) (place x : ℕ) (ws : List ℕ) → StandsAt bs place (x ∷ ws)

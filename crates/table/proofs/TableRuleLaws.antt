@@ -32,7 +32,7 @@ use Rattle.table.proofs.UseLaws.{each-passed, place-right, by-link, int
 use Rattle.table.proofs.FieldLaws.{link-right}
 use Rattle.table.proofs.CheckLaws.{Framed, framed-is, is-framed, kind-inside, count-framed}
 use Rattle.table.proofs.FrameLaws.{decode-kind, count-opened, pool-opened, kind-opened, framed-opened}
-use Rattle.table.proofs.HoldsLaws.{five, made, holds-is, holds-marked, holds-room, holds-there, kind-is, kind-there}
+use Rattle.table.proofs.HoldsLaws.{all-fields, made, holds-is, holds-marked, holds-room, holds-there, kind-is, kind-there}
 use Rattle.table.proofs.FieldRuleLaws.{place-is, place-has, twos-has, integers-are, dates-are, only-rule, value-rule, Ruled, ruled-right, Kept, kept}
 
 -- the numbers of a frame are those in the header
@@ -54,7 +54,7 @@ header-made bs f =
     let h = header bs in
     let counted = decode-counted (take recordSize bs) in
     let last = eqb (field h 4) 0 && true in
-    let rest : (eqb (field h 3) 0 && last) ≡ true = subst (λ l. allNought (drop 3 l) ≡ true) (five (h .fields) counted) (f .rest) in
+    let rest : (eqb (field h 3) 0 && last) ≡ true = subst (λ l. allNought (drop 3 l) ≡ true) (all-fields (h .fields) counted) (f .rest) in
     let d = eqb-true (field h 3) 0 (and-left (eqb (field h 3) 0) last rest) in
     let e = eqb-true (field h 4) 0 (and-left (eqb (field h 4) 0) true (and-right (eqb (field h 3) 0) last rest)) in
     made h counted ∙ (λ i. record { kind = f .kind i; flag = f .flag i; fields = field h 0 ∷ field h 1 ∷ field h 2 ∷ d i ∷ e i ∷ [] })

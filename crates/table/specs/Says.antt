@@ -45,12 +45,15 @@ pub data SaysStrings (bs : List ℕ) (count : ℕ) : ℕ → List Text → Type 
 
 -- a leaf, from its first item on
 pub data SaysLeaf (bs : List ℕ) (count n : ℕ) : Leaf → Type 0 where
-  boolean : {flag : ℕ} {little : Bool} → Holds bs n little (make 3 flag []) → SaysLeaf bs count n (single booleans n flag)
+  boolean : {flag : ℕ} {little : Bool} → Holds bs n little (make 3 flag [])
+      → SaysLeaf bs count n (single booleans n flag)
   integer : {x : Range} {l : List Range} → SaysIntegers bs n (x ∷ l) → SaysLeaf bs count n (ranges integers (x ∷ l))
   string : {x : Text} {l : List Text} → SaysStrings bs count n (x ∷ l) → SaysLeaf bs count n (texts (x ∷ l))
-  datePattern : {flag : ℕ} {little : Bool} → Holds bs n little (make 6 flag []) → SaysLeaf bs count n (single Constraints.datePattern n flag)
+  datePattern : {flag : ℕ} {little : Bool} → Holds bs n little (make 6 flag [])
+      → SaysLeaf bs count n (single Constraints.datePattern n flag)
   dateInterval : {x : Range} {l : List Range} → SaysDates bs n (x ∷ l) → SaysLeaf bs count n (ranges dates (x ∷ l))
-  timePattern : {flag : ℕ} {little : Bool} → Holds bs n little (make 8 flag []) → SaysLeaf bs count n (single Constraints.timePattern n flag)
+  timePattern : {flag : ℕ} {little : Bool} → Holds bs n little (make 8 flag [])
+      → SaysLeaf bs count n (single Constraints.timePattern n flag)
 
 mutual
   -- "a,b type place and length; c,d code; e first attribute or 0 for `*`"
@@ -79,9 +82,12 @@ mutual
 
 -- the part of the table's bytes that is a record's name, by its start and its length
 pub data NamePart (bs : List ℕ) (count n : ℕ) : (start size : ℕ) → Type 0 where
-  typeOf : {a b c d e : ℕ} {little : Bool} → Holds bs n little (make 1 0 (a ∷ b ∷ c ∷ d ∷ e ∷ [])) → NamePart bs count n (recordSize * count + a) b
-  nameOf : {flag a b c d : ℕ} {little : Bool} → Holds bs n little (make 2 flag (a ∷ b ∷ c ∷ d ∷ [])) → NamePart bs count n (recordSize * count + a) b
-  stringOf : {a b e : ℕ} {little : Bool} → Holds bs n little (make 5 0 (a ∷ b ∷ 0 ∷ 0 ∷ e ∷ [])) → NamePart bs count n (recordSize * count + a) b
+  typeOf : {a b c d e : ℕ} {little : Bool} → Holds bs n little (make 1 0 (a ∷ b ∷ c ∷ d ∷ e ∷ []))
+      → NamePart bs count n (recordSize * count + a) b
+  nameOf : {flag a b c d : ℕ} {little : Bool} → Holds bs n little (make 2 flag (a ∷ b ∷ c ∷ d ∷ []))
+      → NamePart bs count n (recordSize * count + a) b
+  stringOf : {a b e : ℕ} {little : Bool} → Holds bs n little (make 5 0 (a ∷ b ∷ 0 ∷ 0 ∷ e ∷ []))
+      → NamePart bs count n (recordSize * count + a) b
 
 -- an object of a table: the record with that number, and what it says
 pub record Says (bs : List ℕ) (n : ℕ) (o : Object) : Type 0 where
@@ -112,5 +118,6 @@ pub record Named (bs : List ℕ) (n start size : ℕ) : Type 0 where
 -- "Name: table, 14": the refusal of the bytes as a table, or 14, "record asked holds no name"
 pub data NameRefuses (bs : List ℕ) (n : ℕ) : Refusal → Type 0 where
   noTable : {r : Refusal} → NoTable bs r → NameRefuses bs n r
-  noName : {count pool root : ℕ} → IsTable bs count pool root → (n < count → (start size : ℕ) → ¬ NamePart bs count n start size)
+  noName : {count pool root : ℕ} → IsTable bs count pool root
+      → (n < count → (start size : ℕ) → ¬ NamePart bs count n start size)
       → NameRefuses bs n (refusal NoName n)

@@ -21,13 +21,16 @@ pub data MarkAt (bs : List ℕ) (place : ℕ) : (little : Bool) → Type 0 where
 
 -- a 32-bit number at a place: big-endian has its highest byte first, little-endian its lowest
 pub data NumberAt (bs : List ℕ) (place : ℕ) : (little : Bool) → ℕ → Type 0 where
-  highestFirst : {w x y z : ℕ} → StandsAt bs place (w ∷ x ∷ y ∷ z ∷ []) → NumberAt bs place false (w * 2 ^ 24 + x * 2 ^ 16 + y * 2 ^ 8 + z)
-  lowestFirst : {w x y z : ℕ} → StandsAt bs place (w ∷ x ∷ y ∷ z ∷ []) → NumberAt bs place true (z * 2 ^ 24 + y * 2 ^ 16 + x * 2 ^ 8 + w)
+  highestFirst : {w x y z : ℕ} → StandsAt bs place (w ∷ x ∷ y ∷ z ∷ [])
+      → NumberAt bs place false (w * 2 ^ 24 + x * 2 ^ 16 + y * 2 ^ 8 + z)
+  lowestFirst : {w x y z : ℕ} → StandsAt bs place (w ∷ x ∷ y ∷ z ∷ [])
+      → NumberAt bs place true (z * 2 ^ 24 + y * 2 ^ 16 + x * 2 ^ 8 + w)
 
 -- numbers one after the other from a place on
 pub data NumbersAt (bs : List ℕ) (little : Bool) : (place : ℕ) → List ℕ → Type 0 where
   noNumber : {place : ℕ} → NumbersAt bs little place []
-  oneMore : {place x : ℕ} {xs : List ℕ} → NumberAt bs place little x → NumbersAt bs little (place + 4) xs → NumbersAt bs little place (x ∷ xs)
+  oneMore : {place x : ℕ} {xs : List ℕ} → NumberAt bs place little x → NumbersAt bs little (place + 4) xs
+      → NumbersAt bs little place (x ∷ xs)
 
 -- the bytes hold record n, in the order that its own mark says
 pub record Holds (bs : List ℕ) (n : ℕ) (little : Bool) (r : Record) : Type 0 where
@@ -55,7 +58,8 @@ pub record IsFrame (bs : List ℕ) (count pool root : ℕ) : Type 0 where
 -- "Pool pairs lie in the pool; length 0 has place 0"; a place and a length, which lies between two bounds
 pub data PoolPair (pool least most : ℕ) : (place size : ℕ) → Type 0 where
   empty : least ≡ 0 → PoolPair pool least most 0 0
-  filled : {place size : ℕ} → 1 ≤ size → least ≤ size → size ≤ most → place + size ≤ pool → PoolPair pool least most place size
+  filled : {place size : ℕ} → 1 ≤ size → least ≤ size → size ≤ most → place + size ≤ pool
+      → PoolPair pool least most place size
 
 -- "Every link is 0 or above its own record's number and below the count, and of the kind it needs"
 pub data Link (bs : List ℕ) (count n : ℕ) (Needed : ℕ → Type 0) : ℕ → Type 0 where
@@ -96,7 +100,8 @@ pub data IsRecord (bs : List ℕ) (count pool n : ℕ) : Type 0 where
       → Link bs count n ObjectOrItem c
       → Link bs count n (Only 2) d
       → IsRecord bs count pool n
-  boolean : {little : Bool} {flag : ℕ} → Holds bs n little (make 3 flag []) → 1 ≤ flag → flag ≤ 3 → IsRecord bs count pool n
+  boolean : {little : Bool} {flag : ℕ} → Holds bs n little (make 3 flag []) → 1 ≤ flag → flag ≤ 3
+      → IsRecord bs count pool n
   integer : {little : Bool} {a b e low high : ℕ}
       → Holds bs n little (make 4 0 (a ∷ b ∷ 0 ∷ 0 ∷ e ∷ []))
       → TwosComplement a low
@@ -104,9 +109,11 @@ pub data IsRecord (bs : List ℕ) (count pool n : ℕ) : Type 0 where
       → low ≤ high
       → Link bs count n (Only 4) e
       → IsRecord bs count pool n
-  string : {little : Bool} {a b e : ℕ} → Holds bs n little (make 5 0 (a ∷ b ∷ 0 ∷ 0 ∷ e ∷ [])) → PoolPair pool 0 stringLimit a b → Link bs count n (Only 5) e
+  string : {little : Bool} {a b e : ℕ} → Holds bs n little (make 5 0 (a ∷ b ∷ 0 ∷ 0 ∷ e ∷ []))
+      → PoolPair pool 0 stringLimit a b → Link bs count n (Only 5) e
       → IsRecord bs count pool n
-  datePattern : {little : Bool} {flag : ℕ} → Holds bs n little (make 6 flag []) → 1 ≤ flag → flag ≤ 5 → IsRecord bs count pool n
+  datePattern : {little : Bool} {flag : ℕ} → Holds bs n little (make 6 flag []) → 1 ≤ flag → flag ≤ 5
+      → IsRecord bs count pool n
   dateInterval : {little : Bool} {a b e : ℕ}
       → Holds bs n little (make 7 0 (a ∷ b ∷ 0 ∷ 0 ∷ e ∷ []))
       → PackedDay a
@@ -114,7 +121,8 @@ pub data IsRecord (bs : List ℕ) (count pool n : ℕ) : Type 0 where
       → a ≤ b
       → Link bs count n (Only 7) e
       → IsRecord bs count pool n
-  timePattern : {little : Bool} {flag : ℕ} → Holds bs n little (make 8 flag []) → 1 ≤ flag → flag ≤ 4 → IsRecord bs count pool n
+  timePattern : {little : Bool} {flag : ℕ} → Holds bs n little (make 8 flag []) → 1 ≤ flag → flag ≤ 4
+      → IsRecord bs count pool n
 
 -- a table: its frame, and every record behind the header obeys its rules
 pub record IsTable (bs : List ℕ) (count pool root : ℕ) : Type 0 where

@@ -77,7 +77,8 @@ pub record BothTables (x y : List ℕ) (z : Sizes) : Type 0 where
 pub record IsMerged (first second : List ℕ) (little : Bool) (z : Sizes) (joined : List ℕ) : Type 0 where
   pub sized : length joined ≡ lengthOf z
   pub header : Holds joined 0 little (make 0 0 (countOf z ∷ poolOf z ∷ z .root₁ ∷ []))
-  pub kept : (n : ℕ) (order : Bool) (r : Record) → 1 ≤ n → n < z .count₁ → Holds first n order r → Holds joined n little r
+  pub kept : (n : ℕ) (order : Bool) (r : Record) → 1 ≤ n → n < z .count₁ → Holds first n order r
+      → Holds joined n little r
   pub moved : (n : ℕ) (order : Bool) (r : Record) → 1 ≤ n → n < z .count₂ → Holds second n order r
       → (m : Record) × Moves (z .count₁ - 1) (z .pool₁) r m × Holds joined (n + (z .count₁ - 1)) little m
   pub firstPool : (k b : ℕ) → k < z .pool₁ → StandsAt first (recordSize * z .count₁ + k) (b ∷ [])
@@ -100,18 +101,24 @@ pub record Merges (q : MergeRequest) (room : ℕ) (z : Sizes) (m : MergeReport) 
 -- merging is refused, each number exactly then and in this order
 pub data MergeRefuses (q : MergeRequest) (room : ℕ) : MergeRefusal → Type 0 where
   first : {r : Refusal} → NoTable (q .first) r → MergeRefuses q room (ofTable 1 r)
-  second : {count pool root : ℕ} {r : Refusal} → IsTable (q .first) count pool root → NoTable (q .second) r → MergeRefuses q room (ofTable 2 r)
-  records : {z : Sizes} → BothTables (q .first) (q .second) z → recordLimit < countOf z → MergeRefuses q room (neither TooManyRecords 0)
-  pool : {z : Sizes} → BothTables (q .first) (q .second) z → countOf z ≤ recordLimit → poolLimit < poolOf z → MergeRefuses q room (neither PoolTooLarge 0)
-  short : {z : Sizes} → BothTables (q .first) (q .second) z → countOf z ≤ recordLimit → poolOf z ≤ poolLimit → room < lengthOf z
+  second : {count pool root : ℕ} {r : Refusal} → IsTable (q .first) count pool root → NoTable (q .second) r
+      → MergeRefuses q room (ofTable 2 r)
+  records : {z : Sizes} → BothTables (q .first) (q .second) z → recordLimit < countOf z
+      → MergeRefuses q room (neither TooManyRecords 0)
+  pool : {z : Sizes} → BothTables (q .first) (q .second) z → countOf z ≤ recordLimit → poolLimit < poolOf z
+      → MergeRefuses q room (neither PoolTooLarge 0)
+  short : {z : Sizes} → BothTables (q .first) (q .second) z → countOf z ≤ recordLimit → poolOf z ≤ poolLimit
+      → room < lengthOf z
       → MergeRefuses q room (neither OutputTooShort (lengthOf z))
 
 -- one merge of a list: document 01, 'The merges of demand 3': "Each merge is lent the carried table alone .. as first or second; the other table is any bytes .. It is refused exactly when the rules of
 -- merging say so, and then table and sum stay. Otherwise the table written .. is the carried one from there on; where the carried table was second, the sum grows by the record shift reported, which is the
 -- first table's count less 1"
 pub data StepIs (s : MergeStep) (c : Carried) : Carried → Type 0 where
-  firstRefused : {r : MergeRefusal} → s .carriedFirst ≡ true → MergeRefuses (request (c .table) (s .other) (s .little)) (length (s .out)) r → StepIs s c c
-  secondRefused : {r : MergeRefusal} → s .carriedFirst ≡ false → MergeRefuses (request (s .other) (c .table) (s .little)) (length (s .out)) r → StepIs s c c
+  firstRefused : {r : MergeRefusal} → s .carriedFirst ≡ true
+      → MergeRefuses (request (c .table) (s .other) (s .little)) (length (s .out)) r → StepIs s c c
+  secondRefused : {r : MergeRefusal} → s .carriedFirst ≡ false
+      → MergeRefuses (request (s .other) (c .table) (s .little)) (length (s .out)) r → StepIs s c c
   asFirst : {z : Sizes} {m : MergeReport} {joined : List ℕ}
       → s .carriedFirst ≡ true
       → Merges (request (c .table) (s .other) (s .little)) (length (s .out)) z m
