@@ -20,8 +20,9 @@ A row names a public function. It says what the function is, in the words of the
 source, is over these definitions, and where it cites none over numbers and lists alone. Behind it stand wrong programs, each with the edit that makes it, by
 its path below `crates/NAME/must-fail/`, without `.edit`; \"of\" names the private function that is edited, where it is one that serves the public one.
 
-`tests/edits` sees of an edit in a folder that just the function named is not proved, since a fact has no proof. The edits without a folder change a contract or a
-constant, and `rt ci` sees that the crate is refused (D16).
+`tests/edits` sees of an edit in a folder that just the function named is not proved, since a fact has no proof; of one in the folder `laws`, which is of a definition
+or a relation, that the law is refused that it names. The edits without a folder change a definition, a contract, a constant or the whole body, and `rt ci` sees that the crate
+is refused (D16).
 
 What holds the definitions themselves, and what the contracts leave open, is in `LAWS.md`.
 ";
