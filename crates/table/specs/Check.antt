@@ -1,4 +1,4 @@
--- The check of a table. Document 01, 'Table': "Count 2..2,048, pool to 16,384; the root's kind byte is 1. Kind 0 stands at number 0 only. Every link is 0 or above its own
+-- The check of a table, computed; TableRules.antt has the rules. Document 01, 'Table': "Count 2..2,048, pool to 16,384; the root's kind byte is 1. Kind 0 stands at number 0 only. Every link is 0 or above its own
 -- record's number and below the count, and of the kind it needs .. Pool pairs lie in the pool; length 0 has place 0 .. Low ≤ high; dates real, none after 9999-12-31";
 -- 'Numbers of refusal', 12: "not a table: length, header, root", 13: "record breaks a rule", at the lowest such record; "12 comes before 13". Assumes nothing.
 use mathlib.Core.Bool.{Bool, true, cond, _&&_, _||_}

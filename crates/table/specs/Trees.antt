@@ -1,4 +1,4 @@
--- The tree that a table says from a record on. Document 01, 'Table': the table of kinds. A record's tree is made of the trees of the records above it, to which its links
+-- The tree that a table says from a record on, computed; Says.antt has the rules. Document 01, 'Table': the table of kinds. A record's tree is made of the trees of the records above it, to which its links
 -- lead: so the trees are made from the last record down. Assumes nothing.
 use mathlib.Core.Option.{Option, none, some}
 use mathlib.Core.List.{List, [], _∷_}
