@@ -1,13 +1,13 @@
 -- What a step of the search for a repeated span shows, and what holds of spans by twos. Assumes nothing.
 use mathlib.Core.Path.{_≡_, refl, sym, _∙_}
-use mathlib.Core.Bool.{Bool, true, false, _||_}
+use mathlib.Core.Bool.{Bool, true, false}
 use mathlib.Core.List.{List}
 use Prim.Native.Nat.{ℕ, suc, _+_, _*_, _-_, _≤_, _<_}
 use native.Mathlib.Omega.{arith}
-use lib.ListN.{length, drop}
-use lib.Seq.{drop-drop}
-use Rattle.lexis.specs.Runs.{letterAt, part, same, listed}
-use Rattle.lexis.proofs.Letters.{head, letter-first, letter-inside, head-differ, head-end, head-on}
+use lib.ListN.{length}
+use Rattle.lexis.specs.Runs.{letterAt, part, listed}
+use Rattle.lexis.proofs.Comparing.{Comparing, differ-rest, end-same, next-letter}
+use Rattle.lexis.proofs.Comparing as comparing
 use Rattle.cadl_items.specs.contracts.Spans.{firstOf, secondOf, spanAt, latest, earlier, SpansIn}
 
 -- at the spans before n of the search for the bytes from `start` up to `stop`
@@ -24,14 +24,10 @@ pub record InLetters (s spans : List ℕ) (first end start stop n from to i : �
   pub low : first < n
   pub most : n ≤ end
   pub good : SpansIn s spans first end
-  pub inside : stop ≤ length s
   pub not-yet : again ≡ false
-  pub here : i ≤ stop - start
-  pub there : i ≤ to - from
-  pub lies : to ≤ length s
-  pub is :
-      (same (drop i (part s start stop)) (drop i (part s from to)) || listed (part s start stop) (latest (spanAt s spans) first (n - 1 - first))) ≡ listed (part s start stop)
-      (earlier s spans first end)
+  pub letters : Comparing s start stop from to i
+      (listed (part s start stop) (latest (spanAt s spans) first (n - 1 - first)))
+      (listed (part s start stop) (earlier s spans first end))
 
 pub names-start : (s spans : List ℕ) (first end start stop : ℕ) → SpansIn s spans first end → stop ≤ length s
     → InNames s spans first end start stop end false
@@ -58,52 +54,39 @@ module _ (s spans : List ℕ) (first end start stop n : ℕ) (again : Bool)
         low = l;
         most = inv .most;
         good = inv .good;
-        inside = i;
         not-yet = inv .not-yet;
-        here = omega arith;
-        there = omega arith;
-        lies = rw f (w .inside);
-        is = rw (e, f) (rw (a, b) at (inv .is));
+        letters = record { here = omega arith; there = omega arith; inside = i; lies = rw f (w .inside); is = rw (e, f) (rw (a, b) at (inv .is)) };
       }
 
 module _ (s spans : List ℕ) (first end start stop n from to i : ℕ) (again : Bool)
     (inv : InLetters s spans first end start stop n from to i again) (x y : ℕ) (ex : x ≡ letterAt s (start + i) stop)
     (ey : y ≡ letterAt s (from + i) to) where
-  here : x ≡ head (drop i (part s start stop))
-  here = ex ∙ letter-first s start stop i (inv .inside)
-
-  there : y ≡ head (drop i (part s from to))
-  there = ey ∙ letter-first s from to i (inv .lies)
-
   pub letters-differ : (x ≡ y → ⊥) → InNames s spans first end start stop (n - 1) again
   letters-differ d =
-      let e : same (drop i (part s start stop)) (drop i (part s from to)) ≡ false = head-differ _ _ (λ e. d (here ∙ e ∙ sym there)) in
       let m = inv .most in
-      record { most = omega arith; good = inv .good; inside = inv .inside; not-yet = inv .not-yet; is = rw e at (inv .is) }
+      record {
+        most = omega arith;
+        good = inv .good;
+        inside = inv .letters .inside;
+        not-yet = inv .not-yet;
+        is = differ-rest _ _ _ _ _ _ _ _ (inv .letters) x y ex ey d;
+      }
 
   pub names-less : n - 1 < n
   names-less = let l = inv .low in omega arith
 
   pub letters-end : x ≡ y → x ≡ 0 → true ≡ listed (part s start stop) (earlier s spans first end)
-  letters-end e z = rw (head-end (drop i (part s start stop)) (drop i (part s from to)) (sym here ∙ e ∙ there) (sym here ∙ z)) at (inv .is)
+  letters-end e z = end-same _ _ _ _ _ _ _ _ (inv .letters) x y ex ey e z
 
   module _ (e : x ≡ y) (z : x ≡ 0 → ⊥) where
     pub letters-on : InLetters s spans first end start stop n from to (i + 1) again
-    letters-on =
-        let a : start + i < stop = letter-inside s (start + i) stop x ex z in
-        let b : from + i < to = letter-inside s (from + i) to y ey (λ f. z (e ∙ f)) in
-        let f = head-on (drop i (part s start stop)) (drop i (part s from to)) (sym here ∙ e ∙ there) (λ g. z (here ∙ g)) in
-        record {
-          low = inv .low;
-          most = inv .most;
-          good = inv .good;
-          inside = inv .inside;
-          not-yet = inv .not-yet;
-          here = omega arith;
-          there = omega arith;
-          lies = inv .lies;
-          is = rw (f, drop-drop 1 i (part s start stop), drop-drop 1 i (part s from to)) at (inv .is);
-        }
+    letters-on = record {
+      low = inv .low;
+      most = inv .most;
+      good = inv .good;
+      not-yet = inv .not-yet;
+      letters = next-letter _ _ _ _ _ _ _ _ (inv .letters) x y ex ey e z;
+    }
 
     pub letters-less : stop - (start + (i + 1)) < stop - (start + i)
-    letters-less = let a : start + i < stop = letter-inside s (start + i) stop x ex z in omega arith
+    letters-less = comparing.letters-less _ _ _ _ _ _ _ _ (inv .letters) x y ex ey e z

@@ -1,4 +1,4 @@
--- The names of the earlierNames members of a block, as the rows on the tape lead from one to the next. Assumes nothing.
+-- The names of the earlier members of a block, as the rows on the tape lead from one to the next. Assumes nothing.
 use mathlib.Core.Path.{_≡_, refl, ap, _∙_}
 use mathlib.Core.Bool.{Bool, true, false, _||_}
 use mathlib.Core.List.{List, [], _∷_, _++_}

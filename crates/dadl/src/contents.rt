@@ -1,6 +1,6 @@
 // What stands behind a member's `=`: a leaf, or the opening of a block.
 use crate::tokens::Opening;
-use crate::tokens::expect;
+use crate::tokens::expect_data;
 use crate::tokens::typed_opening;
 use lexis::GREATER;
 use lexis::LESS;
@@ -59,7 +59,7 @@ fn leaf_end(
     requires { ⌜ from ≤ length (now s) ⌝ }
     ensures { λ r. ⌜ LeafEnds (now (s .entry)) holds place start end from r ⌝ }
 {
-    match expect(s, GREATER, from) {
+    match expect_data(s, GREATER, from) {
         Expected::Fault(fault) => { ContentStart::Faulty(fault) }
         Expected::Taken(close) => {
             ContentStart::Leaf {

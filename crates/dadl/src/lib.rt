@@ -8,7 +8,7 @@ mod tokens;
 use crate::blocks::RowsRead;
 use crate::blocks::read_block;
 use crate::tokens::Opening;
-use crate::tokens::expect;
+use crate::tokens::expect_data;
 use crate::tokens::outermost_opening;
 use lexis::TEXT_END;
 use refusals::Cause;
@@ -44,7 +44,7 @@ fn text_end(s: &[u8], place: usize, start: usize, end: usize, rows: usize, from:
     ensures { λ r. ⌜ r
         ≡ endAnswer place start end rows (firstIn (definitions.expectData (now (s .entry)) textEnd from)) ⌝ }
 {
-    match expect(s, TEXT_END, from) {
+    match expect_data(s, TEXT_END, from) {
         Expected::Fault(fault) => {
             return DataRead::Refused(fault);
         }

@@ -40,7 +40,7 @@ pub enum Opening {
 }
 
 // A token of the sort asked for.
-pub fn expect(s: &[u8], sort: u8, from: usize) -> Expected
+pub fn expect_data(s: &[u8], sort: u8, from: usize) -> Expected
     requires { ⌜ from ≤ length (now s) ⌝ }
     ensures { λ r. ⌜ ExpectIs (now (s .entry)) sort from (firstIn (expectData (now (s .entry)) sort from)) r ⌝ }
 {
@@ -61,7 +61,7 @@ fn type_from(s: &[u8], from: usize) -> SpanRead
         let fault = too_long(t);
         return SpanRead::Bad(fault);
     }
-    match expect(s, CLOSE_ROUND, t.end) {
+    match expect_data(s, CLOSE_ROUND, t.end) {
         Expected::Fault(fault) => {
             return SpanRead::Bad(fault);
         }
@@ -81,7 +81,7 @@ fn typed_less(s: &[u8], start: usize, end: usize, from: usize) -> Opening
     requires { ⌜ SpanBefore start end from ⌝ }
     ensures { λ r. ⌜ OpeningIs (now (s .entry)) from (typedLess (now (s .entry)) start end from) r ⌝ }
 {
-    match expect(s, LESS, from) {
+    match expect_data(s, LESS, from) {
         Expected::Fault(fault) => {
             return Opening::Shut(fault);
         }

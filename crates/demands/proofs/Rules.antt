@@ -42,7 +42,7 @@ use Rattle.rules_grammar.proofs.Derived
 use Rattle.rules_faults.proofs.Outcomes.{Lies}
 use Rattle.rules_faults.proofs.Scanned
 use Rattle.rules_faults.proofs.ConstraintScanned
-use Rattle.rules_grammar.proofs.TestLaws.{some-inj}
+use Rattle.lexis.proofs.TestLaws.{some-inj}
 use Rattle.rules_grammar.proofs.Judged.{valid-admits, fails-first}
 use Rattle.table.specs.Records.{imageOf}
 use Rattle.table.specs.Check.{tableFault}
@@ -55,12 +55,12 @@ use Rattle.table.proofs.SaysLaws
 use Rattle.table.proofs.NamedLaws
 use Rattle.table_merge.proofs.MergeRuleLaws
 use Rattle.table_merge.proofs.OneJoinedLaws
-use Rattle.rules_grammar.proofs.SeparatorLaws
-use Rattle.rules_grammar.proofs.TokenLaws
-use Rattle.rules_grammar.proofs.DataTokenLaws
-use Rattle.rules_grammar.proofs.WordLaws
-use Rattle.rules_grammar.proofs.DateWordLaws
-use Rattle.rules_grammar.proofs.TimeWordLaws
+use Rattle.lexis.proofs.SeparatorLaws
+use Rattle.lexis.proofs.TokenLaws
+use Rattle.lexis.proofs.DataTokenLaws
+use Rattle.values.proofs.WordLaws
+use Rattle.values.proofs.DateWordLaws
+use Rattle.values.proofs.TimeWordLaws
 use Rattle.demands.specs.Demands.{Demand2, TooShort}
 use Rattle.demands.proofs.JudgedTexts.{text-verdict, text-unread, text-long, text-least}
 use Rattle.demands.proofs.Merges.{compiled-table, compiled-says}

@@ -49,8 +49,8 @@ use Rattle.table_merge.specs.Lists.{MergeStep, Carried, carried, afterStep, aft
 use Rattle.compile_flatten.specs.Layout.{IsCompiled}
 use Rattle.compile.specs.Compile.{compileAnswer, tableOf}
 use Rattle.judge.specs.Judge.{judgeText, judgeAnswer, movedAnswer}
-use Rattle.rules_grammar.specs.LongestMatch.{Separates, NextIs, NextDataIs, Classed, ClassedBehind}
-use Rattle.rules_grammar.specs.Words.{IsBoolean, IsInteger, IsDate, IsZone, IsTime, IsGood}
+use Rattle.lexis.specs.LongestMatch.{Separates, NextIs, NextDataIs, Classed, ClassedBehind}
+use Rattle.values.specs.WordRules.{IsBoolean, IsInteger, IsDate, IsZone, IsTime, IsGood}
 use Rattle.rules_grammar.specs.ConstraintGrammar.{DerivesConstraint}
 use Rattle.rules_grammar.specs.DataGrammar.{DerivesData}
 use Rattle.rules_grammar.specs.Admits.{Admits}

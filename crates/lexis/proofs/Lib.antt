@@ -11,6 +11,15 @@ pub mod SpelledBack
 pub mod StartBack
 pub mod Examples
 pub mod ByteLaws
+pub mod TestLaws
+pub mod ByteRules
+pub mod SeparatorLaws
+pub mod SpelledAtLaws
+pub mod NumeralLaws
+pub mod TokensSpelled
+pub mod TokensReach
+pub mod TokenLaws
+pub mod DataTokenLaws
 pub mod RunSteps
 pub mod SpellingSteps
 pub mod WordSteps
@@ -21,3 +30,4 @@ pub mod ReaderSteps
 pub mod Stores
 pub mod Enclosed
 pub mod Letters
+pub mod Comparing

@@ -5,4 +5,6 @@ pub mod Blanks
 pub mod Spelling
 pub mod Tokens
 pub mod DataTokens
+pub mod SpellingRules
+pub mod LongestMatch
 pub mod contracts

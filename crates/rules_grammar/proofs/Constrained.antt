@@ -39,7 +39,7 @@ use Rattle.rules_grammar.specs.LeafGrammar.{NextToken, next}
 use Rattle.rules_grammar.specs.ConstraintGrammar.{Opens, opens, Digit, digit, DerivesBounds, DerivesExistence, unwritten, written, DerivesCode, uncoded, coded, attributeNames, objectLevels, attributeLevels, valueLevels, behindAttribute, WithinLimit, DerivesObject, anObject, DerivesBody, anyMembers, DerivesAttributes, lastOne, oneMore, DerivesAttribute, anAttribute, DerivesValue, anything, oneObject, oneLeaf, DerivesConstraint, wholeText}
 use Rattle.rules_grammar.specs.ConstraintGrammar
 use Rattle.rules_grammar.proofs.NextLaws.{next-token, token-read, sort-read}
-use Rattle.rules_grammar.proofs.TestLaws.{same-eq}
+use Rattle.lexis.proofs.TestLaws.{same-eq}
 use Rattle.rules_grammar.proofs.Given.{Gives, got-gives, refuse-gives, cond-gives, unless-gives, then-gives, given, gives-map}
 use Rattle.rules_grammar.proofs.Items.{Took, took, expect-gives, expect-got, leaf-got, leaf-derives}
 use Rattle.rules_grammar.proofs.Derived.{not-listed, listed-not, other, head-new, tail-new}

@@ -30,11 +30,11 @@ use Rattle.dadl.specs.Data.{expectData, datumOf, typeFrom, leafFrom, typed, con
 use Rattle.dadl.proofs.TreeReading.{BlockRead, outermost-order, ContentRead, content-order, block-order}
 use Rattle.rules_grammar.specs.DataGrammar.{NextDataToken, next, NextType, nextType, namesOf, Distinct, noName, newName, levelsOf, memberLevels, contentLevels, DerivesDataLeaf, aString, aWord, DerivesDatum, DerivesMembers, noMember, oneMore, DerivesContent, aDatum, aLeaf, DerivesData, wholeText}
 use Rattle.rules_grammar.specs.DataGrammar
-use Rattle.rules_grammar.specs.Spellings.{SpellsData}
-use Rattle.rules_grammar.specs.LongestMatch.{Classed, NextDataIs}
+use Rattle.lexis.specs.SpellingRules.{SpellsData}
+use Rattle.lexis.specs.LongestMatch.{Classed, NextDataIs}
 use Rattle.rules_grammar.proofs.NextLaws.{next-data, data-read, next-type, type-read}
-use Rattle.rules_grammar.proofs.TestLaws.{true-or-false, false-true, same-eq, or-cases, or-left, or-right, eq-same}
-use Rattle.rules_grammar.proofs.WordLaws.{good-word}
+use Rattle.lexis.proofs.TestLaws.{true-or-false, false-true, same-eq, or-cases, or-left, or-right, eq-same}
+use Rattle.values.proofs.WordLaws.{good-word}
 
 -- a name is listed exactly where it is one of the names
 pub listed-mem : (w : List ℕ) (ws : List (List ℕ)) → listed w ws ≡ true → List·Memᴰ w ws

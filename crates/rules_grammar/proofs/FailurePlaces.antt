@@ -16,20 +16,20 @@ use Rattle.meaning.specs.Data
 use Rattle.meaning.specs.Judging.{placeOf}
 use Rattle.dadl.specs.Placed
 use Rattle.dadl.specs.Placed.{Block, Entries, PlacedContent, spelledBlock, spelledEntries, spelledContent}
-use Rattle.rules_grammar.specs.Spellings.{SpellsData}
-use Rattle.rules_grammar.specs.Spellings
-use Rattle.rules_grammar.specs.LongestMatch.{NextDataIs, Classed}
+use Rattle.lexis.specs.SpellingRules.{SpellsData}
+use Rattle.lexis.specs.SpellingRules
+use Rattle.lexis.specs.LongestMatch.{NextDataIs, Classed}
 use Rattle.rules_grammar.specs.Admits.{MemberOf}
 use Rattle.rules_grammar.specs.Admits
 use Rattle.rules_grammar.specs.DataGrammar.{NextDataToken, DerivesDataLeaf, DerivesDatum, DerivesMembers, DerivesContent, DerivesData}
 use Rattle.rules_grammar.specs.DataGrammar
 use Rattle.rules_grammar.specs.FirstFailure.{FirstFailure, AttributesFail, AttributeFails, ValueFails}
 use Rattle.rules_grammar.specs.FirstFailure
-use Rattle.rules_grammar.proofs.ByteRules.{empty-cons, cons-first}
+use Rattle.lexis.proofs.ByteRules.{empty-cons, cons-first}
 
 -- a `<` stands where it is the next token: no run and no other mark has its sort
 less-mark : {w : List ℕ} → SpellsData less w → w ≡ bytes "<"
-less-mark Spellings.less = refl
+less-mark SpellingRules.less = refl
 
 no-run : {w : List ℕ} → ¬ Classed w less
 no-run = elim [ ]

@@ -37,7 +37,7 @@ use Rattle.rules_grammar.specs.DataGrammar.{Distinct, noName, newName}
 use Rattle.rules_grammar.specs.LeafGrammar.{NextToken, next, IsLiteral, DerivesLiteral, literal, StepsTo, DerivesEnds, DerivesItem, aValue, anInterval, DerivesItems, lastItem, moreItems, Meet, Apart, noItem, newItem, DerivesStrings, lastString, moreStrings, textsIn, Boolean, aTrue, aFalse, DerivesLeaf}
 use Rattle.rules_grammar.specs.LeafGrammar
 use Rattle.rules_grammar.proofs.NextLaws.{next-token, token-read, sort-read, date-long}
-use Rattle.rules_grammar.proofs.TestLaws.{true-or-false, false-true, or-cases, or-left, or-right, and-both}
+use Rattle.lexis.proofs.TestLaws.{true-or-false, false-true, or-cases, or-left, or-right, and-both}
 use Rattle.rules_grammar.proofs.LiteralLaws.{literal-of, integer-literal, date-literal}
 use Rattle.rules_grammar.proofs.EndLaws.{Kind, isInteger, isDate, value-least, value-most, bounds-of, bounds-are, step-after, step-least, stepped, step-below, Spread, spread-of, spread-got}
 use Rattle.rules_grammar.proofs.Given.{Gives, got-gives, refuse-gives, cond-gives, unless-gives, then-gives, given, gives-map}

@@ -21,7 +21,7 @@ use Rattle.rules_grammar.specs.Admits.{TypeSuits, AttributeOf, first, fu
 use Rattle.rules_grammar.specs.Admits
 use Rattle.rules_grammar.specs.FirstFailure.{LeafFails, FirstFailure, AttributesFail, AttributeFails, ValueFails}
 use Rattle.rules_grammar.specs.FirstFailure
-use Rattle.rules_grammar.proofs.TestLaws.{none-some, same-eq, same-self, same-ne, ne-same}
+use Rattle.lexis.proofs.TestLaws.{none-some, same-eq, same-self, same-ne, ne-same}
 use Rattle.rules_grammar.proofs.Leaves.{Stands, word-stands, string-stands}
 
 -- the member of a name is the one that is looked up

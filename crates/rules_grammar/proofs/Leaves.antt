@@ -22,14 +22,14 @@ use Rattle.meaning.specs.Data
 use Rattle.meaning.specs.Findings.{Finding, unsuited, refuted, admitted, try}
 use Rattle.meaning.specs.Sorts.{inRange, inSome, inFlag}
 use Rattle.meaning.specs.Admission.{isSome, wordUnder, stringUnder}
-use Rattle.rules_grammar.specs.Words
-use Rattle.rules_grammar.specs.Words.{IsBoolean, IsInteger, IsDate, IsTime}
+use Rattle.values.specs.WordRules
+use Rattle.values.specs.WordRules.{IsBoolean, IsInteger, IsDate, IsTime}
 use Rattle.rules_grammar.specs.Admits.{Fits, InItem, inItem, IsItem, isItem, Flagged, Readable, LeafAdmits, DatePattern, TimePattern}
 use Rattle.rules_grammar.specs.Admits
-use Rattle.rules_grammar.proofs.TestLaws.{false-true, none-some, some-inj, same-eq, eq-same, or-left, or-right, or-cases, and-both}
-use Rattle.rules_grammar.proofs.DateWordLaws.{date-word}
-use Rattle.rules_grammar.proofs.TimeWordLaws.{time-word}
-use Rattle.rules_grammar.proofs.WordLaws.{boolean-word, integer-word}
+use Rattle.lexis.proofs.TestLaws.{false-true, none-some, some-inj, same-eq, eq-same, or-left, or-right, or-cases, and-both}
+use Rattle.values.proofs.DateWordLaws.{date-word}
+use Rattle.values.proofs.TimeWordLaws.{time-word}
+use Rattle.values.proofs.WordLaws.{boolean-word, integer-word}
 
 -- items
 in-item : (v : ℕ) (l : List Range) → inSome v l ≡ true → InItem v l
@@ -137,14 +137,14 @@ time-pattern (suc (suc (suc (suc zero)))) n l h = (_, Admits.mayHaveMinute, fits
 time-pattern (suc (suc (suc (suc (suc f))))) n l h = absurd (no-parts n l h)
 
 date-parts : {w : List ℕ} {d : Date} → IsDate w d → 1 ≤ d .parts
-date-parts (Words.year y i) = omega arith
-date-parts (Words.month y m i) = omega arith
-date-parts (Words.day y m d i) = omega arith
+date-parts (WordRules.year y i) = omega arith
+date-parts (WordRules.month y m i) = omega arith
+date-parts (WordRules.day y m d i) = omega arith
 
 time-parts : {w : List ℕ} {n : ℕ} → IsTime w n → 1 ≤ n
-time-parts (Words.hour h z) = omega arith
-time-parts (Words.minute h m z) = omega arith
-time-parts (Words.second h m s z) = omega arith
+time-parts (WordRules.hour h z) = omega arith
+time-parts (WordRules.minute h m z) = omega arith
+time-parts (WordRules.second h m s z) = omega arith
 
 -- flags of Booleans
 flagged-of : (f b : ℕ) → inFlag f b ≡ true → Flagged b f

@@ -1,18 +1,5 @@
 -- The relations and the definitions are one.
-pub mod TestLaws
-pub mod ByteRules
-pub mod SeparatorLaws
-pub mod SpelledAtLaws
-pub mod NumberLaws
-pub mod TokensSpelled
-pub mod TokensReach
-pub mod TokenLaws
-pub mod DataTokenLaws
 pub mod NextLaws
-pub mod DigitLaws
-pub mod DateWordLaws
-pub mod TimeWordLaws
-pub mod WordLaws
 pub mod LiteralLaws
 pub mod Leaves
 pub mod Judged

@@ -9,18 +9,18 @@ use lib.ListN.{length, length-append}
 use Rattle.lexis.specs.Tokens.{integer, date}
 use Rattle.values.specs.Dates.{Date, dateOf}
 use Rattle.cadl_intervals.specs.Intervals.{literalValue}
-use Rattle.rules_grammar.specs.Words.{IsDate, fixed}
-use Rattle.rules_grammar.specs.Words
+use Rattle.values.specs.WordRules.{IsDate, fixed}
+use Rattle.values.specs.WordRules
 use Rattle.rules_grammar.specs.LeafGrammar.{IsLiteral, anInteger, aFullDate}
-use Rattle.rules_grammar.proofs.TestLaws.{none-some, some-inj}
-use Rattle.rules_grammar.proofs.DateWordLaws.{date-word}
-use Rattle.rules_grammar.proofs.WordLaws.{integer-word}
+use Rattle.lexis.proofs.TestLaws.{none-some, some-inj}
+use Rattle.values.proofs.DateWordLaws.{date-word}
+use Rattle.values.proofs.WordLaws.{integer-word}
 
 -- a date of ten bytes has all its parts
 all-parts : {w : List ℕ} {d : Date} → IsDate w d → length w ≡ 10 → d .parts ≡ 3
-all-parts (Words.year (fixed h _) i) l = absurd (omega arith)
-all-parts (Words.month (fixed h _) (fixed k _) i) l = absurd (omega (arith, simp length-append at l))
-all-parts (Words.day y m d i) l = refl
+all-parts (WordRules.year (fixed h _) i) l = absurd (omega arith)
+all-parts (WordRules.month (fixed h _) (fixed k _) i) l = absurd (omega (arith, simp length-append at l))
+all-parts (WordRules.day y m d i) l = refl
 
 pub literal-of : {kind v : ℕ} {w : List ℕ} → IsLiteral kind w v → literalValue kind w ≡ some v
 literal-of {w = w} (anInteger {v = v} h) = integer-word w v .1 h

@@ -7,15 +7,15 @@ use lib.ListN.{length}
 use Rattle.lexis.specs.Tokens.{tokenAt, typeName, date, spelling}
 use Rattle.lexis.specs.DataTokens.{dataTokenAt, typeTokenAt}
 use Rattle.lexis.specs.declared.Token.{Token}
-use Rattle.rules_grammar.specs.Spellings.{Spells}
-use Rattle.rules_grammar.specs.Spellings
-use Rattle.rules_grammar.specs.LongestMatch.{NextIs, NextDataIs, Classed, ClassedBehind}
+use Rattle.lexis.specs.SpellingRules.{Spells}
+use Rattle.lexis.specs.SpellingRules
+use Rattle.lexis.specs.LongestMatch.{NextIs, NextDataIs, Classed, ClassedBehind}
 use Rattle.rules_grammar.specs.DataGrammar.{NextDataToken, NextType, nextType}
 use Rattle.rules_grammar.specs.DataGrammar
 use Rattle.rules_grammar.specs.LeafGrammar.{NextToken}
 use Rattle.rules_grammar.specs.LeafGrammar
-use Rattle.rules_grammar.proofs.TokenLaws.{token-is}
-use Rattle.rules_grammar.proofs.DataTokenLaws.{data-token-is, type-token-is}
+use Rattle.lexis.proofs.TokenLaws.{token-is}
+use Rattle.lexis.proofs.DataTokenLaws.{data-token-is, type-token-is}
 
 -- in constraint text
 pub next-token : {s : List ℕ} {from sort : ℕ} → tokenAt s from .sort ≡ sort → NextToken s from sort (tokenAt s from)
@@ -29,7 +29,7 @@ sort-read (LeafGrammar.next n e) = rw (token-read n) e
 
 -- a date's token has ten bytes: no other token has its sort
 date-ten : {w : List ℕ} → Spells date w → length w ≡ 10
-date-ten (Spellings.date h) = refl
+date-ten (SpellingRules.date h) = refl
 
 pub date-long : {s : List ℕ} {from : ℕ} {t : Token} → NextToken s from date t → length (spelling s t) ≡ 10
 date-long {s} (LeafGrammar.next n e) = by n e

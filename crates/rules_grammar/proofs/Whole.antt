@@ -17,8 +17,8 @@ use Rattle.cadl_objects.specs.contracts.Told.{objectFrom}
 use Rattle.cadl_objects.specs.Texts.{constraintOf}
 use Rattle.cadl_objects.proofs.TreeParts.{constraint-is}
 use Rattle.cadl_objects.proofs.TreeReading.{ObjectRead, object-holds}
-use Rattle.rules_grammar.specs.Spellings.{Spells}
-use Rattle.rules_grammar.specs.LongestMatch.{NextIs}
+use Rattle.lexis.specs.SpellingRules.{Spells}
+use Rattle.lexis.specs.LongestMatch.{NextIs}
 use Rattle.rules_grammar.specs.LeafGrammar.{next}
 use Rattle.rules_grammar.proofs.Given.{Gives, got-gives, refuse-gives, unless-gives, then-gives, given}
 use Rattle.rules_grammar.proofs.Items.{Took, took, expect-gives}

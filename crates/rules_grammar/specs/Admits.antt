@@ -12,7 +12,7 @@ use Rattle.meaning.specs.Constraints.{Range, Text, Leaf, single, ranges, texts,
 use Rattle.meaning.specs.Constraints
 use Rattle.meaning.specs.Data.{Datum, datum, Members, Content}
 use Rattle.meaning.specs.Data
-use Rattle.rules_grammar.specs.Words.{IsBoolean, IsInteger, IsDate, IsTime}
+use Rattle.values.specs.WordRules.{IsBoolean, IsInteger, IsDate, IsTime}
 
 -- the type, if written, is the object's own
 pub data TypeSuits (t : List ℕ) : Option (List ℕ) → Type 0 where

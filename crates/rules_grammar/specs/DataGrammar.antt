@@ -15,8 +15,8 @@ use Rattle.lexis.specs.declared.Token.{Token}
 use Rattle.refusals.specs.Limits.{textLimit, nameLimit, stringLimit}
 use Rattle.dadl.specs.Placed.{Block, block, Entries, noMore, entry, PlacedContent, string, word, inside, spelledSpan}
 use Rattle.dadl.specs.Data.{spanOf, innerSpan}
-use Rattle.rules_grammar.specs.LongestMatch.{NextDataIs, Classed, ClassedBehind}
-use Rattle.rules_grammar.specs.Words.{IsGood}
+use Rattle.lexis.specs.LongestMatch.{NextDataIs, Classed, ClassedBehind}
+use Rattle.values.specs.WordRules.{IsGood}
 
 -- the next token from a place on, of a sort
 pub data NextDataToken (s : List ℕ) (from sort : ℕ) : Token → Type 0 where

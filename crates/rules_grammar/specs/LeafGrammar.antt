@@ -17,9 +17,9 @@ use Rattle.values.specs.Dates.{Date}
 use Rattle.values.specs.Days.{MonthHas, IsDay}
 use Rattle.refusals.specs.Limits.{recordLimit, stringLimit, itemLimit}
 use Rattle.meaning.specs.Constraints.{Range, Text, Leaf, single, ranges, texts, booleans, datePattern, timePattern, integers, dates}
-use Rattle.rules_grammar.specs.Words.{IsInteger, IsDate}
+use Rattle.values.specs.WordRules.{IsInteger, IsDate}
 use Rattle.rules_grammar.specs.DataGrammar.{Distinct}
-use Rattle.rules_grammar.specs.LongestMatch.{NextIs}
+use Rattle.lexis.specs.LongestMatch.{NextIs}
 
 -- the next token from a place on, of a sort
 pub data NextToken (s : List ℕ) (from sort : ℕ) : Token → Type 0 where

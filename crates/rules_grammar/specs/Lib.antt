@@ -1,6 +1,3 @@
-pub mod Spellings
-pub mod LongestMatch
-pub mod Words
 pub mod Admits
 pub mod FirstFailure
 pub mod DataGrammar

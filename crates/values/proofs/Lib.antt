@@ -5,6 +5,10 @@ pub mod IntegerLaws
 pub mod CalendarLaws
 pub mod DayLaws
 pub mod DateLaws
+pub mod DigitLaws
+pub mod DateWordLaws
+pub mod TimeWordLaws
+pub mod WordLaws
 pub mod PatternLaws
 pub mod Examples
 mod CalendarSteps

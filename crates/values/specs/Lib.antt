@@ -5,4 +5,5 @@ pub mod Dates
 pub mod Times
 pub mod Patterns
 pub mod Words
+pub mod WordRules
 pub mod contracts

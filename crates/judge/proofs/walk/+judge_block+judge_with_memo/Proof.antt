@@ -249,8 +249,9 @@ judge-block-loop-less-2 t c =
 judge-block-loop-again-2 : (t : ℕ)
     → judge-block-lts.Need-loop-again-2 (judge-block-calls t) (judge-block-at t) judge-block.Post judge-block-Inv-loop judge-block-μ-loop
 judge-block-loop-again-2 t c =
-    let l = c .before .before .before .before .before .before .before .before .before .before .before .before .before .before .before .before .before .before .before .before .before .before in
-    search (nested-valid _ _ _ _ _ _ _ _ _ _ _ _ _ (l .loop .inv) _ (c .before .before .before .before .before .before .before .before .before .before .before .before .before .before .before .before .before .before .before .before .is-admitted .ensures) (c .before .before .before .before .before .before .before .before .before .before .before .before .before .before .before .before .before .before .before .if2 .taken) _ (c .before .before .before .before .before .before .before .before .before .before .before .before .before .before .entry-at2 .ensures) _ (c .before .before .before .before .before .before .before .before .before .before .before .before .judge-attribute .ensures .1) _ (c .before .before .before .before .before .before .before .before .before .before .before .before .judge-attribute .ensures .0) (c .before .before .before .before .before .before .before .before .before .before .before .memo2 .given) _ _ (c .before .before .before .before .before .before .before .before .inner .given .1))
+    let nested = c .before .before .before .before .before .before .before .before in
+    let tested = nested .before .before .before .before .before .before .before .before .before .before .before in
+    search (nested-valid _ _ _ _ _ _ _ _ _ _ _ _ _ (tested .before .before .before .loop .inv) _ (tested .before .is-admitted .ensures) (tested .if2 .taken) _ (nested .before .before .before .before .before .before .entry-at2 .ensures) _ (nested .before .before .before .before .judge-attribute .ensures .1) _ (nested .before .before .before .before .judge-attribute .ensures .0) (nested .before .before .before .memo2 .given) _ _ (nested .inner .given .1))
 
 judge-block-enum-known-failure : (t : ℕ)
     → judge-block-lts.Need-enum-known-failure (judge-block-calls t) (judge-block-at t) judge-block.Post judge-block-Inv-loop judge-block-μ-loop

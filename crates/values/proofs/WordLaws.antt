@@ -14,17 +14,17 @@ use Rattle.lexis.specs.Bytes.{is, digit, sortOf}
 use Rattle.lexis.specs.Runs.{same, all}
 use Rattle.lexis.proofs.Cases.{by-cond, and-left, and-right}
 use Rattle.lexis.proofs.QuickSteps.{digit-dash}
 use Rattle.values.specs.Integers.{valueOf, plain, nought, notNegative, negative, integerOf}
 use Rattle.values.specs.Dates.{dateOf}
 use Rattle.values.specs.Times.{timeOf}
 use Rattle.values.specs.Words.{booleanOf, reads, good}
 use Rattle.values.proofs.Common.{Each, none-each, some-each, le-right}
-use Rattle.rules_grammar.specs.Words.{IsBoolean, isTrue, isFalse, PlainNumber, IsInteger, IsGood}
-use Rattle.rules_grammar.specs.Words
-use Rattle.rules_grammar.proofs.TestLaws.{true-or-false, false-true, same-eq, or-cases}
-use Rattle.rules_grammar.proofs.DigitLaws.{no-more, digits-say, say-digits}
-use Rattle.rules_grammar.proofs.DateWordLaws.{date-word}
-use Rattle.rules_grammar.proofs.TimeWordLaws.{time-word}
+use Rattle.values.specs.WordRules.{IsBoolean, isTrue, isFalse, PlainNumber, IsInteger, IsGood}
+use Rattle.values.specs.WordRules
+use Rattle.lexis.proofs.TestLaws.{true-or-false, false-true, same-eq, or-cases}
+use Rattle.values.proofs.DigitLaws.{no-more, digits-say, say-digits}
+use Rattle.values.proofs.DateWordLaws.{date-word}
+use Rattle.values.proofs.TimeWordLaws.{time-word}
 
 -- True and False
 boolean-by : (w : List ℕ) → Each (IsBoolean w) (booleanOf w)
@@ -56,26 +56,26 @@ plain-by (b ∷ w) e =
     let l = eqb-true (suc (length w)) 1 (rw t at (and-right (all (is digit) (b ∷ w) && some) first e)) in
     let p = eqb-true b (byte "0") t in
     let q = no-more w (omega arith) in
-    subst (λ (v : List ℕ). PlainNumber v (valueOf 0 v)) (λ i. sym p i ∷ sym q i) Words.nought)
-    (λ t. Words.other (eqb-false b (byte "0") t) (digits-say (b ∷ w) (and-left (all (is digit) (b ∷ w)) some (and-left (all (is digit) (b ∷ w) && some) first e))))
+    subst (λ (v : List ℕ). PlainNumber v (valueOf 0 v)) (λ i. sym p i ∷ sym q i) WordRules.nought)
+    (λ t. WordRules.other (eqb-false b (byte "0") t) (digits-say (b ∷ w) (and-left (all (is digit) (b ∷ w)) some (and-left (all (is digit) (b ∷ w) && some) first e))))
 
 plain-of : {ds : List ℕ} {n : ℕ} → PlainNumber ds n → (plain ds ≡ true) × (valueOf 0 ds ≡ n)
 unfolding all valueOf sortOf
-plain-of Words.nought = (refl, refl)
-plain-of (Words.other {b = b} {w = w} h s) =
+plain-of WordRules.nought = (refl, refl)
+plain-of (WordRules.other {b = b} {w = w} h s) =
     let t = say-digits s in
     (rw (t .0, le-leb 1 (suc (length w)) (omega arith), ne-eqb b (byte "0") h), t .1)
 
 unsigned : {ds : List ℕ} {n : ℕ} → PlainNumber ds n → eqb (getD ds 0 0) (byte "-") ≡ false
 unfolding all
-unsigned Words.nought = refl
-unsigned (Words.other {b = b} {w = w} h s) = digit-dash b (and-left (is digit b) (all (is digit) w) (say-digits s .0))
+unsigned WordRules.nought = refl
+unsigned (WordRules.other {b = b} {w = w} h s) = digit-dash b (and-left (is digit b) (all (is digit) w) (say-digits s .0))
 
 not-negative-by : (w : List ℕ) → Each (IsInteger w) (notNegative w)
 not-negative-by w =
     let n = valueOf 0 w in
     by-cond (Each (IsInteger w)) (plain w && leb n 2_147_483_647)
-    (λ e. some-each (IsInteger w) (nought + n) (Words.notNegative (plain-by w (and-left (plain w) (leb n 2_147_483_647) e)) (le-right (plain w) n 2_147_483_647 e)))
+    (λ e. some-each (IsInteger w) (nought + n) (WordRules.notNegative (plain-by w (and-left (plain w) (leb n 2_147_483_647) e)) (le-right (plain w) n 2_147_483_647 e)))
     (λ e. none-each (IsInteger w))
 
 negative-by : (w : List ℕ) → Each (IsInteger (byte "-" ∷ w)) (negative w)
@@ -85,7 +85,7 @@ negative-by w =
     by-cond (Each P) (plain w && leb 1 n && leb n 2_147_483_648)
     (λ e.
     let h = and-left (plain w && leb 1 n) (leb n 2_147_483_648) e in
-    some-each P (nought - n) (Words.negative (plain-by w (and-left (plain w) (leb 1 n) h)) (le-right (plain w) 1 n h) (le-right (plain w && leb 1 n) n 2_147_483_648 e)))
+    some-each P (nought - n) (WordRules.negative (plain-by w (and-left (plain w) (leb 1 n) h)) (le-right (plain w) 1 n h) (le-right (plain w && leb 1 n) n 2_147_483_648 e)))
     (λ e. none-each P)
 
 integer-by : (w : List ℕ) → Each (IsInteger w) (integerOf w)
@@ -98,8 +98,8 @@ integer-by (b ∷ w) =
 
 integer-of : {w : List ℕ} {v : ℕ} → IsInteger w v → integerOf w ≡ some v
 unfolding integerOf
-integer-of (Words.notNegative {w = w} {n = n} p l) = let t = plain-of p in rw (unsigned p, t .0, t .1, le-leb n 2_147_483_647 l)
-integer-of (Words.negative {w = w} {n = n} p l h) = let t = plain-of p in rw (t .0, t .1, le-leb 1 n l, le-leb n 2_147_483_648 h)
+integer-of (WordRules.notNegative {w = w} {n = n} p l) = let t = plain-of p in rw (unsigned p, t .0, t .1, le-leb n 2_147_483_647 l)
+integer-of (WordRules.negative {w = w} {n = n} p l h) = let t = plain-of p in rw (t .0, t .1, le-leb 1 n l, le-leb n 2_147_483_648 h)
 
 pub integer-word : (w : List ℕ) (v : ℕ) → (integerOf w ≡ some v) ↔ IsInteger w v
 integer-word w v = (integer-by w v, integer-of)
@@ -111,10 +111,10 @@ reads-some (some a) e = (a, refl)
 
 good-of : {w : List ℕ} → IsGood w → good w ≡ true
 unfolding good
-good-of {w} (Words.boolean h) = rw (boolean-of h)
-good-of {w} (Words.integer h) = rw (integer-of h, or-true (reads (booleanOf w)))
-good-of {w} (Words.date h) = rw (date-word w _ .1 h, or-true (reads (booleanOf w) || reads (integerOf w)))
-good-of {w} (Words.time h) = rw (time-word w _ .1 h, or-true (reads (booleanOf w) || reads (integerOf w) || reads (dateOf w)))
+good-of {w} (WordRules.boolean h) = rw (boolean-of h)
+good-of {w} (WordRules.integer h) = rw (integer-of h, or-true (reads (booleanOf w)))
+good-of {w} (WordRules.date h) = rw (date-word w _ .1 h, or-true (reads (booleanOf w) || reads (integerOf w)))
+good-of {w} (WordRules.time h) = rw (time-word w _ .1 h, or-true (reads (booleanOf w) || reads (integerOf w) || reads (dateOf w)))
 
 good-by : (w : List ℕ) → good w ≡ true → IsGood w
 unfolding good
@@ -125,10 +125,10 @@ good-by w t =
     or-cases (a || b || c) (reads (timeOf w)) t
     (λ t. or-cases (a || b) c t
     (λ t. or-cases a b t
-    (λ e. let x = reads-some (booleanOf w) e in Words.boolean (boolean-by w (x .0) (x .1)))
-    (λ e. let x = reads-some (integerOf w) e in Words.integer (integer-by w (x .0) (x .1))))
-    (λ e. let x = reads-some (dateOf w) e in Words.date (date-word w (x .0) .0 (x .1))))
-    (λ e. let x = reads-some (timeOf w) e in Words.time (time-word w (x .0) .0 (x .1)))
+    (λ e. let x = reads-some (booleanOf w) e in WordRules.boolean (boolean-by w (x .0) (x .1)))
+    (λ e. let x = reads-some (integerOf w) e in WordRules.integer (integer-by w (x .0) (x .1))))
+    (λ e. let x = reads-some (dateOf w) e in WordRules.date (date-word w (x .0) .0 (x .1))))
+    (λ e. let x = reads-some (timeOf w) e in WordRules.time (time-word w (x .0) .0 (x .1)))
 
 pub good-word : (w : List ℕ) → (good w ≡ true) ↔ IsGood w
 good-word w = (good-by w, good-of)

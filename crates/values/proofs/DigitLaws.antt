@@ -12,12 +12,12 @@ use Rattle.lexis.specs.Text.{byte}
 use Rattle.lexis.specs.Bytes.{is, digit, sortOf, among, within, blanks, marks}
 use Rattle.lexis.specs.Runs.{anyDigit, shaped, all}
 use Rattle.lexis.proofs.Cases.{by-cond, either, and-left, and-right}
 use Rattle.values.specs.Integers.{valueOf}
 use Rattle.values.specs.Dates.{exactly}
 use Rattle.values.proofs.IntegerLaws.{digit-is}
-use Rattle.rules_grammar.specs.Words.{DigitsSay, Fixed, fixed}
-use Rattle.rules_grammar.specs.Words
-use Rattle.rules_grammar.proofs.TestLaws.{false-true}
+use Rattle.values.specs.WordRules.{DigitsSay, Fixed, fixed}
+use Rattle.values.specs.WordRules
+use Rattle.lexis.proofs.TestLaws.{false-true}
 
 -- a list of no length
 pub no-more : (w : List ℕ) → length w ≡ 0 → w ≡ []
@@ -52,17 +52,17 @@ say-behind v n [] s h = rw append-nil s
 say-behind v n (b ∷ w) s h =
     let l = digit-byte b (and-left (is digit b) (all (is digit) w) h) in
     let e : byte "0" + (b - byte "0") ≡ b = omega arith in
-    let t = subst (λ (x : ℕ). DigitsSay (v ++ (x ∷ [])) (n * 10 + (b - byte "0"))) e (Words.further s (omega arith)) in
+    let t = subst (λ (x : ℕ). DigitsSay (v ++ (x ∷ [])) (n * 10 + (b - byte "0"))) e (WordRules.further s (omega arith)) in
     rw append-snoc at (say-behind (v ++ (b ∷ [])) (n * 10 + (b - byte "0")) w t (and-right (is digit b) (all (is digit) w) h))
 
 -- bytes that are digits spell their number, and what spells a number is digits
 pub digits-say : (w : List ℕ) → all (is digit) w ≡ true → DigitsSay w (valueOf 0 w)
-digits-say w h = say-behind [] 0 w Words.none h
+digits-say w h = say-behind [] 0 w WordRules.none h
 
 pub say-digits : {w : List ℕ} {n : ℕ} → DigitsSay w n → (all (is digit) w ≡ true) × (valueOf 0 w ≡ n)
 unfolding all valueOf
-say-digits Words.none = (refl, refl)
-say-digits (Words.further {w = w} {n = n} {d = d} s h) =
+say-digits WordRules.none = (refl, refl)
+say-digits (WordRules.further {w = w} {n = n} {d = d} s h) =
     let t = say-digits s in
     let v = t .1 in
     (all-last w (byte "0" + d) (t .0) (digit-is d (omega arith)), value-last 0 w (byte "0" + d) ∙ omega arith)

@@ -8,16 +8,16 @@ use native.Mathlib.Omega.{arith}
 use lib.Dec.{eqb}
 use lib.ListN.{length, drop, length-drop, drop-of-length-le}
 use borrow.Author.Tests.{eqb-true, ne-eqb}
 use Rattle.lexis.specs.Runs.{StandsAt}
 use Rattle.lexis.specs.Text.{byte, bytes}
 use Rattle.lexis.specs.Bytes.{is, blank, lineEnd, sortOf}
 use Rattle.lexis.specs.Blanks.{skip, opensComment, tokenStart}
 use Rattle.lexis.proofs.Cases.{and-left, and-right}
 use Rattle.lexis.proofs.RunLaws.{behind, first-inside}
 use Rattle.lexis.proofs.StartBack.{clear, start-here}
-use Rattle.rules_grammar.specs.LongestMatch.{LineEnd, Blank, CommentTo, Separates}
-use Rattle.rules_grammar.proofs.TestLaws.{true-or-false, false-true}
-use Rattle.rules_grammar.proofs.ByteRules.{never, is-blank, is-line-end, stands-split, split-stands, cons-first}
+use Rattle.lexis.specs.LongestMatch.{LineEnd, Blank, CommentTo, Separates}
+use Rattle.lexis.proofs.TestLaws.{true-or-false, false-true}
+use Rattle.lexis.proofs.ByteRules.{never, is-blank, is-line-end, stands-split, split-stands, cons-first}
 
 -- no blank opens a comment
 blank-no-comment : (b : ℕ) (bs : List ℕ) → Blank b → opensComment b bs ≡ false

@@ -5,12 +5,12 @@ use mathlib.Core.Path.{_≡_}
 use mathlib.Core.List.{List, [], _∷_}
 use Prim.Native.Nat.{ℕ, _+_, _≤_, _<_}
 use lib.ListN.{length}
 use Rattle.lexis.specs.Text.{byte, bytes}
 use Rattle.lexis.specs.Runs.{part, StandsAt}
 use Rattle.lexis.specs.Tokens.{token, textEnd, unreadable, typeName, name}
 use Rattle.lexis.specs.DataTokens.{wordRun}
 use Rattle.lexis.specs.declared.Token.{Token}
-use Rattle.rules_grammar.specs.Spellings.{Small, RunByte, All, SpellsType, SpellsName, Spells, SpellsData}
+use Rattle.lexis.specs.SpellingRules.{Small, RunByte, All, SpellsType, SpellsName, Spells, SpellsData}
 
 -- CR and LF
 pub data LineEnd : ℕ → Type 0 where

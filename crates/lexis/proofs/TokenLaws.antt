@@ -7,18 +7,18 @@ use native.Mathlib.Omega.{arith}
 use lib.Dec.{leb}
 use lib.ListN.{length, drop}
 use borrow.Author.Tests.{leb-true, leb-false, le-leb}
 use Rattle.lexis.specs.Runs.{part}
 use Rattle.lexis.specs.Blanks.{tokenStart}
 use Rattle.lexis.specs.Tokens.{token, noToken, textEnd, unreadable, tokenOn, tokenAt}
 use Rattle.lexis.specs.declared.Token.{Token}
 use Rattle.lexis.proofs.Parts.{part-length}
-use Rattle.rules_grammar.specs.Spellings.{Spells}
-use Rattle.rules_grammar.specs.LongestMatch.{Separates, SpelledAt, LongestAt, NextIs}
-use Rattle.rules_grammar.proofs.TestLaws.{true-or-false}
-use Rattle.rules_grammar.proofs.ByteRules.{part-splits}
-use Rattle.rules_grammar.proofs.SeparatorLaws.{separated}
-use Rattle.rules_grammar.proofs.TokensReach.{Reaches, reaches}
-use Rattle.rules_grammar.proofs.TokensSpelled.{Reads, on-reads}
+use Rattle.lexis.specs.SpellingRules.{Spells}
+use Rattle.lexis.specs.LongestMatch.{Separates, SpelledAt, LongestAt, NextIs}
+use Rattle.lexis.proofs.TestLaws.{true-or-false}
+use Rattle.lexis.proofs.ByteRules.{part-splits}
+use Rattle.lexis.proofs.SeparatorLaws.{separated}
+use Rattle.lexis.proofs.TokensReach.{Reaches, reaches}
+use Rattle.lexis.proofs.TokensSpelled.{Reads, on-reads}
 
 -- where a token is spelled, the definition's can be read, ends no earlier, and has its sort where it ends with it
 covers : {s : List ℕ} {at sort end : ℕ} → SpelledAt Spells s at sort end → Reaches end sort (tokenOn s at)

@@ -7,20 +7,20 @@ use native.Mathlib.Omega.{arith}
 use lib.Dec.{eqb}
 use lib.ListN.{length, drop, length-append, length-drop}
 use borrow.Author.Tests.{eqb-true}
 use Rattle.lexis.specs.Text.{byte, bytes}
 use Rattle.lexis.specs.Bytes.{stringByte}
 use Rattle.lexis.specs.Runs.{past, byteAt, part, all, startsWith}
 use Rattle.lexis.specs.Spelling.{Literal}
 use Rattle.lexis.specs.Tokens.{token, spelled}
 use Rattle.lexis.specs.Tokens
 use Rattle.lexis.specs.declared.Token.{Token}
 use Rattle.lexis.proofs.Cases.{by-cond, and-left, and-right}
 use Rattle.lexis.proofs.Places.{drop-in}
 use Rattle.lexis.proofs.RunLaws.{part-read, next-read}
-use Rattle.rules_grammar.specs.Spellings.{StringByte, Quoted, quoted}
-use Rattle.rules_grammar.specs.LongestMatch.{SpelledAt}
-use Rattle.rules_grammar.proofs.TestLaws.{false-true}
-use Rattle.rules_grammar.proofs.ByteRules.{is-string-byte, is-all, past-splits}
+use Rattle.lexis.specs.SpellingRules.{StringByte, Quoted, quoted}
+use Rattle.lexis.specs.LongestMatch.{SpelledAt}
+use Rattle.lexis.proofs.TestLaws.{false-true}
+use Rattle.lexis.proofs.ByteRules.{is-string-byte, is-all, past-splits}
 
 -- what stands at a place and is spelled so
 pub spelled-at : (Spelled : ℕ → List ℕ → Type 0) (s : List ℕ) (at sort : ℕ) (w rest : List ℕ) → at ≤ length s → drop at s ≡ w ++ rest

@@ -8,21 +8,21 @@ use native.Mathlib.Omega.{arith}
 use lib.Dec.{eqb, leb, ltb, lit<}
 use lib.ListN.{length, drop}
 use borrow.Author.Tests.{eqb-true, leb-true, ltb-true, not-true}
 use Rattle.lexis.specs.Text.{byte, bytes}
 use Rattle.lexis.specs.Bytes.{is, sortOf, digit, small, capital, mark, wordByte}
 use Rattle.lexis.specs.Runs.{past, part, byteAt, startsWith, shaped, allows, anyDigit, all, same}
 use Rattle.lexis.specs.Spelling.{Literal, wordSort, keywords, booleans, datePatternSpellings, timePatternSpellings, dateShape, less, greater, atMost, atLeast}
 use Rattle.lexis.specs.Tokens.{token, unreadable, spelled, word, tokenOn, typeName, name, integer}
 use Rattle.lexis.specs.declared.Token.{Token}
 use Rattle.lexis.proofs.Cases.{by-cond, either, and-left, and-right}
 use Rattle.lexis.proofs.Places.{capital-word, small-word}
 use Rattle.lexis.proofs.RunLaws.{part-read, behind, first-read}
 use Rattle.lexis.proofs.ReadBack.{on-sort, every, date-read, string-read, code-read}
 use Rattle.lexis.proofs.SpelledBack.{literal-read, literals, literalAt, free}
-use Rattle.rules_grammar.specs.Spellings.{Digits, CapitalWord, SmallWord, Quoted, Spells}
-use Rattle.rules_grammar.proofs.TestLaws.{true-or-false, false-true, ne-same, or-left, or-right, and-both}
-use Rattle.rules_grammar.proofs.ByteRules.{is-digit, is-small, is-capital, is-word-byte, is-string-byte, is-all, past-least}
-use Rattle.rules_grammar.proofs.NumberLaws.{digits-all, date-shape, is-grouped}
+use Rattle.lexis.specs.SpellingRules.{Digits, CapitalWord, SmallWord, Quoted, Spells}
+use Rattle.lexis.proofs.TestLaws.{true-or-false, false-true, ne-same, or-left, or-right, and-both}
+use Rattle.lexis.proofs.ByteRules.{is-digit, is-small, is-capital, is-word-byte, is-string-byte, is-all, past-least}
+use Rattle.lexis.proofs.NumeralLaws.{digits-all, date-shape, is-grouped}
 
 -- a token that can be read and ends no earlier than a place; where it ends there, it has the sort
 pub record Reaches (end sort : ℕ) (t : Token) : Type 0 where

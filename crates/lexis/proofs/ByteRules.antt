@@ -9,18 +9,18 @@ use lib.Dec.{eqb, leb}
 use lib.ListN.{length, drop, take-append-drop}
 use lib.Seq.{take-append-seam, drop-drop}
 use borrow.Author.Tests.{eqb-true, eq-eqb, ne-eqb, leb-true, le-leb}
 use Rattle.lexis.specs.Text.{byte, bytes}
 use Rattle.lexis.specs.Bytes.{is, sortOf, within, among, blanks, wordByte, stringByte, runByte, lineEnd}
 use Rattle.lexis.specs.Bytes
 use Rattle.lexis.specs.Runs.{past, part, all, StandsAt}
 use Rattle.lexis.proofs.Cases.{by-cond, and-left, and-right}
 use Rattle.lexis.proofs.ByteLaws.{agree, alike, passes}
 use Rattle.lexis.proofs.RunLaws.{part-read, behind}
 use Rattle.lexis.proofs.Parts.{part-length}
 use Rattle.lexis.proofs.Places.{capital-word, small-word, past-between}
-use Rattle.rules_grammar.specs.Spellings.{Digit, Small, Capital, WordByte, RunByte, StringByte, All}
-use Rattle.rules_grammar.specs.LongestMatch.{LineEnd, Blank}
-use Rattle.rules_grammar.proofs.TestLaws.{true-or-false, false-true, or-left, or-cases, and-both}
+use Rattle.lexis.specs.SpellingRules.{Digit, Small, Capital, WordByte, RunByte, StringByte, All}
+use Rattle.lexis.specs.LongestMatch.{LineEnd, Blank}
+use Rattle.lexis.proofs.TestLaws.{true-or-false, false-true, or-left, or-cases, and-both}
 
 -- a test that fails does not pass
 pub never : {P : Type 0} → false ≡ true → P

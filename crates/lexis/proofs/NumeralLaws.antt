@@ -8,17 +8,17 @@ use native.Mathlib.Omega.{arith}
 use lib.Dec.{eqb}
 use lib.ListN.{length, take}
 use borrow.Author.Tests.{eqb-true}
 use Rattle.lexis.specs.Text.{byte, bytes}
 use Rattle.lexis.specs.Bytes.{is, sortOf, digit}
 use Rattle.lexis.specs.Runs.{shaped, allows, all}
 use Rattle.lexis.specs.Spelling.{dateShape}
 use Rattle.lexis.specs.Tokens.{codeEnd}
 use Rattle.lexis.specs.Tokens
 use Rattle.lexis.proofs.Cases.{and-left, and-right}
 use Rattle.lexis.proofs.ReadBack.{grouped}
-use Rattle.rules_grammar.specs.Spellings.{Digit, All, Digits, CodeNumbers, Spells}
-use Rattle.rules_grammar.proofs.TestLaws.{true-or-false, and-both}
-use Rattle.rules_grammar.proofs.ByteRules.{never, is-digit, is-all}
+use Rattle.lexis.specs.SpellingRules.{Digit, All, Digits, CodeNumbers, Spells}
+use Rattle.lexis.proofs.TestLaws.{true-or-false, and-both}
+use Rattle.lexis.proofs.ByteRules.{never, is-digit, is-all}
 
 -- no digit is 0
 pub digit-some : {b : ℕ} → Digit b → b ≢ 0

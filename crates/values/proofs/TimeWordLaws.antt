@@ -12,14 +12,14 @@ use borrow.Author.Tests.{eqb-true, le-leb}
 use Rattle.lexis.specs.Text.{byte, bytes}
 use Rattle.lexis.specs.Runs.{same, shaped}
 use Rattle.lexis.proofs.Cases.{by-cond, and-left, and-right}
 use Rattle.values.specs.Integers.{valueOf}
 use Rattle.values.specs.Dates.{exactly, digitsAt}
 use Rattle.values.specs.Times.{zoneHours, zoneMinutes, zone, east, west, hours, minutes, seconds, goodTime, timeOf}
 use Rattle.values.proofs.Common.{Each, none-each, some-each, le-left, le-right}
-use Rattle.rules_grammar.specs.Words.{upTo, IsZone, IsTime}
-use Rattle.rules_grammar.specs.Words
-use Rattle.rules_grammar.proofs.TestLaws.{same-eq, or-cases}
-use Rattle.rules_grammar.proofs.DigitLaws.{no-more, Row, done, more, fixed-row, by-shape, by-exactly, two}
+use Rattle.values.specs.WordRules.{upTo, IsZone, IsTime}
+use Rattle.values.specs.WordRules
+use Rattle.lexis.proofs.TestLaws.{same-eq, or-cases}
+use Rattle.values.proofs.DigitLaws.{no-more, Row, done, more, fixed-row, by-shape, by-exactly, two}
 
 -- a zone that is found good is one of the rule
 east-by : (z : List ℕ) → (exactly (bytes "+dd") z || exactly (bytes "+dd:dd") z) ≡ true → zoneHours z ≤ 13
@@ -28,9 +28,9 @@ east-by : (z : List ℕ) → (exactly (bytes "+dd") z || exactly (bytes "+dd:dd"
 east-by z e =
     or-cases (exactly (bytes "+dd") z) (exactly (bytes "+dd:dd") z) e
     (by-exactly (λ v. zoneHours v ≤ 13 → zoneMinutes v ≤ 59 → IsZone v) (bytes "+dd") z
-    (λ a ha b hb v l. rw (no-more v (omega arith)) (λ h m. Words.eastHours (upTo (two a b ha hb) h))))
+    (λ a ha b hb v l. rw (no-more v (omega arith)) (λ h m. WordRules.eastHours (upTo (two a b ha hb) h))))
     (by-exactly (λ v. zoneHours v ≤ 13 → zoneMinutes v ≤ 59 → IsZone v) (bytes "+dd:dd") z
-    (λ a ha b hb c hc d hd v l. rw (no-more v (omega arith)) (λ h m. Words.east (upTo (two a b ha hb) h) (upTo (two c d hc hd) m))))
+    (λ a ha b hb c hc d hd v l. rw (no-more v (omega arith)) (λ h m. WordRules.east (upTo (two a b ha hb) h) (upTo (two c d hc hd) m))))
 
 west-by : (z : List ℕ) → (exactly (bytes "-dd") z || exactly (bytes "-dd:dd") z) ≡ true → zoneHours z ≤ 12
     → zoneMinutes z ≤ 59
@@ -41,9 +41,9 @@ west-by z e =
     let P : List ℕ → Type 0 = λ v. zoneHours v ≤ 12 → zoneMinutes v ≤ 59 → 1 ≤ zoneHours v + zoneMinutes v → IsZone v in
     or-cases (exactly (bytes "-dd") z) (exactly (bytes "-dd:dd") z) e
     (by-exactly P (bytes "-dd") z
-    (λ a ha b hb v l. rw (no-more v (omega arith)) (λ h m n. Words.westHours (upTo (two a b ha hb) h) (omega arith))))
+    (λ a ha b hb v l. rw (no-more v (omega arith)) (λ h m n. WordRules.westHours (upTo (two a b ha hb) h) (omega arith))))
     (by-exactly P (bytes "-dd:dd") z
-    (λ a ha b hb c hc d hd v l. rw (no-more v (omega arith)) (λ h m n. Words.west (upTo (two a b ha hb) h) (upTo (two c d hc hd) m) (omega arith))))
+    (λ a ha b hb c hc d hd v l. rw (no-more v (omega arith)) (λ h m n. WordRules.west (upTo (two a b ha hb) h) (upTo (two c d hc hd) m) (omega arith))))
 
 zone-by : (z : List ℕ) → zone z ≡ true → IsZone z
 unfolding zone
@@ -55,8 +55,8 @@ zone-by z t =
     or-cases (empty || utc || plus && east z) (minus && west z) t
     (λ t. or-cases (empty || utc) (plus && east z) t
     (λ t. or-cases empty utc t
-    (λ e. subst IsZone (sym (no-more z (eqb-true (length z) 0 e))) Words.none)
-    (λ e. subst IsZone (same-eq (bytes "Z") z e) Words.utc))
+    (λ e. subst IsZone (sym (no-more z (eqb-true (length z) 0 e))) WordRules.none)
+    (λ e. subst IsZone (same-eq (bytes "Z") z e) WordRules.utc))
     (λ t. let e = and-right plus (east z) t in
     east-by z (and-left plus (east z) t) (le-left (zoneHours z) 13 (leb (zoneMinutes z) 59) e) (le-right (leb (zoneHours z) 13) (zoneMinutes z) 59 e)))
     (λ t.
@@ -70,22 +70,22 @@ zone-by z t =
 -- a zone of the rule is found good
 zone-of : {z : List ℕ} → IsZone z → zone z ≡ true
 unfolding zone same shaped valueOf
-zone-of Words.none = refl
-zone-of Words.utc = refl
-zone-of (Words.eastHours (upTo h l)) = go (fixed-row h) l
+zone-of WordRules.none = refl
+zone-of WordRules.utc = refl
+zone-of (WordRules.eastHours (upTo h l)) = go (fixed-row h) l
   where
     go : {h : List ℕ} {hours : ℕ} → Row 2 0 h hours → hours ≤ 13 → zone (byte "+" ∷ h) ≡ true
     go (more a (more b done)) l = rw (a, b, le-leb _ 13 l)
-zone-of (Words.east (upTo h l) (upTo m k)) = go (fixed-row h) (fixed-row m) l k
+zone-of (WordRules.east (upTo h l) (upTo m k)) = go (fixed-row h) (fixed-row m) l k
   where
     go : {h m : List ℕ} {hours minutes : ℕ} → Row 2 0 h hours → Row 2 0 m minutes → hours ≤ 13 → minutes ≤ 59
         → zone (byte "+" ∷ (h ++ (byte ":" ∷ m))) ≡ true
     go (more a (more b done)) (more c (more d done)) l k = rw (a, b, c, d, le-leb _ 13 l, le-leb _ 59 k)
-zone-of (Words.westHours (upTo h l) n) = go (fixed-row h) l (omega arith)
+zone-of (WordRules.westHours (upTo h l) n) = go (fixed-row h) l (omega arith)
   where
     go : {h : List ℕ} {hours : ℕ} → Row 2 0 h hours → hours ≤ 12 → 1 ≤ hours + 0 → zone (byte "-" ∷ h) ≡ true
     go (more a (more b done)) l n = rw (a, b, le-leb _ 12 l, le-leb 1 _ n)
-zone-of (Words.west (upTo h l) (upTo m k) n) = go (fixed-row h) (fixed-row m) l k (omega arith)
+zone-of (WordRules.west (upTo h l) (upTo m k) n) = go (fixed-row h) (fixed-row m) l k (omega arith)
   where
     go : {h m : List ℕ} {hours minutes : ℕ} → Row 2 0 h hours → Row 2 0 m minutes → hours ≤ 12 → minutes ≤ 59
         → 1 ≤ hours + minutes
@@ -98,12 +98,12 @@ zone-word z = (zone-by z, zone-of)
 -- no zone begins with `:`
 no-colon : {z : List ℕ} → IsZone z → (shape : List ℕ) → shaped (byte ":" ∷ shape) z ≡ false
 unfolding shaped
-no-colon Words.none shape = refl
-no-colon Words.utc shape = refl
-no-colon (Words.eastHours h) shape = refl
-no-colon (Words.east h m) shape = refl
-no-colon (Words.westHours h n) shape = refl
-no-colon (Words.west h m n) shape = refl
+no-colon WordRules.none shape = refl
+no-colon WordRules.utc shape = refl
+no-colon (WordRules.eastHours h) shape = refl
+no-colon (WordRules.east h m) shape = refl
+no-colon (WordRules.westHours h n) shape = refl
+no-colon (WordRules.west h m n) shape = refl
 
 -- a time that is read is one of the rule
 good-by : (P : ℕ → Type 0) (good : Bool) (parts : ℕ) → (good ≡ true → P parts) → Each P (goodTime good parts)
@@ -112,14 +112,14 @@ good-by P good parts f = by-cond (Each P) good (λ e. some-each P parts (f e)) (
 hour-by : (w : List ℕ) → shaped (bytes "dd") w ≡ true → digitsAt 0 2 w ≤ 23 → IsZone (drop 2 w) → IsTime w 1
 hour-by w =
     by-shape (λ v. digitsAt 0 2 v ≤ 23 → IsZone (drop 2 v) → IsTime v 1) (bytes "dd") w
-    (λ a ha b hb z h k. Words.hour (upTo (two a b ha hb) h) k)
+    (λ a ha b hb z h k. WordRules.hour (upTo (two a b ha hb) h) k)
 
 minute-by : (w : List ℕ) → shaped (bytes "dd:dd") w ≡ true → digitsAt 0 2 w ≤ 23 → digitsAt 3 2 w ≤ 59
     → IsZone (drop 5 w)
     → IsTime w 2
 minute-by w =
     by-shape (λ v. digitsAt 0 2 v ≤ 23 → digitsAt 3 2 v ≤ 59 → IsZone (drop 5 v) → IsTime v 2) (bytes "dd:dd") w
-    (λ a ha b hb c hc d hd z h m k. Words.minute (upTo (two a b ha hb) h) (upTo (two c d hc hd) m) k)
+    (λ a ha b hb c hc d hd z h m k. WordRules.minute (upTo (two a b ha hb) h) (upTo (two c d hc hd) m) k)
 
 second-by : (w : List ℕ) → shaped (bytes "dd:dd:dd") w ≡ true → digitsAt 0 2 w ≤ 23 → digitsAt 3 2 w ≤ 59
     → digitsAt 6 2 w ≤ 59
@@ -127,7 +127,7 @@ second-by : (w : List ℕ) → shaped (bytes "dd:dd:dd") w ≡ true → digitsAt
     → IsTime w 3
 second-by w =
     by-shape (λ v. digitsAt 0 2 v ≤ 23 → digitsAt 3 2 v ≤ 59 → digitsAt 6 2 v ≤ 59 → IsZone (drop 8 v) → IsTime v 3) (bytes "dd:dd:dd") w
-    (λ a ha b hb c hc d hd e he f hf z h m s k. Words.second (upTo (two a b ha hb) h) (upTo (two c d hc hd) m) (upTo (two e f he hf) s) k)
+    (λ a ha b hb c hc d hd e he f hf z h m s k. WordRules.second (upTo (two a b ha hb) h) (upTo (two c d hc hd) m) (upTo (two e f he hf) s) k)
 
 time-by : (w : List ℕ) → Each (IsTime w) (timeOf w)
 unfolding timeOf
@@ -170,9 +170,9 @@ second-of (more a (more b done)) (more c (more d done)) (more e (more f done)) l
     rw (a, b, c, d, e, f, le-leb _ 23 l, le-leb _ 59 k, le-leb _ 59 j, zone-of z)
 
 time-of : {w : List ℕ} {parts : ℕ} → IsTime w parts → timeOf w ≡ some parts
-time-of (Words.hour (upTo h l) z) = hour-of (fixed-row h) l z
-time-of (Words.minute (upTo h l) (upTo m k) z) = minute-of (fixed-row h) (fixed-row m) l k z
-time-of (Words.second (upTo h l) (upTo m k) (upTo s j) z) = second-of (fixed-row h) (fixed-row m) (fixed-row s) l k j z
+time-of (WordRules.hour (upTo h l) z) = hour-of (fixed-row h) l z
+time-of (WordRules.minute (upTo h l) (upTo m k) z) = minute-of (fixed-row h) (fixed-row m) l k z
+time-of (WordRules.second (upTo h l) (upTo m k) (upTo s j) z) = second-of (fixed-row h) (fixed-row m) (fixed-row s) l k j z
 
 pub time-word : (w : List ℕ) (parts : ℕ) → (timeOf w ≡ some parts) ↔ IsTime w parts
 time-word w parts = (time-by w parts, time-of)

@@ -8,27 +8,27 @@ use native.Mathlib.Omega.{arith}
 use lib.Dec.{eqb, leb}
 use lib.ListN.{length, drop}
 use borrow.Author.Tests.{eqb-true, leb-true, leb-false, le-leb, lt-leb, eq-eqb, ne-eqb}
 use Rattle.lexis.specs.Text.{byte, bytes}
 use Rattle.lexis.specs.Bytes.{is, sortOf, small, capital, wordByte, stringByte, runByte}
 use Rattle.lexis.specs.Runs.{past, byteAt, part, all, startsWith, same, StandsAt}
 use Rattle.lexis.specs.Blanks.{tokenStart}
 use Rattle.lexis.specs.Spelling
 use Rattle.lexis.specs.Spelling.{literal, wordSort}
 use Rattle.lexis.specs.Tokens.{token, noToken, spelled, quoted, unreadable, typeName, name}
 use Rattle.lexis.specs.DataTokens.{dataMarks, nameSort, runSort, typeSort, dataTokenOn, dataTokenAt, typeTokenAt}
 use Rattle.lexis.specs.declared.Token.{Token}
 use Rattle.lexis.proofs.Cases.{by-cond, and-left}
 use Rattle.lexis.proofs.Parts.{part-length}
 use Rattle.lexis.proofs.Places.{run-between, run-strict}
 use Rattle.lexis.proofs.RunLaws.{first-inside, first-read}
 use Rattle.lexis.proofs.ReadBack.{quoted-read}
-use Rattle.rules_grammar.specs.Spellings.{Small, Capital, WordByte, RunByte, StringByte, All, none, more, CapitalWord, capitalWord, SmallWord, smallWord, Quoted, SpellsData}
-use Rattle.rules_grammar.specs.Spellings
-use Rattle.rules_grammar.specs.LongestMatch.{Separates, SpelledAt, LongestAt, RunAt, OpensSmall, opensSmall, Classed, aName, noName, aWord, ClassedBehind, aType, noType, NextDataIs}
-use Rattle.rules_grammar.proofs.TestLaws.{true-or-false, false-true, same-eq, same-ne}
-use Rattle.rules_grammar.proofs.SpelledAtLaws.{part-first, spelled-cases, string-here}
-use Rattle.rules_grammar.proofs.SeparatorLaws.{separated}
-use Rattle.rules_grammar.proofs.ByteRules.{is-small, is-capital, is-word-byte, is-run-byte, is-string-byte, is-all, part-splits, past-all, past-next, past-is}
+use Rattle.lexis.specs.SpellingRules.{Small, Capital, WordByte, RunByte, StringByte, All, none, more, CapitalWord, capitalWord, SmallWord, smallWord, Quoted, SpellsData}
+use Rattle.lexis.specs.SpellingRules
+use Rattle.lexis.specs.LongestMatch.{Separates, SpelledAt, LongestAt, RunAt, OpensSmall, opensSmall, Classed, aName, noName, aWord, ClassedBehind, aType, noType, NextDataIs}
+use Rattle.lexis.proofs.TestLaws.{true-or-false, false-true, same-eq, same-ne}
+use Rattle.lexis.proofs.SpelledAtLaws.{part-first, spelled-cases, string-here}
+use Rattle.lexis.proofs.SeparatorLaws.{separated}
+use Rattle.lexis.proofs.ByteRules.{is-small, is-capital, is-word-byte, is-run-byte, is-string-byte, is-all, part-splits, past-all, past-next, past-is}
 
 -- one value has what a relation says of at most one
 pub by-one : {A : Type 0} (P : A → Type 0) (d : A) → P d → ((x y : A) → P x → P y → x ≡ y) → (t : A) → (d ≡ t) ↔ P t
@@ -161,7 +161,7 @@ module _ (sorted : List ℕ → ℕ → ℕ) (Class : List ℕ → ℕ → Type 
     spelled-read SpellsData.equals rest h = mark-token _ rest h refl refl
     spelled-read SpellsData.openRound rest h = mark-token _ rest h refl refl
     spelled-read SpellsData.closeRound rest h = mark-token _ rest h refl refl
-    spelled-read (SpellsData.string (Spellings.quoted {w = w} a)) rest h =
+    spelled-read (SpellsData.string (SpellingRules.quoted {w = w} a)) rest h =
         rw (lt-leb (length s) at (first-inside s at _ _ h), first-read s at _ _ h) (quoted-read s at w rest h (is-all StringByte stringByte is-string-byte w .1 a))
 
     spelled-token : {sort end : ℕ} → SpelledAt SpellsData s at sort end → dataTokenOn sorted s at ≡ token sort at end

@@ -8,22 +8,22 @@ use lib.Dec.{eqb, leb}
 use lib.ListN.{length, drop, length-append, length-take, take-append-drop}
 use borrow.Author.Tests.{eqb-true, eqb-false, leb-true}
 use lib.Seq.{drop-drop}
 use Rattle.lexis.specs.Text.{byte, bytes}
 use Rattle.lexis.specs.Bytes.{is, digit, small, capital, mark, wordByte, stringByte}
 use Rattle.lexis.specs.Runs.{past, byteAt, startsWith, shaped, all, same}
 use Rattle.lexis.specs.Spelling.{Literal, wordSort, markSpellings, keywords, elementSign, booleans, datePatternSpellings, timePatternSpellings, codeStart, dateShape, trueWord, falseWord, matches, existence}
 use Rattle.lexis.specs.Tokens.{token, noToken, spelled, word, number, sign, quoted, codeEnd, bracket, special, tokenOn, typeName, name}
 use Rattle.lexis.specs.Tokens
 use Rattle.lexis.specs.declared.Token.{Token}
 use Rattle.lexis.proofs.Cases.{by-cond, and-left, and-right}
 use Rattle.lexis.proofs.Places.{capital-word, small-word, byte-inside, drop-in, shaped-long}
 use Rattle.lexis.proofs.RunLaws.{part-read}
-use Rattle.rules_grammar.specs.Spellings.{Digit, WordByte, All, Digits, CapitalWord, SmallWord, Spells}
-use Rattle.rules_grammar.specs.LongestMatch.{SpelledAt}
-use Rattle.rules_grammar.proofs.TestLaws.{same-eq, same-ne}
-use Rattle.rules_grammar.proofs.ByteRules.{is-digit, is-small, is-capital, is-word-byte, is-all, past-splits}
-use Rattle.rules_grammar.proofs.SpelledAtLaws.{Each, spelled-at, starts-whole, spelled-cases, string-here}
-use Rattle.rules_grammar.proofs.NumberLaws.{digit-some, date-spelled, is-grouped, code-split}
+use Rattle.lexis.specs.SpellingRules.{Digit, WordByte, All, Digits, CapitalWord, SmallWord, Spells}
+use Rattle.lexis.specs.LongestMatch.{SpelledAt}
+use Rattle.lexis.proofs.TestLaws.{same-eq, same-ne}
+use Rattle.lexis.proofs.ByteRules.{is-digit, is-small, is-capital, is-word-byte, is-all, past-splits}
+use Rattle.lexis.proofs.SpelledAtLaws.{Each, spelled-at, starts-whole, spelled-cases, string-here}
+use Rattle.lexis.proofs.NumeralLaws.{digit-some, date-spelled, is-grouped, code-split}
 
 -- what stands at a place: nothing that can be read, or a token that is spelled there
 pub data Reads (s : List ℕ) (at : ℕ) : Token → Type 0 where

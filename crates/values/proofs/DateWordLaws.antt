@@ -8,15 +8,15 @@ use native.Mathlib.Omega.{arith}
 use Rattle.lexis.specs.Text.{byte, bytes}
 use Rattle.lexis.specs.Runs.{shaped}
 use Rattle.lexis.proofs.Cases.{by-cond}
 use Rattle.values.specs.Calendar.{real, packed}
 use Rattle.values.specs.Integers.{valueOf}
 use Rattle.values.specs.Dates.{Date, exactly, digitsAt, realDate, dateOf}
 use Rattle.values.specs.Days.{IsDay, packedDay}
 use Rattle.values.proofs.Common.{Each, none-each, some-each}
 use Rattle.values.proofs.DayLaws.{day-real, packed-day}
-use Rattle.rules_grammar.specs.Words.{IsDate}
-use Rattle.rules_grammar.specs.Words
-use Rattle.rules_grammar.proofs.DigitLaws.{no-more, Row, done, more, fixed-row, by-exactly, two, two-most, four}
+use Rattle.values.specs.WordRules.{IsDate}
+use Rattle.values.specs.WordRules
+use Rattle.values.proofs.DigitLaws.{no-more, Row, done, more, fixed-row, by-exactly, two, two-most, four}
 
 -- what is read is a date of the rule
 real-by : (w : List ℕ) (parts y m d : ℕ) → m ≤ 99 → d ≤ 99
@@ -30,15 +30,15 @@ unfolding dateOf
 date-by w =
     by-cond (Each (IsDate w)) (exactly (bytes "dddd") w)
     (by-exactly (λ v. Each (IsDate v) (realDate 1 (packed (digitsAt 0 4 v) 1 1))) (bytes "dddd") w
-    (λ a ha b hb c hc d hd z l. rw (no-more z (omega arith)) (real-by _ 1 _ 1 1 (omega arith) (omega arith) (Words.year (four a b c d ha hb hc hd)))))
+    (λ a ha b hb c hc d hd z l. rw (no-more z (omega arith)) (real-by _ 1 _ 1 1 (omega arith) (omega arith) (WordRules.year (four a b c d ha hb hc hd)))))
     (λ n. by-cond (Each (IsDate w)) (exactly (bytes "dddd-dd") w)
     (by-exactly (λ v. Each (IsDate v) (realDate 2 (packed (digitsAt 0 4 v) (digitsAt 5 2 v) 1))) (bytes "dddd-dd") w
     (λ a ha b hb c hc d hd e he f hf z l. rw (no-more z (omega arith))
-    (real-by _ 2 _ _ 1 (two-most e f he hf) (omega arith) (Words.month (four a b c d ha hb hc hd) (two e f he hf)))))
+    (real-by _ 2 _ _ 1 (two-most e f he hf) (omega arith) (WordRules.month (four a b c d ha hb hc hd) (two e f he hf)))))
     (λ m. by-cond (Each (IsDate w)) (exactly (bytes "dddd-dd-dd") w)
     (by-exactly (λ v. Each (IsDate v) (realDate 3 (packed (digitsAt 0 4 v) (digitsAt 5 2 v) (digitsAt 8 2 v)))) (bytes "dddd-dd-dd") w
     (λ a ha b hb c hc d hd e he f hf g hg h hh z l. rw (no-more z (omega arith))
-    (real-by _ 3 _ _ _ (two-most e f he hf) (two-most g h hg hh) (Words.day (four a b c d ha hb hc hd) (two e f he hf) (two g h hg hh)))))
+    (real-by _ 3 _ _ _ (two-most e f he hf) (two-most g h hg hh) (WordRules.day (four a b c d ha hb hc hd) (two e f he hf) (two g h hg hh)))))
     (λ k. none-each (IsDate w))))
 
 -- a date of the rule is read
@@ -58,9 +58,9 @@ unfolding dateOf shaped valueOf
 day-of (more a (more b (more c (more d done)))) (more e (more f done)) (more g (more h done)) i = rw (a, b, c, d, e, f, g, h, packed-day _ .1 (packedDay i))
 
 date-of : {w : List ℕ} {d : Date} → IsDate w d → dateOf w ≡ some d
-date-of (Words.year y i) = year-of (fixed-row y) i
-date-of (Words.month y m i) = month-of (fixed-row y) (fixed-row m) i
-date-of (Words.day y m d i) = day-of (fixed-row y) (fixed-row m) (fixed-row d) i
+date-of (WordRules.year y i) = year-of (fixed-row y) i
+date-of (WordRules.month y m i) = month-of (fixed-row y) (fixed-row m) i
+date-of (WordRules.day y m d i) = day-of (fixed-row y) (fixed-row m) (fixed-row d) i
 
 pub date-word : (w : List ℕ) (d : Date) → (dateOf w ≡ some d) ↔ IsDate w d
 date-word w d = (date-by w d, date-of)
