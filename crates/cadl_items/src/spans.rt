@@ -1,12 +1,11 @@
 // Items by twos in numbers: item i stands at 2i and 2i + 1. A span is an item that names two places of a text.
-use lexis::runs::letter;
 use refusals::limits::ITEM_LIMIT;
 ghost use mathlib.Core.Path.{_≡_};
-ghost use Prim.Native.Nat.{_+_, _*_, _^_, _≤_, _<_};
+ghost use Prim.Native.Nat.{_+_, _*_, _^_, _<_};
 ghost use lib.ListN.{length, getD};
-ghost use Rattle.lexis.specs.Runs.{part, listed};
+ghost use Rattle.lexis.specs.Runs.{listed};
 ghost use Rattle.refusals.specs.Limits.{itemLimit};
-ghost use Rattle.cadl_items.specs.contracts.Spans.{withItem, earlier, SpansIn};
+ghost use Rattle.cadl_items.specs.contracts.Spans.{withItem, spanAt, earlier, SpanLies, SpansIn};
 
 // Numbers of the scratch of a leaf: two for each item.
 pub const SCRATCH_ROOM: usize = 2 * ITEM_LIMIT;
@@ -34,40 +33,39 @@ fn number(spans: &[u32], i: usize) -> usize
     place(spans[i])
 }
 
-// Whether the bytes from `start` up to `stop` are those of a span from `first` on, up to `end`.
-pub fn repeated(
-    s: &[u8],
-    spans: &[u32],
-    first: usize,
-    end: usize,
-    start: usize,
-    stop: usize,
-) -> bool
+// The bytes of span i.
+fn span_bytes<'a>(s: &'a [u8], spans: &[u32], i: usize) -> &'a [u8]
+    requires { ⌜ SpanLies (now s) (now spans) i ⌝ }
+    ensures { λ r. ⌜ now r ≡ spanAt (now (s .entry)) (now (spans .entry)) i ⌝ }
+{
+    let start = number(spans, 2 * i);
+    let end = number(spans, 2 * i + 1);
+    &s[start..end]
+}
+
+// Whether bytes are those of a span from `first` on, up to `end`.
+pub fn repeated(s: &[u8], spans: &[u32], first: usize, end: usize, name: &[u8]) -> bool
     requires { ⌜ SpansIn (now s) (now spans) first end ⌝ }
-    requires { ⌜ stop ≤ length (now s) ⌝ }
-    ensures { λ r. ⌜ r
-        ≡ listed (part (now (s .entry)) start stop) (earlier (now (s .entry)) (now (spans .entry)) first end) ⌝ }
+    ensures { λ r. ⌜ r ≡ listed (now (name .entry)) (earlier (now (s .entry)) (now (spans .entry)) first end) ⌝ }
 {
     let mut n = end;
     let mut again = false;
     'names: while first < n {
-        let k = n - 1;
-        let from = number(spans, 2 * k);
-        let to = number(spans, 2 * k + 1);
-        let mut i: usize = 0;
-        loop {
-            let x = letter(s, start + i, stop);
-            let y = letter(s, from + i, to);
-            if x != y {
-                break;
+        n -= 1;
+        let other = span_bytes(s, spans, n);
+        if name.len() == other.len() {
+            let mut i: usize = 0;
+            loop {
+                if i == name.len() {
+                    again = true;
+                    break 'names;
+                }
+                if name[i] != other[i] {
+                    break;
+                }
+                i += 1;
             }
-            if x == 0 {
-                again = true;
-                break 'names;
-            }
-            i += 1;
         }
-        n = k;
     }
     again
 }

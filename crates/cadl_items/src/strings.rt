@@ -105,7 +105,7 @@ fn keep_string(
     let place = t.start;
     let start = t.start + 1;
     let stop = t.end - 1;
-    if repeated(s, scratch, 0, count, start, stop) {
+    if repeated(s, scratch, 0, count, &s[start..stop]) {
         return StringRead::Faulty(Refusal {
             cause: Cause::Overlap,
             place,

@@ -144,7 +144,9 @@ fn attribute_name(
                     place: t.start,
                 });
             }
-            if repeated(s, names, first, top, t.start, t.end) {
+            let start = t.start;
+            let stop = t.end;
+            if repeated(s, names, first, top, &s[start..stop]) {
                 return Expected::Fault(Refusal {
                     cause: Cause::RepeatedName,
                     place: t.start,

@@ -3,6 +3,7 @@ pub mod TapeLaws
 pub mod GoodTapes
 pub mod TreeReading
 pub mod TextTape
+pub mod DataCauses
 pub mod Computes
 pub mod Examples
 mod TokenSteps

@@ -1,12 +1,12 @@
 -- What a step of the search for a repeated name and of the readers of names shows; and the names of a block's earlier rows. Assumes nothing.
 use mathlib.Core.Path.{_≡_, refl, sym, ap, _∙_}
-use mathlib.Core.Bool.{Bool, true, false}
+use mathlib.Core.Bool.{Bool, true, false, _||_}
 use mathlib.Core.List.{List, [], _∷_}
 use Prim.Native.Nat.{ℕ, _+_, _*_, _-_, _≤_, _<_}
 use native.Mathlib.Omega.{arith}
 use lib.ListN.{length, take, drop}
 use borrow.Author.Tests.{lt-ltb, le-ltb}
-use Rattle.lexis.specs.Runs.{letterAt, part, listed}
+use Rattle.lexis.specs.Runs.{part, same, listed}
 use Rattle.lexis.specs.Tokens.{spelling}
 use Rattle.lexis.specs.DataTokens.{equals}
 use Rattle.lexis.specs.declared.Token.{Token}
@@ -21,7 +21,7 @@ use Rattle.dadl.specs.Placed.{span}
 use Rattle.dadl.specs.Data.{expectData, nameFrom, spanOf}
 use Rattle.dadl.specs.contracts.Tape.{rowSize}
 use Rattle.refusals.specs.contracts.Answers.{ExpectIs}
-use Rattle.dadl.specs.contracts.Answers.{spanReading, SpanPast, SpanIs, ContentIs, contentOf, Inside, numberAt, nameAt, NameLies, earlierNames, Chain, Earlier, memberReading}
+use Rattle.dadl.specs.contracts.Answers.{spanReading, SpanPast, SpanIs, ContentIs, contentOf, Inside, numberAt, nameAt, NameLies, earlierNames, NamedRow, Chain, Earlier, memberReading}
 use Rattle.refusals.specs.declared.steps.Expected.{Expected}
 use Rattle.refusals.specs.declared.steps.Expected.the-variants.{Fault, Taken}
 use Rattle.dadl.specs.declared.tokens.SpanRead.{SpanRead}
@@ -30,8 +30,6 @@ use Rattle.dadl.specs.declared.contents.ContentStart.{ContentStart}
 use Rattle.dadl.specs.declared.contents.ContentStart.the-variants.{Faulty}
 use Rattle.refusals.proofs.StepLaws.{expected-fault, expected-token, expected-past}
 use Rattle.refusals.proofs.Parses.{first-then, then-refused, then-got}
-use Rattle.lexis.proofs.Comparing.{Comparing, differ-rest, end-same, next-letter}
-use Rattle.lexis.proofs.Comparing as comparing
 use Rattle.lexis.proofs.Parts.{part-length}
 use Rattle.dadl.proofs.ContentSteps.{content-lower}
 
@@ -53,108 +51,71 @@ module _ (s tape : List ℕ) (n start end : ℕ) (h : NameLies s tape n) (es : s
   pub name-is : take (end - start) (drop start s) ≡ nameAt s tape n
   name-is = rw (es, ee)
 
--- at row n of the search for the bytes from `start` up to `stop`
-pub record InNames (s tape : List ℕ) (low end start stop n : ℕ) (again : Bool) : Type 0 where
+-- at row n of the search for a name
+pub record InNames (s tape : List ℕ) (low end : ℕ) (name : List ℕ) (n : ℕ) (again : Bool) : Type 0 where
   pub names : List (List ℕ)
   pub chain : Chain s tape n end names
   pub least : n ≤ end
   pub room : rowSize * end ≤ length tape
-  pub span : Inside s start stop
   pub not-yet : again ≡ false
-  pub is : listed (part s start stop) names ≡ listed (part s start stop) (earlierNames s tape low end)
+  pub is : listed name names ≡ listed name (earlierNames s tape low end)
 
--- at letter i of the name of row n, which stands from `from` up to `to`
-pub record InLetters (s tape : List ℕ) (low end start stop n from to i : ℕ) (again : Bool) : Type 0 where
-  pub names : List (List ℕ)
-  pub chain : Chain s tape (numberAt tape n 8) end names
-  pub up : n < numberAt tape n 8
-  pub most : numberAt tape n 8 ≤ end
-  pub room : rowSize * end ≤ length tape
-  pub span : Inside s start stop
-  pub not-yet : again ≡ false
-  pub letters : Comparing s start stop from to i (listed (part s start stop) names)
-      (listed (part s start stop) (earlierNames s tape low end))
-
-pub names-start : (s tape : List ℕ) (low end start stop : ℕ) → Earlier s tape low end → Inside s start stop
-    → InNames s tape low end start stop low false
-names-start s tape low end start stop e h = record {
+pub names-start : (s tape : List ℕ) (low end : ℕ) (name : List ℕ) → Earlier s tape low end
+    → InNames s tape low end name low false
+names-start s tape low end name e = record {
   names = earlierNames s tape low end;
   chain = e .chain;
   least = chain-low s tape low end (earlierNames s tape low end) (e .chain);
   room = e .room;
-  span = h;
   not-yet = refl;
   is = refl;
 }
 
-module _ (s tape : List ℕ) (low end start stop n : ℕ) (again : Bool) (inv : InNames s tape low end start stop n again) where
-  none-left : (ws : List (List ℕ)) → Chain s tape n end ws → end ≤ n → listed (part s start stop) ws ≡ false
+module _ (s tape : List ℕ) (low end : ℕ) (name : List ℕ) (n : ℕ) (again : Bool)
+    (inv : InNames s tape low end name n again) where
+  none-left : (ws : List (List ℕ)) → Chain s tape n end ws → end ≤ n → listed name ws ≡ false
   unfolding Chain listed
   none-left [] h l = refl
   none-left (w ∷ ws) h l = absurd (omega arith)
 
-  pub names-end : end ≤ n → again ≡ listed (part s start stop) (earlierNames s tape low end)
+  pub names-end : end ≤ n → again ≡ listed name (earlierNames s tape low end)
   names-end l = inv .not-yet ∙ sym (none-left (inv .names) (inv .chain) l) ∙ inv .is
 
-  -- the row's name, and those behind it
-  enter : (ws : List (List ℕ)) → Chain s tape n end ws → n < end
-      → listed (part s start stop) ws ≡ listed (part s start stop) (earlierNames s tape low end)
-      → InLetters s tape low end start stop n (numberAt tape n 1) (numberAt tape n 2) 0 again
-  unfolding Chain listed
-  enter [] h l e = absurd (omega arith)
-  enter (w ∷ ws) h l e =
-      let r = h .0 in
-      let g = inv .span in
-      record {
-        names = ws;
-        chain = h .1;
-        up = r .up;
-        most = r .most;
-        room = inv .room;
-        span = g;
-        not-yet = inv .not-yet;
-        letters = record { here = omega arith; there = omega arith; inside = g .inside; lies = r .inside; is = rw (r .is) e };
-      }
+  module _ (l : n < end) where
+    -- the row's name, and those behind it
+    record AtName : Type 0 where
+      more : List (List ℕ)
+      row : NamedRow s tape n end (nameAt s tape n)
+      behind : Chain s tape (numberAt tape n 8) end more
+      is : (same name (nameAt s tape n) || listed name more) ≡ listed name (earlierNames s tape low end)
 
-  pub names-in : (from to : ℕ) → n < end → from ≡ numberAt tape n 1 → to ≡ numberAt tape n 2
-      → InLetters s tape low end start stop n from to 0 again
-  names-in from to l e f = rw (e, f) (enter (inv .names) (inv .chain) l (inv .is))
+    at-name : AtName
+    unfolding Chain listed
+    at-name = by (inv .names) (inv .chain) (inv .is)
+      where
+        by : (ws : List (List ℕ)) → Chain s tape n end ws → listed name ws ≡ listed name (earlierNames s tape low end)
+            → AtName
+        by [] h e = absurd (omega arith)
+        by (w ∷ ws) h e =
+            let r = h .0 in
+            record { more = ws; row = record { is = refl; order = r .order; inside = r .inside; up = r .up; most = r .most }; behind = h .1; is = rw (r .is) e }
 
-module _ (s tape : List ℕ) (low end start stop n from to i : ℕ) (again : Bool)
-    (inv : InLetters s tape low end start stop n from to i again) (x y : ℕ) (ex : x ≡ letterAt s (start + i) stop)
-    (ey : y ≡ letterAt s (from + i) to) where
-  pub letters-differ : (l : ℕ) → (x ≡ y → ⊥) → l ≡ numberAt tape n 8 → InNames s tape low end start stop l again
-  letters-differ l d e = rw e (record {
-    names = inv .names;
-    chain = inv .chain;
-    least = inv .most;
-    room = inv .room;
-    span = inv .span;
-    not-yet = inv .not-yet;
-    is = differ-rest _ _ _ _ _ _ _ _ (inv .letters) x y ex ey d;
-  })
+    pub name-lies : NameLies s tape n
+    name-lies = let r = at-name .row in let m = inv .room in record { room = omega arith; order = r .order; inside = r .inside }
 
-  pub names-less : (l : ℕ) → l ≡ numberAt tape n 8 → end - l < end - n
-  names-less l e = omega arith
+    pub link-lies : rowSize * n + 8 < length tape
+    link-lies = let m = inv .room in omega arith
 
-  pub letters-end : x ≡ y → x ≡ 0 → true ≡ listed (part s start stop) (earlierNames s tape low end)
-  letters-end e z = end-same _ _ _ _ _ _ _ _ (inv .letters) x y ex ey e z
+    pub names-less : (next : ℕ) → next ≡ numberAt tape n 8 → end - next < end - n
+    names-less next e = let r = at-name .row in omega arith
 
-  module _ (e : x ≡ y) (z : x ≡ 0 → ⊥) where
-    pub letters-on : InLetters s tape low end start stop n from to (i + 1) again
-    letters-on = record {
-      names = inv .names;
-      chain = inv .chain;
-      up = inv .up;
-      most = inv .most;
-      room = inv .room;
-      span = inv .span;
-      not-yet = inv .not-yet;
-      letters = next-letter _ _ _ _ _ _ _ _ (inv .letters) x y ex ey e z;
-    }
+    module _ (other : List ℕ) (eo : other ≡ nameAt s tape n) where
+      pub names-found : true ≡ same name other → true ≡ listed name (earlierNames s tape low end)
+      names-found h = rw (← eo, ← h) at (at-name .is)
 
-    pub letters-less : stop - (start + (i + 1)) < stop - (start + i)
-    letters-less = comparing.letters-less _ _ _ _ _ _ _ _ (inv .letters) x y ex ey e z
+      pub names-next : (r : Bool) → r ≡ false → false ≡ same name other → (next : ℕ) → next ≡ numberAt tape n 8
+          → InNames s tape low end name next r
+      names-next r k h next e = rw e (record { names = at-name .more; chain = at-name .behind; least = at-name .row .most; room = inv .room; not-yet = k; is = rw (← eo, ← h) at (at-name .is) })
 
 -- a name and its `=`
 module _ (s : List ℕ) (seen : List (List ℕ)) (t : Token) (inside : Inside s (t .start) (t .end)) where

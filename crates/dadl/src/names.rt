@@ -2,11 +2,11 @@
 use crate::contents::ContentStart;
 use crate::contents::content_start;
 use crate::rows::number;
+use crate::rows::row_name;
 use crate::tokens::SpanRead;
 use crate::tokens::expect_data;
 use lexis::EQUALS;
 use lexis::Token;
-use lexis::runs::letter;
 use refusals::Cause;
 use refusals::Refusal;
 use refusals::limits::NAME_LIMIT;
@@ -14,35 +14,32 @@ use refusals::steps::Expected;
 use refusals::steps::too_long;
 ghost use mathlib.Core.Path.{_≡_};
 ghost use Prim.Native.Nat.{_+_};
-ghost use Rattle.lexis.specs.Runs.{part, listed};
+ghost use Rattle.lexis.specs.Runs.{listed};
 ghost use Rattle.refusals.specs.Parsing.{firstIn};
 ghost use Rattle.dadl.specs.Data.{nameFrom};
 ghost use Rattle.dadl.specs.contracts.Answers.{Inside, Earlier, earlierNames, SpanIs, ContentIs, memberReading};
 
-// Whether the bytes from `start` up to `stop` are a name of the rows from `first` on, from link to link, up to `end`.
-fn repeated(s: &[u8], tape: &[u16], first: usize, end: usize, start: usize, stop: usize) -> bool
+// Whether bytes are a name of the rows from `first` on, from link to link, up to `end`.
+fn repeated(s: &[u8], tape: &[u16], first: usize, end: usize, name: &[u8]) -> bool
     requires { ⌜ Earlier (now s) (now tape) first end ⌝ }
-    requires { ⌜ Inside (now s) start stop ⌝ }
-    ensures { λ r. ⌜ r
-        ≡ listed (part (now (s .entry)) start stop) (earlierNames (now (s .entry)) (now (tape .entry)) first end) ⌝ }
+    ensures { λ r. ⌜ r ≡ listed (now (name .entry)) (earlierNames (now (s .entry)) (now (tape .entry)) first end) ⌝ }
 {
     let mut n = first;
     let mut again = false;
     'names: while n < end {
-        let from = number(tape, n, 1);
-        let to = number(tape, n, 2);
-        let mut i: usize = 0;
-        loop {
-            let x = letter(s, start + i, stop);
-            let y = letter(s, from + i, to);
-            if x != y {
-                break;
+        let other = row_name(s, tape, n);
+        if name.len() == other.len() {
+            let mut i: usize = 0;
+            loop {
+                if i == name.len() {
+                    again = true;
+                    break 'names;
+                }
+                if name[i] != other[i] {
+                    break;
+                }
+                i += 1;
             }
-            if x == 0 {
-                again = true;
-                break 'names;
-            }
-            i += 1;
         }
         n = number(tape, n, 8);
     }
@@ -60,7 +57,9 @@ fn name_from(s: &[u8], tape: &[u16], first: usize, end: usize, t: Token) -> Span
         let fault = too_long(t);
         return SpanRead::Bad(fault);
     }
-    if repeated(s, tape, first, end, t.start, t.end) {
+    let start = t.start;
+    let stop = t.end;
+    if repeated(s, tape, first, end, &s[start..stop]) {
         return SpanRead::Bad(Refusal {
             cause: Cause::RepeatedName,
             place: t.start,

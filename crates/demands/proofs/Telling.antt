@@ -38,7 +38,7 @@ use Rattle.rules_faults.proofs.Outcomes.{Lies}
 use Rattle.rules_faults.proofs.Scanned
 use Rattle.rules_faults.proofs.ConstraintScanned
 use Rattle.demands.specs.Demands.{Demand1, TooShort}
-use Rattle.demands.specs.Told.{Told, InText, overLong, inside, AtEnd, atEnd, InTable, whole, oneRecord, AsAsked, asAsked, OfBoth, joined, joinedLength, MergeTold, ofFirst, ofSecond, ofNeither}
+use Rattle.demands.specs.Told.{Told, InText, overLong, inside, DataTold, AtEnd, atEnd, InTable, whole, oneRecord, AsAsked, asAsked, OfBoth, joined, joinedLength, MergeTold, ofFirst, ofSecond, ofNeither}
 use Rattle.demands.proofs.Rules.{refused-only, unread-least}
 use Rattle.demands.proofs.Failures.{failure-told}
 
@@ -77,20 +77,20 @@ name-told bs n r (noTable h) = inl (table-told bs r h)
 name-told bs n r (noName t h) = inr (record { sort = Numbers.asked; row = Numbers.noName; place = asAsked })
 
 judge-told : (table : List ℕ) (root : ℕ) (form : List ℕ) (r : Refusal)
-    → judgeAnswer table root form ≡ Outcomes.refused r → Told (InTable table) r ⊎ Told (AsAsked root) r ⊎ Told (InText form) r
+    → judgeAnswer table root form ≡ Outcomes.refused r → Told (InTable table) r ⊎ Told (AsAsked root) r ⊎ DataTold form r
 unfolding numberOf judgeAnswer
 judge-told table root form r h = by (tableFault table) refl
   where
     under : tableFault table ≡ none → (o : Option Object) → objectAt (imageOf table) root ≡ o
-        → Told (InTable table) r ⊎ Told (AsAsked root) r ⊎ Told (InText form) r
+        → Told (InTable table) r ⊎ Told (AsAsked root) r ⊎ DataTold form r
     under e none f =
         let k : refusal NotAnObject root ≡ r = same-refusal (rw (e, f) at h) in
         inr (inl (subst (Told (AsAsked root)) k (record { sort = Numbers.asked; row = Numbers.notAnObject; place = asAsked })))
     under e (some o) f =
         let l = unread-least table root form o (SaysLaws.says-there table root o e f) r h in
-        inr (inr (text-told form r (Scanned.fault-lies levelLimit form r (l .one))))
+        inr (inr (record { told = text-told form r (Scanned.fault-lies levelLimit form r (l .one)); cause = Scanned.fault-of levelLimit form r (l .one) }))
 
-    by : (t : Option Refusal) → tableFault table ≡ t → Told (InTable table) r ⊎ Told (AsAsked root) r ⊎ Told (InText form) r
+    by : (t : Option Refusal) → tableFault table ≡ t → Told (InTable table) r ⊎ Told (AsAsked root) r ⊎ DataTold form r
     by none e = under e (objectAt (imageOf table) root) refl
     by (some x) e = inl (table-told table r (TableRuleLaws.no-table table r .0 (let k : x ≡ r = same-refusal (rw e at h) in rw k at e)))
 

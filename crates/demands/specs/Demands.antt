@@ -58,7 +58,7 @@ use Rattle.rules_grammar.specs.FirstFailure.{FirstFailure}
 use Rattle.rules_faults.specs.Faults.{Least, Alike}
 use Rattle.rules_faults.specs.ConstraintFaults
 use Rattle.rules_faults.specs.DataFaults
-use Rattle.demands.specs.Told.{Told, InText, AtEnd, InTable, AsAsked, MergeTold, FailureTold}
+use Rattle.demands.specs.Told.{Told, InText, DataTold, AtEnd, InTable, AsAsked, MergeTold, FailureTold}
 
 -- what two texts alone mean: no table is made on the way. (A constraint text that is refused has no meaning; its refusal stands in, and demand 3 never asks for it.)
 unfoldable pub meaningOf : List ℕ → List ℕ → Outcome Refusal Verdict
@@ -76,7 +76,7 @@ pub record Demand1 : Type 0 where
       → MergeTold q r
   pub judge-told : (table : List ℕ) (root : ℕ) (form : List ℕ) (r : Refusal)
       → judgeAnswer table root form ≡ Outcomes.refused r
-      → Told (InTable table) r ⊎ Told (AsAsked root) r ⊎ Told (InText form) r
+      → Told (InTable table) r ⊎ Told (AsAsked root) r ⊎ DataTold form r
   pub failure-told : (table : List ℕ) (root : ℕ) (form : List ℕ) (reason number place : ℕ)
       → judgeAnswer table root form ≡ gave (Verdicts.fails reason number place)
       → FailureTold table form reason number place

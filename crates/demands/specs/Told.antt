@@ -7,7 +7,7 @@ use Rattle.lexis.specs.Text.{bytes}
 use Rattle.lexis.specs.Runs.{StandsAt}
 use Rattle.refusals.specs.Limits.{textLimit}
 use Rattle.refusals.specs.Refusals.{numberOf}
-use Rattle.refusals.specs.Numbers.{PlaceSort, limit, token, textEnd, wholeTable, tableRecord, asked, merged, needed, Row}
+use Rattle.refusals.specs.Numbers.{PlaceSort, limit, token, textEnd, wholeTable, tableRecord, asked, merged, needed, Row, OfDataText}
 use Rattle.refusals.specs.declared.Refusal.{Refusal}
 use Rattle.table.specs.TableRules.{IsFrame, IsTable, KindAt, ObjectOrItem}
 use Rattle.table_merge.specs.Merge.{MergeRequest, MergeRefusal, ofTable}
@@ -23,6 +23,11 @@ pub record Told (Place : PlaceSort → ℕ → Type 0) (r : Refusal) : Type 0 wh
 pub data InText (s : List ℕ) : PlaceSort → ℕ → Type 0 where
   overLong : textLimit < length s → InText s limit textLimit
   inside : {p : ℕ} → p ≤ length s → InText s token p
+
+-- of a data text, for one of its causes
+pub record DataTold (form : List ℕ) (r : Refusal) : Type 0 where
+  pub told : Told (InText form) r
+  pub cause : OfDataText (r .cause)
 
 -- a text's end
 pub data AtEnd (s : List ℕ) : PlaceSort → ℕ → Type 0 where

@@ -1,53 +1,34 @@
--- Two parts of a text compared letter by letter, as the searches for a repeated name compare them. Assumes nothing.
-use mathlib.Core.Path.{_≡_, sym, _∙_}
-use mathlib.Core.Bool.{Bool, true, false, _||_}
+-- Two names compared byte by byte, as the searches for a repeated name compare them. Assumes nothing.
+use mathlib.Core.Path.{_≡_}
+use mathlib.Core.Bool.{Bool, true, false}
 use mathlib.Core.List.{List}
-use Prim.Native.Nat.{ℕ, _+_, _-_, _≤_, _<_}
+use Prim.Native.Nat.{ℕ, _+_, _≤_, _<_}
 use native.Mathlib.Omega.{arith}
-use lib.ListN.{length, drop}
-use lib.Seq.{drop-drop}
-use Rattle.lexis.specs.Runs.{letterAt, part, same}
-use Rattle.lexis.proofs.Letters.{head, letter-first, letter-inside, head-differ, head-end, head-on}
+use lib.ListN.{length}
+use Rattle.lexis.specs.Runs.{byteAt, same}
+use Rattle.lexis.proofs.RunSteps.{InBoth, both-first, both-end, both-out, both-on}
 
--- at letter i of both: the parts are the same or the rest holds exactly where it is sought
-pub record Comparing (s : List ℕ) (start stop from to i : ℕ) (rest sought : Bool) : Type 0 where
-  pub here : i ≤ stop - start
-  pub there : i ≤ to - from
-  pub inside : stop ≤ length s
-  pub lies : to ≤ length s
-  pub is : (same (drop i (part s start stop)) (drop i (part s from to)) || rest) ≡ sought
+-- at byte i of two names of one length
+pub record InBytes (a b : List ℕ) (i : ℕ) (again : Bool) : Type 0 where
+  pub not-yet : again ≡ false
+  pub both : InBoth a b i
 
-module _ (s : List ℕ) (start stop from to i : ℕ) (rest sought : Bool) (inv : Comparing s start stop from to i rest sought)
-    (x y : ℕ) (ex : x ≡ letterAt s (start + i) stop) (ey : y ≡ letterAt s (from + i) to) where
-  first-here : x ≡ head (drop i (part s start stop))
-  first-here = ex ∙ letter-first s start stop i (inv .inside)
+pub bytes-start : (a b : List ℕ) (again : Bool) → again ≡ false → length a ≡ length b → InBytes a b 0 again
+bytes-start a b again k e = record { not-yet = k; both = both-first a b e }
 
-  first-there : y ≡ head (drop i (part s from to))
-  first-there = ey ∙ letter-first s from to i (inv .lies)
+module _ (a b : List ℕ) (i : ℕ) (again : Bool) (inv : InBytes a b i again) where
+  pub bytes-end : i ≡ length a → true ≡ same a b
+  bytes-end e = both-end a b i (inv .both) (omega arith)
 
-  -- at two letters that differ the rest is left
-  pub differ-rest : (x ≡ y → ⊥) → rest ≡ sought
-  differ-rest d =
-      let e : same (drop i (part s start stop)) (drop i (part s from to)) ≡ false = head-differ _ _ (λ e. d (first-here ∙ e ∙ sym first-there)) in
-      rw e at (inv .is)
+  module _ (k : i ≡ length a → ⊥) where
+    pub bytes-in : i < length a
+    bytes-in = let h = inv .both .high in omega arith
 
-  -- at the end of both they are the same
-  pub end-same : x ≡ y → x ≡ 0 → true ≡ sought
-  end-same e z = rw (head-end (drop i (part s start stop)) (drop i (part s from to)) (sym first-here ∙ e ∙ first-there) (sym first-here ∙ z)) at (inv .is)
+    pub bytes-there : i < length b
+    bytes-there = let h = bytes-in in let l = inv .both .long in omega arith
 
-  module _ (e : x ≡ y) (z : x ≡ 0 → ⊥) where
-    pub next-letter : Comparing s start stop from to (i + 1) rest sought
-    next-letter =
-        let a : start + i < stop = letter-inside s (start + i) stop x ex z in
-        let b : from + i < to = letter-inside s (from + i) to y ey (λ f. z (e ∙ f)) in
-        let f = head-on (drop i (part s start stop)) (drop i (part s from to)) (sym first-here ∙ e ∙ first-there) (λ g. z (first-here ∙ g)) in
-        record {
-          here = omega arith;
-          there = omega arith;
-          inside = inv .inside;
-          lies = inv .lies;
-          is = rw (f, drop-drop 1 i (part s start stop), drop-drop 1 i (part s from to)) at (inv .is);
-        }
+    pub bytes-differ : (byteAt a i ≡ byteAt b i → ⊥) → false ≡ same a b
+    bytes-differ d = both-out a b i (inv .both) bytes-in d
 
-    pub letters-less : stop - (start + (i + 1)) < stop - (start + i)
-    letters-less = let a : start + i < stop = letter-inside s (start + i) stop x ex z in omega arith
+    pub bytes-on : byteAt a i ≡ byteAt b i → InBytes a b (i + 1) again
+    bytes-on e = record { not-yet = inv .not-yet; both = both-on a b i (inv .both) bytes-in e }

@@ -29,5 +29,4 @@ pub mod QuickSteps
 pub mod ReaderSteps
 pub mod Stores
 pub mod Enclosed
-pub mod Letters
 pub mod Comparing

@@ -3,7 +3,7 @@ use mathlib.Core.Path.{_≡_}
 use mathlib.Core.Bool.{Bool, true, false, cond, _&&_, _||_}
 use mathlib.Core.List.{List, [], _∷_}
 use Prim.Native.Nat.{ℕ, _+_, _-_}
-use lib.Dec.{eqb, ltb}
+use lib.Dec.{eqb}
 use Rattle.lexis.specs.Text.{byte}
 use lib.ListN.{length, getD, take, drop}
 use Rattle.lexis.specs.Bytes.{is, digit}
@@ -16,10 +16,6 @@ past test at (b ∷ bs) = let more = past test (at + 1) bs in cond (test b) more
 -- the byte at a place; 0, which no rule names, behind the text's end
 abbrev pub byteAt : List ℕ → ℕ → ℕ
 byteAt s at = getD s at 0
-
--- one more than the byte at a place of a run that ends at a place, and 0 at the end
-abbrev pub letterAt : List ℕ → ℕ → ℕ → ℕ
-letterAt s at end = cond (ltb at end) (byteAt s at + 1) 0
 
 -- the bytes from one place up to another
 abbrev pub part : List ℕ → ℕ → ℕ → List ℕ

@@ -9,7 +9,7 @@ use crate::sorts::word_byte;
 ghost use mathlib.Core.Path.{_≡_};
 ghost use Prim.Native.Nat.{_+_, _≤_, _<_};
 ghost use lib.ListN.{length, drop};
-ghost use Rattle.lexis.specs.Runs.{past, byteAt, letterAt, same, startsWith, shaped};
+ghost use Rattle.lexis.specs.Runs.{past, byteAt, same, startsWith, shaped};
 ghost use Rattle.lexis.specs.Blanks.{tokenStart};
 ghost use Rattle.lexis.specs.contracts.Answers.{PlaceIs, testOf, commentOpen, tokenHere, admits, beginsBy};
 
@@ -159,19 +159,4 @@ pub fn same_bytes(a: &[u8], b: &[u8]) -> bool
         i += 1;
     }
     true
-}
-
-// A byte, as a number.
-fn wide(b: u8) -> usize
-    ensures { λ r. ⌜ r ≡ b ⌝ }
-{
-    b as usize
-}
-
-// One more than the byte at a place of a run, and 0 at the run's end.
-pub fn letter(s: &[u8], at: usize, end: usize) -> usize
-    requires { ⌜ end ≤ length (now s) ⌝ }
-    ensures { λ r. ⌜ r ≡ letterAt (now (s .entry)) at end ⌝ }
-{
-    if at < end { wide(s[at]) + 1 } else { 0 }
 }

@@ -7,3 +7,4 @@ pub mod StepLaws
 pub mod Examples
 pub mod RefusalTable
 pub mod NumberLaws
+pub mod FaultCauses

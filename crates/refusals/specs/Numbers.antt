@@ -47,3 +47,14 @@ pub data Row : Cause → (number : ℕ) → PlaceSort → Type 0 where
   brokenRecord : Row BrokenRecord 13 tableRecord
   notAnObject : Row NotAnObject 14 asked
   noName : Row NoName 14 asked
+
+-- why a data text is refused: "the whole data text (1 to 5, 9)"
+pub data OfDataText : Cause → Type 0 where
+  textTooLong : OfDataText TextTooLong
+  unreadable : OfDataText Unreadable
+  cannotFollow : OfDataText CannotFollow
+  endsEarly : OfDataText EndsEarly
+  tooDeep : OfDataText TooDeep
+  tooLong : OfDataText TooLong
+  badWord : OfDataText BadWord
+  repeatedName : OfDataText RepeatedName

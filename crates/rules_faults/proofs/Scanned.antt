@@ -6,7 +6,10 @@ use mathlib.Core.List.{List, [], List·Memᴰ}
 use Prim.Native.Nat.{ℕ}
 use Rattle.refusals.specs.Reading.{refused, got}
 use Rattle.refusals.specs.declared.Refusal.{Refusal}
+use Rattle.refusals.specs.Numbers.{OfDataText}
 use Rattle.refusals.proofs.Parses.{InOrder}
+use Rattle.refusals.proofs.FaultCauses.{faults-are}
+use Rattle.dadl.proofs.DataCauses.{text-of}
 use Rattle.dadl.specs.Placed.{Block}
 use Rattle.dadl.specs.Data.{datumAlone, dataText, blockOf}
 use Rattle.dadl.proofs.TreeReading.{alone-order}
@@ -19,6 +22,11 @@ module _ (levels : ℕ) (s : List ℕ) where
   pub fault-lies : (x : Refusal) → List·Memᴰ x (faults levels s) → Lies s x
   unfolding dataText faults InOrder
   fault-lies = text-lies s _ (datumAlone levels s) (alone-order levels s true)
+
+  -- a fault is 1 to 5 or 9
+  pub fault-of : (x : Refusal) → List·Memᴰ x (faults levels s) → OfDataText (x .cause)
+  unfolding faults
+  fault-of = faults-are OfDataText (dataText levels s) (text-of s levels)
 
   -- a data text is read exactly where it has no fault
   pub read-faultless : ((b : Block) × (p : ℕ) × (blockOf levels s ≡ got b p)) ↔ (faults levels s ≡ [])

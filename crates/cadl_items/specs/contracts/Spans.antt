@@ -33,6 +33,11 @@ pub record Within (s : List ℕ) (start stop : ℕ) : Type 0 where
   pub order : start ≤ stop
   pub inside : stop ≤ length s
 
+-- span i lies in the text
+pub record SpanLies (s spans : List ℕ) (i : ℕ) : Type 0 where
+  pub room : 2 * i + 1 < length spans
+  pub within : Within s (firstOf spans i) (secondOf spans i)
+
 -- the spans from `first` on, up to `end`, lie in the text
 pub record SpansIn (s spans : List ℕ) (first end : ℕ) : Type 0 where
   pub room : 2 * end ≤ length spans

@@ -10,6 +10,9 @@ keep-string-spec =
     (tie.spec
     (λ c. search needs)
     (λ c. search needs)
+    (λ c. search needs)
+    (λ c. search needs)
+    (λ c. search needs)
     (λ c κs. search needs)
     (λ c. search keep-equal)
     (λ c κs. search needs)
