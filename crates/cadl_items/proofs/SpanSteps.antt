@@ -5,7 +5,9 @@ use mathlib.Core.List.{List}
 use Prim.Native.Nat.{ℕ, suc, _+_, _*_, _-_, _≤_, _<_}
 use native.Mathlib.Omega.{arith}
 use lib.ListN.{length, take, drop}
-use Rattle.lexis.specs.Runs.{same, listed}
+use Rattle.lexis.specs.Runs.{byteAt, same, listed}
+use Rattle.lexis.proofs.Comparing.{InBytes, bytes-start, bytes-end, bytes-differ}
+use Rattle.lexis.proofs.RunSteps.{same-long}
 use Rattle.cadl_items.specs.contracts.Spans.{firstOf, secondOf, spanAt, latest, earlier, SpanLies, SpansIn}
 
 -- the bytes of a span, as they are read
@@ -54,8 +56,20 @@ module _ (s spans : List ℕ) (first end : ℕ) (name : List ℕ) (n : ℕ) (aga
           let b : first + (n - 1 - first) ≡ n - 1 = omega arith in
           rw eo (rw (a, b) at (inv .is))
 
-      pub names-found : true ≡ same name other → true ≡ listed name (earlier s spans first end)
-      names-found h = rw (← h) at at-span
+      pub bytes-begin : length name ≡ length other → InBytes name other 0 again
+      bytes-begin e = bytes-start name other again (inv .not-yet) e
 
-      pub names-next : (r : Bool) → r ≡ false → false ≡ same name other → InNames s spans first end name (n - 1) r
+      pub bytes-found : (i : ℕ) (r : Bool) → InBytes name other i r → i ≡ length name
+          → true ≡ listed name (earlier s spans first end)
+      bytes-found i r b e = rw (← (bytes-end name other i r b e)) at at-span
+
+      names-next : (r : Bool) → r ≡ false → false ≡ same name other → InNames s spans first end name (n - 1) r
       names-next r k h = let m = inv .most in record { most = omega arith; good = inv .good; not-yet = k; is = rw (← h) at at-span }
+
+      pub longer-next : (length name ≡ length other → ⊥) → InNames s spans first end name (n - 1) again
+      longer-next k = names-next again (inv .not-yet) (same-long name other k)
+
+      pub bytes-next : (i : ℕ) (r : Bool) → InBytes name other i r → (i ≡ length name → ⊥)
+          → (byteAt name i ≡ byteAt other i → ⊥)
+          → InNames s spans first end name (n - 1) r
+      bytes-next i r b k d = names-next r (b .not-yet) (bytes-differ name other i r b k d)

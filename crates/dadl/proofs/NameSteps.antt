@@ -6,7 +6,7 @@ use Prim.Native.Nat.{ℕ, _+_, _*_, _-_, _≤_, _<_}
 use native.Mathlib.Omega.{arith}
 use lib.ListN.{length, take, drop}
 use borrow.Author.Tests.{lt-ltb, le-ltb}
-use Rattle.lexis.specs.Runs.{part, same, listed}
+use Rattle.lexis.specs.Runs.{byteAt, part, same, listed}
 use Rattle.lexis.specs.Tokens.{spelling}
 use Rattle.lexis.specs.DataTokens.{equals}
 use Rattle.lexis.specs.declared.Token.{Token}
@@ -30,7 +30,9 @@ use Rattle.dadl.specs.declared.contents.ContentStart.{ContentStart}
 use Rattle.dadl.specs.declared.contents.ContentStart.the-variants.{Faulty}
 use Rattle.refusals.proofs.StepLaws.{expected-fault, expected-token, expected-past}
 use Rattle.refusals.proofs.Parses.{first-then, then-refused, then-got}
+use Rattle.lexis.proofs.Comparing.{InBytes, bytes-start, bytes-end, bytes-differ}
 use Rattle.lexis.proofs.Parts.{part-length}
+use Rattle.lexis.proofs.RunSteps.{same-long}
 use Rattle.dadl.proofs.ContentSteps.{content-lower}
 
 -- the rows from n on lead up to the last
@@ -110,12 +112,24 @@ module _ (s tape : List ℕ) (low end : ℕ) (name : List ℕ) (n : ℕ) (again 
     names-less next e = let r = at-name .row in omega arith
 
     module _ (other : List ℕ) (eo : other ≡ nameAt s tape n) where
-      pub names-found : true ≡ same name other → true ≡ listed name (earlierNames s tape low end)
-      names-found h = rw (← eo, ← h) at (at-name .is)
+      pub bytes-begin : length name ≡ length other → InBytes name other 0 again
+      bytes-begin e = bytes-start name other again (inv .not-yet) e
 
-      pub names-next : (r : Bool) → r ≡ false → false ≡ same name other → (next : ℕ) → next ≡ numberAt tape n 8
-          → InNames s tape low end name next r
-      names-next r k h next e = rw e (record { names = at-name .more; chain = at-name .behind; least = at-name .row .most; room = inv .room; not-yet = k; is = rw (← eo, ← h) at (at-name .is) })
+      pub bytes-found : (i : ℕ) (r : Bool) → InBytes name other i r → i ≡ length name
+          → true ≡ listed name (earlierNames s tape low end)
+      bytes-found i r b e = rw (← eo, ← (bytes-end name other i r b e)) at (at-name .is)
+
+      module _ (next : ℕ) (en : next ≡ numberAt tape n 8) where
+        names-next : (r : Bool) → r ≡ false → false ≡ same name other → InNames s tape low end name next r
+        names-next r k h = rw en (record { names = at-name .more; chain = at-name .behind; least = at-name .row .most; room = inv .room; not-yet = k; is = rw (← eo, ← h) at (at-name .is) })
+
+        pub longer-next : (length name ≡ length other → ⊥) → InNames s tape low end name next again
+        longer-next k = names-next again (inv .not-yet) (same-long name other k)
+
+        pub bytes-next : (i : ℕ) (r : Bool) → InBytes name other i r → (i ≡ length name → ⊥)
+            → (byteAt name i ≡ byteAt other i → ⊥)
+            → InNames s tape low end name next r
+        bytes-next i r b k d = names-next r (b .not-yet) (bytes-differ name other i r b k d)
 
 -- a name and its `=`
 module _ (s : List ℕ) (seen : List (List ℕ)) (t : Token) (inside : Inside s (t .start) (t .end)) where

@@ -28,6 +28,7 @@ fn repeated(s: &[u8], tape: &[u16], first: usize, end: usize, name: &[u8]) -> bo
     let mut again = false;
     'names: while n < end {
         let other = row_name(s, tape, n);
+        n = number(tape, n, 8);
         if name.len() == other.len() {
             let mut i: usize = 0;
             loop {
@@ -41,7 +42,6 @@ fn repeated(s: &[u8], tape: &[u16], first: usize, end: usize, name: &[u8]) -> bo
                 i += 1;
             }
         }
-        n = number(tape, n, 8);
     }
     again
 }
