@@ -24,7 +24,7 @@ use Rattle.refusals.specs.declared.steps.Expected.the-variants.{Fault, Taken}
 use Rattle.refusals.proofs.StepLaws.{taken-there, taken-not, expect-is, expected-fault, expected-token, expected-past}
 use Rattle.cadl_items.specs.contracts.Spans.{Within}
 use Rattle.cadl_objects.specs.Existence.{opening, fromNought, fromOne, bounds, existenceFrom}
-use Rattle.cadl_objects.specs.contracts.Answers.{ExistencePast, ExistenceIs, closed, braced}
+use Rattle.cadl_objects.specs.contracts.Answers.{ExistencePast, ExistenceIs, existenceClosed, braced}
 use Rattle.cadl_objects.specs.declared.existence.ExistenceRead.{ExistenceRead}
 use Rattle.cadl_objects.specs.declared.existence.ExistenceRead.the-variants.{Faulty, Existence}
 
@@ -140,7 +140,7 @@ module _ (s : List ℕ) (from : ℕ) (t : Token) (tok : TokenIs s from (tokenAt 
   -- with `existence`, and without
   pub existence-there : t .sort ≡ Spelling.existence → (r : ExistenceRead)
       → ExistenceIs s (t .end) (braced s (t .end)) r → ExistenceIs s from (existenceFrom s from) r
-  unfolding existenceFrom braced closed
+  unfolding existenceFrom braced existenceClosed
   existence-there d r e = record { is = rw (← tok .is, eq-eqb (t .sort) Spelling.existence d) (e .is); past = existence-earlier s from (t .end) r (omega arith) (e .past) }
 
   pub existence-none : (t .sort ≡ Spelling.existence → ⊥) → from ≤ length s
@@ -151,12 +151,12 @@ module _ (s : List ℕ) (from : ℕ) (t : Token) (tok : TokenIs s from (tokenAt 
 -- the `}`
 module _ (s : List ℕ) (flag from : ℕ) (small : flag ≤ 2) (r : Expected)
     (e : ExpectIs s closeBrace from (expect s closeBrace from) r) where
-  pub closed-fault : (x : Refusal) → r ≡ Fault x → ExistenceIs s from (closed s flag from) (Faulty x)
-  unfolding closed
+  pub closed-fault : (x : Refusal) → r ≡ Fault x → ExistenceIs s from (existenceClosed s flag from) (Faulty x)
+  unfolding existenceClosed
   closed-fault x g = record { is = rw (expected-fault e x g); past = tt }
 
-  pub closed-there : (t : Token) → r ≡ Taken t → ExistenceIs s from (closed s flag from) (Existence flag (t .end))
-  unfolding closed
+  pub closed-there : (t : Token) → r ≡ Taken t → ExistenceIs s from (existenceClosed s flag from) (Existence flag (t .end))
+  unfolding existenceClosed
   closed-there t g = let p = expected-past e t g in record { is = rw (expected-token e t g); past = (small, omega arith, p .2) }
 
 -- what an answer says of the reading that it is
@@ -192,7 +192,7 @@ module _ (s : List ℕ) (from : ℕ) (o : Expected) (e : ExpectIs s openBrace fr
         pub closing-small : flag ≤ 2
         closing-small = existence-past h flag next k .0
 
-        pub braced-there : (r : ExistenceRead) → ExistenceIs s next (closed s flag next) r
+        pub braced-there : (r : ExistenceRead) → ExistenceIs s next (existenceClosed s flag next) r
             → ExistenceIs s from (braced s from) r
         unfolding braced
         braced-there r q =

@@ -19,7 +19,7 @@ use Rattle.meaning.specs.Constraints.{Object, object, Attributes, noMore, attri
 use Rattle.cadl_items.specs.Leaves
 use Rattle.cadl_items.specs.contracts.Told
 use Rattle.cadl_objects.specs.Existence.{opening, existenceFrom}
-use Rattle.cadl_objects.specs.Objects.{Attribute, past, headOf}
+use Rattle.cadl_objects.specs.Objects.{Attribute, pastAttribute, headOf}
 use Rattle.cadl_objects.specs.Objects
 use Rattle.cadl_objects.specs.Texts.{objectAlone, constraintText, constraintOf}
 use Rattle.cadl_objects.specs.contracts.Told.{objectType, objectCode, attributeName, value, attributeFrom, attributes, objectFrom}
@@ -91,12 +91,12 @@ module _ (s : List ℕ) where
 
   pub attributes-is : (levels fuel : ℕ) (seen : List (List ℕ)) (next from : ℕ)
       → attributes s levels (suc fuel) seen next from
-      ≡ readThen (attributeFrom s levels seen next from) (λ a p. goOn s next a (attributes s levels fuel (a .name ∷ seen) (past next a)) p)
+      ≡ readThen (attributeFrom s levels seen next from) (λ a p. goOn s next a (attributes s levels fuel (a .name ∷ seen) (pastAttribute next a)) p)
   unfolding attributes attributeFrom Objects.attributes
   attributes-is levels fuel seen next from =
       told-then (Objects.attributeFrom s (Objects.objectFrom s levels) seen next from) _ _ _ refl (λ a p.
       told-cond (eqb (tokenAt s p .sort) closeBrace) _ _ _ _ refl
-      (first-then (Objects.attributes s (Objects.objectFrom s levels) fuel (a .name ∷ seen) (past next a) p) _))
+      (first-then (Objects.attributes s (Objects.objectFrom s levels) fuel (a .name ∷ seen) (pastAttribute next a) p) _))
 
   -- an object of levels that are allowed, and one that is too deep
   pub object-is : (levels next from : ℕ) → objectFrom s (suc levels) next from

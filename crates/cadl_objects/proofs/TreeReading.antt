@@ -34,7 +34,7 @@ use Rattle.meaning.proofs.Numbers.{up-append}
 use Rattle.cadl_items.specs.Leaves
 use Rattle.cadl_intervals.proofs.IntervalReading.{token-past}
 use Rattle.cadl_items.proofs.LeafReading.{TreeRead, LeafRead, leaf-ordered}
-use Rattle.cadl_objects.specs.Objects.{value, Attribute, attributeFrom, past, headOf, attributes, body, objectBy, deeper, objectFrom}
+use Rattle.cadl_objects.specs.Objects.{value, Attribute, attributeFrom, pastAttribute, headOf, attributes, body, objectBy, deeperObject, objectFrom}
 use Rattle.cadl_objects.specs.contracts.Told
 use Rattle.cadl_objects.specs.Texts.{objectAlone, constraintText, constraintOf}
 use Rattle.cadl_objects.proofs.HeadReading.{Exists, Word, opening-holds, existence-holds, passed-at, type-ordered, Coded, code-ordered, name-ordered, spelling-sub}
@@ -120,7 +120,7 @@ module _ (s : List ℕ) (first : ℕ) (down : ℕ → ℕ → Parse Object) (bel
   -- an attribute before others: numbers and pool
   first-holds : (next from p q : ℕ) (a : Attribute) (more : Attributes) → AttributeRead s next from a p → p ≤ q
       → q ≤ length s
-      → attributeNumbers more ≡ upFrom (past next a) (attributeRecords more) → (past next a ≤ recordLimit → past next a + attributeRecords more ≤ recordLimit) → ProperAttributes more
+      → attributeNumbers more ≡ upFrom (pastAttribute next a) (attributeRecords more) → (pastAttribute next a ≤ recordLimit → pastAttribute next a + attributeRecords more ≤ recordLimit) → ProperAttributes more
       → Sub (attributePool more) (part s p q)
       → AttributesRead s next from (attribute (headOf next a) (a .value) more) q
   unfolding attributeNumbers attributeRecords attributePool ProperAttributes
@@ -149,8 +149,8 @@ module _ (s : List ℕ) (first : ℕ) (down : ℕ → ℕ → Parse Object) (bel
         most = b .most;
         tree = λ z. first-holds next from p (tokenAt s p .end) a noMore (q .tree z) (omega (arith, b .least)) (b .most) refl (λ m. omega arith) tt (sub-none _);
       }))
-      (λ e. ordered-then s P (Passes s p (AttributesRead s (past next a) p)) o j (attributes s down fuel (a .name ∷ seen) (past next a) p) _
-      (attributes-ordered fuel (a .name ∷ seen) (past next a) p o j (omega (arith, q .least)) (omega (arith, q .least)) (q .bound) (q .most)) (λ u v xs r d x.
+      (λ e. ordered-then s P (Passes s p (AttributesRead s (pastAttribute next a) p)) o j (attributes s down fuel (a .name ∷ seen) (pastAttribute next a) p) _
+      (attributes-ordered fuel (a .name ∷ seen) (pastAttribute next a) p o j (omega (arith, q .least)) (omega (arith, q .least)) (q .bound) (q .most)) (λ u v xs r d x.
       ordered-parsed s P u v _ r (record {
         bound = x .bound;
         least = omega (arith, q .least, x .least);
@@ -210,18 +210,18 @@ by-ordered s levels down next from sound low below l h =
 
 deeper-ordered : (s : List ℕ) (fuel next from : ℕ) (sound : Bool) (low : ℕ) → length s < from + fuel → low ≤ rank from 0
     → from ≤ length s
-    → Ordered s (Passes s from (ObjectRead s next from)) sound low (deeper s fuel next from)
-unfolding deeper
+    → Ordered s (Passes s from (ObjectRead s next from)) sound low (deeperObject s fuel next from)
+unfolding deeperObject
 deeper-ordered s zero next from sound low e l h = absurd (omega arith)
 deeper-ordered s (suc fuel) next from sound low e l h =
-    by-ordered s 1 (deeper s fuel) next from sound low (λ n at o j i k m. deeper-ordered s fuel n at o j (omega arith) k m) l h
+    by-ordered s 1 (deeperObject s fuel) next from sound low (λ n at o j i k m. deeper-ordered s fuel n at o j (omega arith) k m) l h
 
 -- an object, at any level
 object-ordered : (s : List ℕ) (levels next from : ℕ) (sound : Bool) (low : ℕ) → low ≤ rank from 0 → from ≤ length s
     → Ordered s (Passes s from (ObjectRead s next from)) sound low (objectFrom s levels next from)
 unfolding objectFrom
 object-ordered s zero next from sound low l h =
-    by-ordered s zero (deeper s (length s + 1)) next from sound low (λ n at o j i k m. deeper-ordered s (length s + 1) n at o j (omega arith) k m) l h
+    by-ordered s zero (deeperObject s (length s + 1)) next from sound low (λ n at o j i k m. deeper-ordered s (length s + 1) n at o j (omega arith) k m) l h
 object-ordered s (suc levels) next from sound low l h = by-ordered s (suc levels) (objectFrom s levels) next from sound low (λ n at o j i k m. object-ordered s levels n at o j k m) l h
 
 -- what reading tells of an object, and of what holds objects

@@ -71,8 +71,8 @@ attributeFrom s down seen next from =
     parsed (record { existence = e; name = spelling s t; value = v }) y)))))
 
 -- the next record's number behind an attribute
-abbrev pub past : ℕ → Attribute → ℕ
-past next a = next + 1 + valueRecords (a .value)
+abbrev pub pastAttribute : ℕ → Attribute → ℕ
+pastAttribute next a = next + 1 + valueRecords (a .value)
 
 -- the head of an attribute whose record has a number
 abbrev pub headOf : ℕ → Attribute → AttributeHead
@@ -90,7 +90,7 @@ unfoldable pub attributes : List ℕ → (ℕ → ℕ → Parse Object) → ℕ 
 attributes s down zero seen next from = stopped (refusal EndsEarly (length s + 1))
 attributes s down (suc fuel) seen next from =
     andThen (attributeFrom s down seen next from) (λ a p.
-    goOnAttributes s next a (attributes s down fuel (a .name ∷ seen) (past next a)) p)
+    goOnAttributes s next a (attributes s down fuel (a .name ∷ seen) (pastAttribute next a)) p)
 
 -- what stands between an object's braces, and the `}`
 abbrev pub body : List ℕ → (ℕ → ℕ → Parse Object) → ℕ → ℕ → Parse Attributes
@@ -108,11 +108,11 @@ objectBy s levels down next from =
     parsed (object (record { number = next; type = spelling s t; code = k }) xs) x))))
 
 -- an object below the levels that are allowed; `fuel` bounds how many levels there are, and its end is no fault of any text
-unfoldable pub deeper : List ℕ → ℕ → ℕ → ℕ → Parse Object
-deeper s zero next from = stopped (refusal EndsEarly (length s + 1))
-deeper s (suc fuel) next from = objectBy s 1 (deeper s fuel) next from
+unfoldable pub deeperObject : List ℕ → ℕ → ℕ → ℕ → Parse Object
+deeperObject s zero next from = stopped (refusal EndsEarly (length s + 1))
+deeperObject s (suc fuel) next from = objectBy s 1 (deeperObject s fuel) next from
 
 -- an object, of at most so many levels; the first level that is not allowed is a fault
 unfoldable pub objectFrom : List ℕ → ℕ → ℕ → ℕ → Parse Object
-objectFrom s zero next from = objectBy s 0 (deeper s (length s + 1)) next from
+objectFrom s zero next from = objectBy s 0 (deeperObject s (length s + 1)) next from
 objectFrom s (suc levels) next from = objectBy s (suc levels) (objectFrom s levels) next from

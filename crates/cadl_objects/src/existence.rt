@@ -27,7 +27,7 @@ ghost use Rattle.lexis.specs.contracts.Answers.{TokenIs};
 ghost use Rattle.refusals.specs.contracts.Answers.{ExpectIs};
 ghost use Rattle.cadl_items.specs.contracts.Spans.{Within};
 ghost use Rattle.cadl_objects.specs.Existence.{opening, fromNought, fromOne, bounds, existenceFrom};
-ghost use Rattle.cadl_objects.specs.contracts.Answers.{ExistenceIs, closed, braced};
+ghost use Rattle.cadl_objects.specs.contracts.Answers.{ExistenceIs, existenceClosed, braced};
 
 // An existence and the place behind it, or its refusal.
 pub enum ExistenceRead {
@@ -131,7 +131,7 @@ fn bounds(s: &[u8], from: usize) -> ExistenceRead
 // The `}` of an existence.
 fn closing(s: &[u8], flag: u8, from: usize) -> ExistenceRead
     requires { ⌜ (from ≤ length (now s)) × (flag ≤ 2) ⌝ }
-    ensures { λ r. ⌜ ExistenceIs (now (s .entry)) from (closed (now (s .entry)) flag from) r ⌝ }
+    ensures { λ r. ⌜ ExistenceIs (now (s .entry)) from (existenceClosed (now (s .entry)) flag from) r ⌝ }
 {
     match expect(s, CLOSE_BRACE, from) {
         Expected::Fault(fault) => {

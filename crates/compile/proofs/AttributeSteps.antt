@@ -20,9 +20,9 @@ use Rattle.meaning.specs.Counting.{valuePool}
 use Rattle.cadl_items.specs.contracts.Spans.{firstOf, secondOf, earlier, SpansIn}
 use Rattle.cadl_items.specs.contracts.Items.{Kept}
 use Rattle.cadl_items.proofs.ItemLaws.{item-first, item-second, item-kept, first-kept, second-kept, all-kept}
-use Rattle.cadl_objects.specs.Objects.{Attribute, past}
+use Rattle.cadl_objects.specs.Objects.{Attribute, pastAttribute}
 use Rattle.cadl_objects.specs.contracts.Told.{value, attributeFrom}
-use Rattle.cadl_objects.specs.contracts.Answers.{Named, attributeHead, namedReading, NamedPast, AttributeHeadIs}
+use Rattle.cadl_objects.specs.contracts.Answers.{NamedAttribute, attributeHead, namedReading, NamedPast, AttributeHeadIs}
 use Rattle.cadl_objects.specs.declared.heads.AttributeHeadRead.{AttributeHeadRead}
 use Rattle.cadl_objects.specs.declared.heads.AttributeHeadRead.the-variants as attributeHeadRead
 use Rattle.cadl_objects.proofs.TreeReading.{ValueRead, AttributeRead, value-holds}
@@ -64,7 +64,7 @@ attribute-written s little p flag w v place rs bs (got t at) h =
     rw (r, b, h)
 
 -- an attribute behind its head has the head's name
-name-of : (s : List ℕ) (levels n : ℕ) (h : Named) (r : ℕ) (a : Attribute) (at : ℕ)
+name-of : (s : List ℕ) (levels n : ℕ) (h : NamedAttribute) (r : ℕ) (a : Attribute) (at : ℕ)
     → behindName s levels n h r ≡ got a at → a .name ≡ h .name
 name-of s levels n h r a at e = by (value s levels (n + 1) r) e
   where

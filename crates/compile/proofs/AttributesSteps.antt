@@ -21,7 +21,7 @@ use Rattle.meaning.specs.Counting.{attributePool, valuePool, valueRecords}
 use Rattle.cadl_items.specs.contracts.Spans.{firstOf, secondOf, spanAt, latest, earlier, Within}
 use Rattle.cadl_items.specs.contracts.Items.{Kept}
 use Rattle.cadl_items.proofs.ItemLaws.{first-kept, second-kept, all-kept}
-use Rattle.cadl_objects.specs.Objects.{Attribute, past, headOf}
+use Rattle.cadl_objects.specs.Objects.{Attribute, pastAttribute, headOf}
 use Rattle.cadl_objects.proofs.TreeParts.{goOn}
 use Rattle.cadl_objects.specs.contracts.Told.{value, attributes}
 use Rattle.cadl_objects.proofs.TreeReading.{AttributeRead, attribute-holds}
@@ -215,7 +215,7 @@ module _ {s : List ℕ} {little : Bool} {levels : ℕ} {p : Spot} {first : ℕ} 
   still = kept-both (inv .order) (inv .kept) (d .kept)
 
   one-turn : attributes s levels (inv .fuel) (earlier s names first top) Here (q .place)
-      ≡ readThen (AttributeOf s levels q first top names) (λ a at. goOn s Here a (attributes s levels (inv .fuel - 1) (a .name ∷ earlier s names first top) (past Here a)) at)
+      ≡ readThen (AttributeOf s levels q first top names) (λ a at. goOn s Here a (attributes s levels (inv .fuel - 1) (a .name ∷ earlier s names first top) (pastAttribute Here a)) at)
   one-turn = turn s levels (inv .fuel) (earlier s names first top) Here (q .place) (let a = inv .enough in let b = inv .room .stacked .room .inside in omega arith)
 
   pub attributes-not : (x : Refusal) → r ≡ attributeRead.Refused x
@@ -231,10 +231,10 @@ module _ {s : List ℕ} {little : Bool} {levels : ℕ} {p : Spot} {first : ℕ} 
     read = is-attribute s little q rs bs rs' bs' last z (AttributeOf s levels q first top names) (rw g at (d .is))
 
     abbrev Rest : Reading Attributes
-    Rest = attributes s levels (inv .fuel - 1) (read .a .name ∷ earlier s names first top) (past Here (read .a)) (read .at)
+    Rest = attributes s levels (inv .fuel - 1) (read .a .name ∷ earlier s names first top) (pastAttribute Here (read .a)) (read .at)
 
     turned : attributes s levels (inv .fuel) (earlier s names first top) Here (q .place) ≡ goOn s Here (read .a)
-        (attributes s levels (inv .fuel - 1) (read .a .name ∷ earlier s names first top) (past Here (read .a)))
+        (attributes s levels (inv .fuel - 1) (read .a .name ∷ earlier s names first top) (pastAttribute Here (read .a)))
         (read .at)
     turned = one-turn ∙ rw (read .is)
 
@@ -297,7 +297,7 @@ module _ {s : List ℕ} {little : Bool} {levels : ℕ} {p : Spot} {first : ℕ} 
         let n : z .next ≡ q .next + 1 + length (valueTable (a .value) (q .pool + length (a .name))) = ap (λ (y : Spot). y .next) (e .spot) in
         let few : top + 1 ≤ z .next = let f = inv .room .stacked .few in omega arith in
         let rest = Rest false z g in
-        let lk : Linked (q .next + 1 + valueRecords (a .value)) rest = linked s levels (inv .fuel - 1) (a .name ∷ earlier s names first top) (past Here a) (e .at) in
+        let lk : Linked (q .next + 1 + valueRecords (a .value)) rest = linked s levels (inv .fuel - 1) (a .name ∷ earlier s names first top) (pastAttribute Here a) (e .at) in
         let next = q .next + 1 + length (valueTable (a .value) (q .pool + length (a .name))) in
         let pool = q .pool + length (a .name) + length (valuePool (a .value)) in
         let t : attributes s levels (inv .fuel) (earlier s names first top) Here (q .place) ≡ readThen rest (λ xs at. got (attribute (headOf (q .next) a) (a .value) xs) at) = turned false z g ∙ rw (e .sort) in

@@ -26,7 +26,7 @@ use Rattle.refusals.proofs.StepLaws.{expected-fault, expected-token}
 use Rattle.meaning.specs.Constraints.{Object, object, Attributes, noMore, Value, any, nested}
 use Rattle.meaning.specs.Counting.{objectPool, attributePool, valuePool}
 use Rattle.cadl_items.proofs.ItemLaws.{all-kept}
-use Rattle.cadl_objects.specs.Objects.{past}
+use Rattle.cadl_objects.specs.Objects.{pastAttribute}
 use Rattle.cadl_objects.specs.contracts.Told.{value, attributes, objectFrom}
 use Rattle.cadl_objects.specs.contracts.Answers.{Counted, objectHead, typedReading, TypedPast, ObjectHeadIs}
 use Rattle.cadl_objects.specs.declared.heads.ObjectHeadRead.{ObjectHeadRead}

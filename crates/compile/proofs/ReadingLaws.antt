@@ -15,10 +15,10 @@ use Rattle.refusals.specs.declared.Cause.the-variants.{TooDeep}
 use Rattle.refusals.specs.declared.Refusal.{Refusal}
 use Rattle.meaning.specs.Constraints.{Object, object, Attributes}
 use Rattle.cadl_objects.specs.Existence.{opening, existenceFrom}
-use Rattle.cadl_objects.specs.Objects.{Attribute, past}
+use Rattle.cadl_objects.specs.Objects.{Attribute, pastAttribute}
 use Rattle.cadl_objects.specs.Objects
 use Rattle.cadl_objects.specs.contracts.Told.{objectType, objectCode, attributeName, value, attributeFrom, attributes, objectFrom}
-use Rattle.cadl_objects.specs.contracts.Answers.{Typed, objectHead, Named, attributeHead}
+use Rattle.cadl_objects.specs.contracts.Answers.{Typed, objectHead, NamedAttribute, attributeHead}
 use Rattle.cadl_objects.proofs.TreeParts.{goOn, body, type-is, attribute-is, attributes-is, object-is, object-none}
 use Rattle.compile_flatten.specs.Flatten.{attributesLink}
 
@@ -83,7 +83,7 @@ object-got s zero n from h p e = absurd (headless s n from h p e)
 object-got s (suc levels) n from h p e = object-by s levels n from ∙ rw (e, sub-one)
 
 -- an attribute behind its head
-abbrev pub behindName : List ℕ → ℕ → ℕ → Named → ℕ → Reading Attribute
+abbrev pub behindName : List ℕ → ℕ → ℕ → NamedAttribute → ℕ → Reading Attribute
 behindName s levels n h r =
     readThen (value s levels (n + 1) r) (λ v x.
     readThen (expect s closeBrace x) (λ w y.
@@ -117,10 +117,10 @@ linked s levels zero seen n from = tt
 linked s levels (suc fuel) seen n from =
     rw (attributes-is s levels fuel seen n from) (linked-then n (attributeFrom s levels seen n from) _ (λ a p.
     linked-cond n (eqb (tokenAt s p .sort) closeBrace) _ _ refl
-    (linked-then n (attributes s levels fuel (a .name ∷ seen) (past n a) p) _ (λ xs q. refl))))
+    (linked-then n (attributes s levels fuel (a .name ∷ seen) (pastAttribute n a) p) _ (λ xs q. refl))))
 
 -- one turn of the attributes
 pub turn : (s : List ℕ) (levels fuel : ℕ) (seen : List (List ℕ)) (n from : ℕ) → 0 < fuel
-    → attributes s levels fuel seen n from ≡ readThen (attributeFrom s levels seen n from) (λ a p. goOn s n a (attributes s levels (fuel - 1) (a .name ∷ seen) (past n a)) p)
+    → attributes s levels fuel seen n from ≡ readThen (attributeFrom s levels seen n from) (λ a p. goOn s n a (attributes s levels (fuel - 1) (a .name ∷ seen) (pastAttribute n a)) p)
 turn s levels zero seen n from z = absurd (omega arith)
 turn s levels (suc fuel) seen n from z = rw sub-one (attributes-is s levels fuel seen n from)

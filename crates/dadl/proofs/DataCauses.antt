@@ -19,7 +19,7 @@ use Rattle.refusals.specs.Parsing.{Parse, parsed, andThen}
 use Rattle.refusals.specs.declared.Cause.the-variants.{TextTooLong, TooLong, BadWord, RepeatedName}
 use Rattle.refusals.proofs.FaultCauses.{FaultsOf, ofStopped, ofFlawed, ofParsed, faults-cond, faults-noting, faults-then, syntax-of-data, taken-of-data}
 use Rattle.dadl.specs.Placed.{Span, Block, string, word, inside}
-use Rattle.dadl.specs.Data.{expectData, spanOf, innerSpan, typeFrom, leafFrom, Down, typed, contentFrom, nameFrom, members, blockBy, deeper, blockFrom, outermost, datumAlone, dataText}
+use Rattle.dadl.specs.Data.{expectData, spanOf, innerSpan, typeFrom, leafFrom, Down, typed, contentFrom, nameFrom, members, blockBy, deeperBlock, blockFrom, outermost, datumAlone, dataText}
 
 -- what blocks inside are parsed by has such faults
 abbrev DownOf : Down → Type 0
@@ -93,10 +93,10 @@ module _ (s : List ℕ) where
     block-of : DownOf (blockBy s down)
     block-of place type from = faults-then OfDataText (members s down (length s + 1) [] from) _ (members-of (length s + 1) [] from) (λ ms p. ofParsed)
 
-  deeper-of : (fuel : ℕ) → DownOf (deeper s fuel)
-  unfolding deeper
+  deeper-of : (fuel : ℕ) → DownOf (deeperBlock s fuel)
+  unfolding deeperBlock
   deeper-of zero place type from = ofStopped Numbers.endsEarly
-  deeper-of (suc fuel) place type from = block-of (deeper s fuel) (deeper-of fuel) place type from
+  deeper-of (suc fuel) place type from = block-of (deeperBlock s fuel) (deeper-of fuel) place type from
 
   blocks-of : (levels : ℕ) → DownOf (blockFrom s levels)
   unfolding blockFrom

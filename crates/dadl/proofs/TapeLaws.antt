@@ -13,7 +13,7 @@ use Rattle.lexis.specs.Runs.{part}
 use Rattle.meaning.specs.Data.{Members, datum, member}
 use Rattle.meaning.specs.Data
 use Rattle.dadl.specs.Placed.{Span, Block, block, Entries, noMore, entry, PlacedContent, string, word, inside, spelledSpan, spelledBlock, spelledEntries, spelledContent}
-use Rattle.dadl.specs.contracts.Tape.{rowSize, blockRows, entryRows, contentRows, nextRow, typeStart, typeEnd, tapeRowOf, blockTape, entriesTape, contentTape, rowsOf, number, reachMembers, contentIn, membersBy, membersOf, membersAt}
+use Rattle.dadl.specs.contracts.Tape.{rowSize, blockRows, entryRows, contentRows, nextRow, typeStart, typeEnd, tapeRowOf, blockTape, entriesTape, contentTape, rowsOf, rowNumber, reachMembers, contentIn, membersBy, membersOf, membersAt}
 use Rattle.dadl.specs.contracts.Rows.{rowAt, linked, walked}
 
 -- a property of every member, those inside others among them
@@ -68,7 +68,7 @@ row-length w (inside (block p t ms)) next = refl
 
 -- a row's numbers 1, 2 and 8 are the name and the next row
 pub row-numbers : (w : Span) (c : PlacedContent) (next : ℕ)
-    → (number (tapeRowOf w c next) 1 ≡ w .start) × (number (tapeRowOf w c next) 2 ≡ w .end) × (number (tapeRowOf w c next) 8 ≡ next)
+    → (rowNumber (tapeRowOf w c next) 1 ≡ w .start) × (rowNumber (tapeRowOf w c next) 2 ≡ w .end) × (rowNumber (tapeRowOf w c next) 8 ≡ next)
 row-numbers w (string p x) next = (refl, refl, refl)
 row-numbers w (word p x) next = (refl, refl, refl)
 row-numbers w (inside (block p t ms)) next = (refl, refl, refl)
@@ -94,7 +94,7 @@ mutual
   content-length (inside b) n = block-length b n
 
 -- a number of a row, by its place in the tape
-pub number-at : (tape : List ℕ) (n i : ℕ) → i < rowSize → number (rowAt tape n) i ≡ getD tape (rowSize * n + i) 0
+pub number-at : (tape : List ℕ) (n i : ℕ) → i < rowSize → rowNumber (rowAt tape n) i ≡ getD tape (rowSize * n + i) 0
 number-at tape n i h = rw (getD-take, getD-drop)
 
 -- the members of a row, above those of the rows behind it
@@ -126,7 +126,7 @@ reach-inside l n false = let e : suc n + 0 ≡ n + 1 = omega arith in rw (getD-d
 
 -- a walker's step: the row's member, what is inside it and what is next, where the next row, if there is one, stands behind
 pub members-step : (s : List ℕ) (count : ℕ) (tape : List ℕ) (n : ℕ) → n < count
-    → (0 < number (rowAt tape n) 8 → n < number (rowAt tape n) 8)
+    → (0 < rowNumber (rowAt tape n) 8 → n < rowNumber (rowAt tape n) 8)
     → membersAt s count tape n ≡ walked s count tape n (rowAt tape n)
 unfolding membersAt
 members-step s count tape n h k =
@@ -135,7 +135,7 @@ members-step s count tape n h k =
     let e : 0 + n ≡ n = omega arith in
     members-there s 0 n count tape h
     ∙ ap (λ i. membersBy s i row (drop (suc n) all)) e
-    ∙ λ j. member (part s (number row 1) (number row 2)) (contentIn s row (reach-inside all n (eqb (number row 7) 0) j)) (reach-next all n (number row 8) k j)
+    ∙ λ j. member (part s (rowNumber row 1) (rowNumber row 2)) (contentIn s row (reach-inside all n (eqb (rowNumber row 7) 0) j)) (reach-next all n (rowNumber row 8) k j)
 
 -- xs stands in the tape from row n on
 pub record At (tape : List ℕ) (n : ℕ) (xs : List ℕ) : Type 0 where
@@ -205,7 +205,7 @@ module _ (s : List ℕ) (count : ℕ) (tape : List ℕ) where
     -- members that stand from row n on are read back from there
     block-back : (b : Block) (w : Span) (next n : ℕ) → Ended w (inside b) → EachBlock b Ended
         → At tape (n + 1) (blockTape b (n + 1)) → n + 1 + blockRows b ≤ count
-        → contentIn s (tapeRowOf w (inside b) next) (linked s count tape (number (tapeRowOf w (inside b) next) 7) (n + 1)) ≡ Data.block (spelledBlock b s)
+        → contentIn s (tapeRowOf w (inside b) next) (linked s count tape (rowNumber (tapeRowOf w (inside b) next) 7) (n + 1)) ≡ Data.block (spelledBlock b s)
     block-back (block p t ms) w next n e h a l = λ j. Data.block (datum p (type-back s t e j) (entries-back ms (n + 1) h a l j))
 
     pub entries-back : (ms : Entries) (n : ℕ) → EachEntry ms Ended → At tape n (entriesTape ms n)
@@ -217,7 +217,7 @@ module _ (s : List ℕ) (count : ℕ) (tape : List ℕ) where
         let next = nextRow m more in
         let e = row-there w c more n a in
         let r = row-numbers w c next in
-        let k : number (rowAt tape n) 8 ≡ next = ap (λ row. number row 8) e ∙ r .2 in
+        let k : rowNumber (rowAt tape n) 8 ≡ next = ap (λ row. rowNumber row 8) e ∙ r .2 in
         rw eqb·suc-zero
         (members-step s count tape n (omega arith) (rw k (λ i. next-within more n m count (omega arith) (omega arith) i .0))
         ∙ ap (walked s count tape n) e
@@ -226,7 +226,7 @@ module _ (s : List ℕ) (count : ℕ) (tape : List ℕ) where
 
     content-back : (c : PlacedContent) (w : Span) (next n : ℕ) → Ended w c → EachContent c Ended
         → At tape (n + 1) (contentTape c (n + 1)) → n + 1 + contentRows c ≤ count
-        → contentIn s (tapeRowOf w c next) (linked s count tape (number (tapeRowOf w c next) 7) (n + 1)) ≡ spelledContent c s
+        → contentIn s (tapeRowOf w c next) (linked s count tape (rowNumber (tapeRowOf w c next) 7) (n + 1)) ≡ spelledContent c s
     content-back (string p x) w next n e h a l = refl
     content-back (word p x) w next n e h a l = refl
     content-back (inside b) w next n e h a l = block-back b w next n e h a l

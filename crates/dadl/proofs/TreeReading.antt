@@ -33,7 +33,7 @@ use Rattle.refusals.proofs.Readings.{Holds}
 use Rattle.refusals.proofs.Tokens.{strict-of}
 use Rattle.refusals.proofs.Parses.{rank, InOrder, parsed-order, order-lower, noting-order, syntax-order, then-order, order-holds, order-map}
 use Rattle.dadl.specs.Placed.{Span, Block, block, Entries, noMore, entry, PlacedContent, string, word, inside}
-use Rattle.dadl.specs.Data.{expectData, typeFrom, leafFrom, Down, typed, contentFrom, nameFrom, members, blockBy, deeper, blockFrom, outermost, datumAlone, dataText, blockOf, spanOf, innerSpan}
+use Rattle.dadl.specs.Data.{expectData, typeFrom, leafFrom, Down, typed, contentFrom, nameFrom, members, blockBy, deeperBlock, blockFrom, outermost, datumAlone, dataText, blockOf, spanOf, innerSpan}
 use Rattle.dadl.specs.contracts.Tape.{blockRows, entryRows, contentRows}
 use Rattle.dadl.proofs.TapeLaws.{EachBlock, EachEntry, EachContent}
 use Rattle.dadl.proofs.GoodTapes.{TypeLies, BlockLies, ContentLies, Lies}
@@ -252,11 +252,11 @@ module _ (s : List ℕ) (low : ℕ) (down : Down)
 -- below the levels that are allowed
 deeper-order : (s : List ℕ) (fuel bound place : ℕ) (type : Option Span) (from : ℕ) → bound ≤ rank from 0
     → length s < from + fuel → place < from → from ≤ length s → TypeLies (length s) type
-    → InOrder s bound (BlockRead s from) (deeper s fuel place type from)
-unfolding deeper
+    → InOrder s bound (BlockRead s from) (deeperBlock s fuel place type from)
+unfolding deeperBlock
 deeper-order s zero bound place type from j k l h y = absurd (omega arith)
 deeper-order s (suc fuel) bound place type from j k l h y =
-    by-order s from (deeper s fuel) (λ p t q a b c d. deeper-order s fuel (rank p 0) p t q (omega arith) (omega arith) b c d) bound place type from j (omega arith) l h y
+    by-order s from (deeperBlock s fuel) (λ p t q a b c d. deeper-order s fuel (rank p 0) p t q (omega arith) (omega arith) b c d) bound place type from j (omega arith) l h y
 
 -- at any level
 pub block-order : (s : List ℕ) (levels place : ℕ) (type : Option Span) (from : ℕ) → place < from → from ≤ length s
@@ -265,7 +265,7 @@ pub block-order : (s : List ℕ) (levels place : ℕ) (type : Option Span) (from
 unfolding blockFrom numberOf
 block-order s zero place type from l h y =
     let P = BlockRead s from in
-    noting-order s P (rank place 0) true TooDeep place (deeper s (length s + 1) place type from) 3 refl (lit≤ tt) (lit< tt) (omega arith) (omega arith) (deeper-order s (length s + 1) (rank place 3) place type from (omega arith) (omega arith) l h y)
+    noting-order s P (rank place 0) true TooDeep place (deeperBlock s (length s + 1) place type from) 3 refl (lit≤ tt) (lit< tt) (omega arith) (omega arith) (deeper-order s (length s + 1) (rank place 3) place type from (omega arith) (omega arith) l h y)
 block-order s (suc levels) place type from l h y = by-order s 0 (blockFrom s levels) (λ p t q a b c d. block-order s levels p t q b c d) (rank place 0) place type from (omega arith) (omega arith) l h y
 
 -- the outermost block

@@ -102,13 +102,13 @@ abbrev pub blockBy : List ℕ → Down → Down
 blockBy s down place type from = andThen (members s down (length s + 1) [] from) (λ ms p. parsed (block place type ms) p)
 
 -- a block below the levels that are allowed; `fuel` bounds how many levels there are, and its end is no fault of any text
-unfoldable pub deeper : List ℕ → ℕ → Down
-deeper s zero place type from = stopped (refusal EndsEarly (length s + 1))
-deeper s (suc fuel) place type from = blockBy s (deeper s fuel) place type from
+unfoldable pub deeperBlock : List ℕ → ℕ → Down
+deeperBlock s zero place type from = stopped (refusal EndsEarly (length s + 1))
+deeperBlock s (suc fuel) place type from = blockBy s (deeperBlock s fuel) place type from
 
 -- a block of at most so many levels; the first level that is not allowed is a fault
 unfoldable pub blockFrom : List ℕ → ℕ → Down
-blockFrom s zero place type from = flawed (refusal TooDeep place) (deeper s (length s + 1) place type from)
+blockFrom s zero place type from = flawed (refusal TooDeep place) (deeperBlock s (length s + 1) place type from)
 blockFrom s (suc levels) place type from = blockBy s (blockFrom s levels) place type from
 
 -- the outermost datum, of at most so many levels: its `<` is never a leaf's

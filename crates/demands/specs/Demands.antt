@@ -31,7 +31,7 @@ use Rattle.refusals.specs.Outcomes
 use Rattle.refusals.specs.Outcomes.{Outcome, gave, afterReading}
 use Rattle.refusals.specs.declared.Refusal.{Refusal}
 use Rattle.refusals.specs.Refusals.{numberOf, refusal}
-use Rattle.refusals.specs.Numbers.{PlaceSort, Row}
+use Rattle.refusals.specs.Numbers.{PlaceSort, NumberRow}
 use Rattle.refusals.specs.declared.Cause.{Cause}
 use Rattle.refusals.specs.declared.Cause.the-variants.{TextTooLong, OutputTooShort, NotAnObject}
 use Rattle.meaning.specs.Constraints.{Object}
@@ -68,7 +68,7 @@ meaningOf text form = afterReading (constraintOf text) (λ tree. judgeText tree 
 -- bytes, is that none has a `requires`.
 pub record Demand1 : Type 0 where
   -- 'Numbers of refusal': each cause has a row, and what a job tells is a row with its number and a place of the sort that the row names
-  pub numbered : (c : Cause) → (p : PlaceSort) × Row c (numberOf c) p
+  pub numbered : (c : Cause) → (p : PlaceSort) × NumberRow c (numberOf c) p
   pub compile-told : (text : List ℕ) (little : Bool) (out : List ℕ) (r : Refusal)
       → compileAnswer text little out .answer ≡ Outcomes.refused r → Told (InText text) r ⊎ Told (AtEnd text) r
   pub check-told : (table : List ℕ) (r : Refusal) → tableFault table ≡ some r → Told (InTable table) r

@@ -48,8 +48,8 @@ abbrev pub afterCompile : List ℕ → Outcome Refusal ℕ → List ℕ → Foun
 afterCompile out (refused r) text = textRefused (numberOf (r .cause))
 afterCompile out (gave size) text = judgedBy (judgeAnswer (take size out) 1 text)
 
-abbrev pub found : String → String → Found
-found leaf word = let c = compileAnswer (under leaf) false room in afterCompile (c .out) (c .answer) (form word)
+abbrev pub answerTo : String → String → Found
+answerTo leaf word = let c = compileAnswer (under leaf) false room in afterCompile (c .out) (c .answer) (form word)
 
 -- the table of a text, lent alone; nothing where compiling refuses it
 abbrev pub tableIn : List ℕ → Outcome Refusal ℕ → List ℕ
@@ -80,26 +80,26 @@ m number computed expected = record { number = number; computed = computed; expe
 
 abbrev pub markedExamples : List Mark
 markedExamples =
-    m 1 (found "|0..<1000|" "999") valid
-    ∷ m 1 (found "|0..<1000|" "1000") (fails 24)
-    ∷ m 2 (found "|100+/-5|" "95") valid
-    ∷ m 2 (found "|100+/-5|" "105") valid
-    ∷ m 2 (found "|100+/-5|" "94") (fails 24)
-    ∷ m 3 (found "|>2147483647|" "0") (textRefused 6)
-    ∷ m 4 (found "|>0..<1|" "0") (textRefused 6)
-    ∷ m 5 (found "5, |5..9|" "5") (textRefused 9)
-    ∷ m 6 (found "*" "2000-02-29") valid
-    ∷ m 6 (found "*" "1900-02-29") (dataRefused 5)
-    ∷ m 6 (found "|2000-02-29|" "2000-02-29") valid
-    ∷ m 6 (found "|1900-02-29|" "2000-02-29") (textRefused 5)
-    ∷ m 7 (found "*" "24:00:00") (dataRefused 5)
-    ∷ m 8 (found "|0..9|" "08") (fails 20)
-    ∷ m 8 (found "Thh:??:??" "08") valid
-    ∷ m 9 (found "yyyy-mm-dd" "2004-05") (fails 24)
-    ∷ m 10 (found "*" "12+13:59") valid
-    ∷ m 10 (found "*" "12+14:00") (dataRefused 5)
-    ∷ m 11 (found "*" "12-00:30") valid
-    ∷ m 11 (found "*" "12-00:00") (dataRefused 5)
+    m 1 (answerTo "|0..<1000|" "999") valid
+    ∷ m 1 (answerTo "|0..<1000|" "1000") (fails 24)
+    ∷ m 2 (answerTo "|100+/-5|" "95") valid
+    ∷ m 2 (answerTo "|100+/-5|" "105") valid
+    ∷ m 2 (answerTo "|100+/-5|" "94") (fails 24)
+    ∷ m 3 (answerTo "|>2147483647|" "0") (textRefused 6)
+    ∷ m 4 (answerTo "|>0..<1|" "0") (textRefused 6)
+    ∷ m 5 (answerTo "5, |5..9|" "5") (textRefused 9)
+    ∷ m 6 (answerTo "*" "2000-02-29") valid
+    ∷ m 6 (answerTo "*" "1900-02-29") (dataRefused 5)
+    ∷ m 6 (answerTo "|2000-02-29|" "2000-02-29") valid
+    ∷ m 6 (answerTo "|1900-02-29|" "2000-02-29") (textRefused 5)
+    ∷ m 7 (answerTo "*" "24:00:00") (dataRefused 5)
+    ∷ m 8 (answerTo "|0..9|" "08") (fails 20)
+    ∷ m 8 (answerTo "Thh:??:??" "08") valid
+    ∷ m 9 (answerTo "yyyy-mm-dd" "2004-05") (fails 24)
+    ∷ m 10 (answerTo "*" "12+13:59") valid
+    ∷ m 10 (answerTo "*" "12+14:00") (dataRefused 5)
+    ∷ m 11 (answerTo "*" "12-00:30") valid
+    ∷ m 11 (answerTo "*" "12-00:00") (dataRefused 5)
     ∷ m 12 (emptyPlace false 3) (poolPlace 0)
     ∷ m 12 (emptyPlace false 6) (poolPlace 0)
     ∷ m 12 (emptyPlace true 3) (poolPlace 0)

@@ -7,7 +7,7 @@ use Rattle.lexis.specs.Text.{bytes}
 use Rattle.lexis.specs.Runs.{StandsAt}
 use Rattle.refusals.specs.Limits.{textLimit}
 use Rattle.refusals.specs.Refusals.{numberOf}
-use Rattle.refusals.specs.Numbers.{PlaceSort, limit, token, textEnd, wholeTable, tableRecord, asked, merged, needed, Row, OfDataText}
+use Rattle.refusals.specs.Numbers.{PlaceSort, limit, token, textEnd, wholeTable, tableRecord, asked, merged, needed, NumberRow, OfDataText}
 use Rattle.refusals.specs.declared.Refusal.{Refusal}
 use Rattle.table.specs.TableRules.{IsFrame, IsTable, KindAt, ObjectOrItem}
 use Rattle.table_merge.specs.Merge.{MergeRequest, MergeRefusal, ofTable}
@@ -16,7 +16,7 @@ use Rattle.table_merge.specs.MergeRules.{Sizes, BothTables, lengthOf}
 -- a refusal with its row, and its place among the places given
 pub record Told (Place : PlaceSort → ℕ → Type 0) (r : Refusal) : Type 0 where
   pub sort : PlaceSort
-  pub row : Row (r .cause) (numberOf (r .cause)) sort
+  pub row : NumberRow (r .cause) (numberOf (r .cause)) sort
   pub place : Place sort (r .place)
 
 -- in a text: 16,384 where it is longer, or a place that is at most its length

@@ -37,7 +37,7 @@ use Rattle.table.proofs.UseLaws.{kind-shape}
 use Rattle.table.specs.contracts.Answers.{recordOf}
 use Rattle.table.specs.declared.records.Entry.{Entry}
 use Rattle.judge_admission.specs.contracts.Items.{nameOf, NamedRecord, recordItems, rangeSort, recordRange, rangeIn, textIn, rangesFrom, textsFrom, leafOfShape, recordLeaf, Lies, OfKind, Chained, Spelled, ItemsGood, itemOfShape}
-use Rattle.judge_admission.specs.contracts.Answers.{under, isAdmitted, itemAdmits}
+use Rattle.judge_admission.specs.contracts.Answers.{findingUnder, isAdmitted, itemAdmits}
 
 -- an end of an item
 pub end-signed : (signed : Bool) (x r : ℕ) → signed ≡ true → r ≡ rangeRow integers .end x
@@ -270,11 +270,11 @@ module _ (w : List ℕ) (flag : ℕ) (a : Parts) (q : timeAnswer a ≡ timeOf w)
 
 -- a string under the leaf of another shape than a string's, and a word under what is no leaf's
 module _ (records pool w : List ℕ) (n : ℕ) where
-  string-other : (k : ℕ) → (k ≡ textKind → ⊥) → unsuited ≡ under (leafOfShape records pool n (shapeOf k)) true w
+  string-other : (k : ℕ) → (k ≡ textKind → ⊥) → unsuited ≡ findingUnder (leafOfShape records pool n (shapeOf k)) true w
   unfolding stringUnder
   string-other k h = by (shapeOf k) (kind-shape k)
     where
-      by : (s : Shape) → (isKnown s ≡ true → k ≡ kindOf s) → unsuited ≡ under (leafOfShape records pool n s) true w
+      by : (s : Shape) → (isKnown s ≡ true → k ≡ kindOf s) → unsuited ≡ findingUnder (leafOfShape records pool n s) true w
       by tableHeader e = refl
       by object e = refl
       by attribute e = refl
@@ -283,10 +283,10 @@ module _ (records pool w : List ℕ) (n : ℕ) where
       by (range sort) e = refl
 
   word-none : (k : ℕ) → (k ≡ 3 → ⊥) → (k ≡ 4 → ⊥) → (k ≡ 5 → ⊥) → (k ≡ 6 → ⊥) → (k ≡ 7 → ⊥) → (k ≡ 8 → ⊥)
-      → unsuited ≡ under (leafOfShape records pool n (shapeOf k)) false w
+      → unsuited ≡ findingUnder (leafOfShape records pool n (shapeOf k)) false w
   word-none k h3 h4 h5 h6 h7 h8 = by (shapeOf k) (kind-shape k)
     where
-      by : (s : Shape) → (isKnown s ≡ true → k ≡ kindOf s) → unsuited ≡ under (leafOfShape records pool n s) false w
+      by : (s : Shape) → (isKnown s ≡ true → k ≡ kindOf s) → unsuited ≡ findingUnder (leafOfShape records pool n s) false w
       by tableHeader e = refl
       by object e = refl
       by attribute e = refl
@@ -300,57 +300,57 @@ module _ (records pool w : List ℕ) (n : ℕ) where
 -- what each kind answers, its entry read
 module _ (records pool w : List ℕ) (first : ℕ) (e : Entry) (q : recordOf e ≡ recordIn records first) (s : Bool) where
   -- the leaf is that of the entry's shape
-  shape-read : (x : Shape) (f : Finding) → shapeOf (e .kind) ≡ x → f ≡ under (leafOfShape records pool first x) s w
-      → f ≡ under (recordLeaf records pool first) s w
-  shape-read x f h g = g ∙ ap (λ y. under (leafOfShape records pool first y) s w) (sym h ∙ ap (λ r. shapeOf (r .kind)) q)
+  shape-read : (x : Shape) (f : Finding) → shapeOf (e .kind) ≡ x → f ≡ findingUnder (leafOfShape records pool first x) s w
+      → f ≡ findingUnder (recordLeaf records pool first) s w
+  shape-read x f h g = g ∙ ap (λ y. findingUnder (leafOfShape records pool first y) s w) (sym h ∙ ap (λ r. shapeOf (r .kind)) q)
 
   -- a leaf of one record, by the flag that was read
   single-read : (sort : SingleSort) (f : Finding) → shapeOf (e .kind) ≡ Rows.single sort → s ≡ false
-      → f ≡ wordUnder (single sort 0 (e .flag)) w → f ≡ under (recordLeaf records pool first) s w
+      → f ≡ wordUnder (single sort 0 (e .flag)) w → f ≡ findingUnder (recordLeaf records pool first) s w
   unfolding wordUnder
   single-read sort f h y g = shape-read (Rows.single sort) f h (rw y (g ∙ ap (λ r. singleRow sort .under (r .flag) w) q))
 
   module _ (y : s ≡ true) where
-    pub string-not : (e .kind ≡ 5 → ⊥) → unsuited ≡ under (recordLeaf records pool first) s w
+    pub string-not : (e .kind ≡ 5 → ⊥) → unsuited ≡ findingUnder (recordLeaf records pool first) s w
     string-not h = shape-read (shapeOf (e .kind)) unsuited refl (rw y (string-other records pool w first (e .kind) h))
 
     pub string-kind : (r : Bool) (f : Finding) → e .kind ≡ 5 → r ≡ isSome w (textsFrom records pool first) → f ≡ found r
-        → f ≡ under (recordLeaf records pool first) s w
+        → f ≡ findingUnder (recordLeaf records pool first) s w
     unfolding shapeOf stringUnder
     string-kind r f h z g = shape-read text f (ap shapeOf h) (rw y (g ∙ ap found z))
 
   module _ (y : s ≡ false) where
     pub word-not : (e .kind ≡ 3 → ⊥) → (e .kind ≡ 4 → ⊥) → (e .kind ≡ 5 → ⊥) → (e .kind ≡ 6 → ⊥) → (e .kind ≡ 7 → ⊥)
-        → (e .kind ≡ 8 → ⊥) → unsuited ≡ under (recordLeaf records pool first) s w
+        → (e .kind ≡ 8 → ⊥) → unsuited ≡ findingUnder (recordLeaf records pool first) s w
     word-not h3 h4 h5 h6 h7 h8 = shape-read (shapeOf (e .kind)) unsuited refl (rw y (word-none records pool w first (e .kind) h3 h4 h5 h6 h7 h8))
 
-    pub word-string : e .kind ≡ 5 → unsuited ≡ under (recordLeaf records pool first) s w
+    pub word-string : e .kind ≡ 5 → unsuited ≡ findingUnder (recordLeaf records pool first) s w
     unfolding shapeOf wordUnder
     word-string h = shape-read text unsuited (ap shapeOf h) (rw y refl)
 
     pub word-integer : (f : Finding) → e .kind ≡ 4
         → f ≡ wordUnder (ranges integers (rangesFrom integers records first)) w
-        → f ≡ under (recordLeaf records pool first) s w
+        → f ≡ findingUnder (recordLeaf records pool first) s w
     unfolding shapeOf
     word-integer f h g = shape-read (range integers) f (ap shapeOf h) (rw y g)
 
     pub word-date : (f : Finding) → e .kind ≡ 7 → f ≡ wordUnder (ranges dates (rangesFrom dates records first)) w
-        → f ≡ under (recordLeaf records pool first) s w
+        → f ≡ findingUnder (recordLeaf records pool first) s w
     unfolding shapeOf
     word-date f h g = shape-read (range dates) f (ap shapeOf h) (rw y g)
 
     pub word-boolean : (f : Finding) → e .kind ≡ 3 → f ≡ wordUnder (single booleans 0 (e .flag)) w
-        → f ≡ under (recordLeaf records pool first) s w
+        → f ≡ findingUnder (recordLeaf records pool first) s w
     unfolding shapeOf
     word-boolean f h g = single-read booleans f (ap shapeOf h) y g
 
     pub word-date-pattern : (f : Finding) → e .kind ≡ 6 → f ≡ wordUnder (single datePattern 0 (e .flag)) w
-        → f ≡ under (recordLeaf records pool first) s w
+        → f ≡ findingUnder (recordLeaf records pool first) s w
     unfolding shapeOf
     word-date-pattern f h g = single-read datePattern f (ap shapeOf h) y g
 
     pub word-time-pattern : (f : Finding) → e .kind ≡ 8 → f ≡ wordUnder (single timePattern 0 (e .flag)) w
-        → f ≡ under (recordLeaf records pool first) s w
+        → f ≡ findingUnder (recordLeaf records pool first) s w
     unfolding shapeOf
     word-time-pattern f h g = single-read timePattern f (ap shapeOf h) y g
 
@@ -393,8 +393,8 @@ module _ (w : List ℕ) (e : Entry) where
 
     -- the item is that of the entry's shape
     shape-alone : (x : Shape) (b r : Bool) → shapeOf (e .kind) ≡ x → s ≡ b
-        → r ≡ isAdmitted (under (itemOfShape pool (recordOf e) x) b w) → r ≡ itemAdmits pool (recordOf e) s w
-    shape-alone x b r h y g = g ∙ ap₂ (λ z c. isAdmitted (under (itemOfShape pool (recordOf e) z) c w)) (sym h) (sym y)
+        → r ≡ isAdmitted (findingUnder (itemOfShape pool (recordOf e) x) b w) → r ≡ itemAdmits pool (recordOf e) s w
+    shape-alone x b r h y g = g ∙ ap₂ (λ z c. isAdmitted (findingUnder (itemOfShape pool (recordOf e) z) c w)) (sym h) (sym y)
 
     pub string-alone : s ≡ true → e .kind ≡ 5 → (name : List ℕ) (r : Bool) → name ≡ nameOf pool (recordOf e)
         → r ≡ same w name → r ≡ itemAdmits pool (recordOf e) s w
@@ -406,7 +406,7 @@ module _ (w : List ℕ) (e : Entry) where
     string-alone-not y k = shape-alone (shapeOf (e .kind)) true false refl y (by (shapeOf (e .kind)) (kind-shape (e .kind)))
       where
         by : (x : Shape) → (isKnown x ≡ true → e .kind ≡ kindOf x)
-            → false ≡ isAdmitted (under (itemOfShape pool (recordOf e) x) true w)
+            → false ≡ isAdmitted (findingUnder (itemOfShape pool (recordOf e) x) true w)
         by tableHeader h = refl
         by object h = refl
         by attribute h = refl
@@ -431,7 +431,7 @@ module _ (w : List ℕ) (e : Entry) where
     word-alone-not y f g = shape-alone (shapeOf (e .kind)) false false refl y (by (shapeOf (e .kind)) (kind-shape (e .kind)))
       where
         by : (x : Shape) → (isKnown x ≡ true → e .kind ≡ kindOf x)
-            → false ≡ isAdmitted (under (itemOfShape pool (recordOf e) x) false w)
+            → false ≡ isAdmitted (findingUnder (itemOfShape pool (recordOf e) x) false w)
         by tableHeader h = refl
         by object h = refl
         by attribute h = refl

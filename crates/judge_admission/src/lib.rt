@@ -27,7 +27,7 @@ ghost use Rattle.meaning.specs.Admission.{isSome, wordUnder};
 ghost use Rattle.table.specs.Records.{recordSize, recordIn};
 ghost use Rattle.table.specs.contracts.Answers.{recordOf};
 ghost use Rattle.judge_admission.specs.contracts.Items.{nameOf, rangeSort, recordRange, rangesFrom, textsFrom, recordLeaf, Chained, Spelled, ItemsGood, NamedRecord};
-ghost use Rattle.judge_admission.specs.contracts.Answers.{findingOf, under, isAdmitted, itemAdmits};
+ghost use Rattle.judge_admission.specs.contracts.Answers.{findingOf, findingUnder, isAdmitted, itemAdmits};
 
 // How a value stands to a leaf: it is not of the kind asked, is not admitted, or is.
 pub enum Admission {
@@ -249,7 +249,7 @@ pub fn admit(
 ) -> Admission
     requires { ⌜ ItemsGood (now records) (now pool) (first .0) ⌝ }
     ensures { λ r. ⌜ findingOf r
-        ≡ under (recordLeaf (now (records .entry)) (now (pool .entry)) (first .0)) «is_string» (now (value .entry)) ⌝ }
+        ≡ findingUnder (recordLeaf (now (records .entry)) (now (pool .entry)) (first .0)) «is_string» (now (value .entry)) ⌝ }
 {
     let e = entry_at(records, first);
     let kind = e.kind;

@@ -17,7 +17,7 @@ use Rattle.meaning.specs.Data
 use Rattle.meaning.specs.Verdicts.{Verdict, valid, fails}
 use Rattle.meaning.specs.Admission.{leafNumber}
 use Rattle.meaning.specs.Judging.{placeOf, verdictOf, memberOf, judgeMember, judgeLeaf, judgeContent, judgeValue}
-use Rattle.dadl.specs.contracts.Tape.{isBlock, isString, number}
+use Rattle.dadl.specs.contracts.Tape.{isBlock, isString, rowNumber}
 use Rattle.dadl.specs.contracts.Rows.{rowAt, TapeGood}
 use Rattle.table.specs.Records.{Image, field, recordIn}
 use Rattle.table.specs.Rows.{shapeOf, objectKind, items}
@@ -27,7 +27,7 @@ use Rattle.table.specs.contracts.Answers.{recordOf}
 use Rattle.table.specs.declared.records.Entry.{Entry}
 use Rattle.table.specs.declared.records.RecordNumber.{RecordNumber}
 use Rattle.judge_admission.specs.contracts.Items.{nameOf, recordLeaf, Lies, ItemsGood, imageFrom}
-use Rattle.judge_admission.specs.contracts.Answers.{findingOf, under}
+use Rattle.judge_admission.specs.contracts.Answers.{findingOf, findingUnder}
 use Rattle.judge_attributes.specs.contracts.Answers.{leafVerdict, verdictIn}
 use Rattle.judge_tape.specs.contracts.Rows.{contentOn, membersOn, datumOn, foundRow, memberRow, Begins, LeafRow, blockOn, MembersWithin, ContentWithin, Walk}
 use Rattle.judge_attributes.specs.contracts.Attributes.{judgeFirst, ValueLink, AttributeAt, Leads, ValueIs, AttributeAnswerIs}
@@ -50,8 +50,8 @@ module _ (a : Admission) (first place : ℕ) where
   told-by b v h e = rw h e
 
 -- a block, as it is read
-pub block-read : (tape : List ℕ) (n place start end inside : ℕ) → place ≡ number (rowAt tape n) 3
-    → start ≡ number (rowAt tape n) 4 → end ≡ number (rowAt tape n) 5 → inside ≡ number (rowAt tape n) 7
+pub block-read : (tape : List ℕ) (n place start end inside : ℕ) → place ≡ rowNumber (rowAt tape n) 3
+    → start ≡ rowNumber (rowAt tape n) 4 → end ≡ rowNumber (rowAt tape n) 5 → inside ≡ rowNumber (rowAt tape n) 7
     → record { place = place; «type_start» = start; «type_end» = end; first = n + 1; inside = inside } ≡ blockOn tape n
 block-read tape n place start end inside p a e i = λ j. record { place = p j; «type_start» = a j; «type_end» = e j; first = n + 1; inside = i j }
 
@@ -67,42 +67,42 @@ first-lies records pool first i h = (h, i .there)
 -- a row whose value is known to be admitted
 pub value-known : (records pool s tape : List ℕ) (row first : ℕ) (r : Bool) → KnownIs records pool s tape row first r
     → r ≡ true → valid ≡ leafVerdict records pool s first (rowAt tape row)
-value-known records pool s tape row first r k h = ap (verdictOf first (number (rowAt tape row) 3)) (sym (k .admits h))
+value-known records pool s tape row first r k h = ap (verdictOf first (rowNumber (rowAt tape row) 3)) (sym (k .admits h))
 
 -- the value of a row that holds a string or a word
 module _ (s : List ℕ) (rows : ℕ) (tape : List ℕ) (n start end : ℕ) (g : TapeGood (length s) rows tape)
-    (l : LeafRow rows tape n) (es : start ≡ number (rowAt tape n) 6) (ee : end ≡ number (rowAt tape n) 7) where
+    (l : LeafRow rows tape n) (es : start ≡ rowNumber (rowAt tape n) 6) (ee : end ≡ rowNumber (rowAt tape n) 7) where
   pub value-told : (records pool : List ℕ) (first holds place : ℕ) (a : Admission) (v : Verdict)
-      → holds ≡ number (rowAt tape n) 0 → findingOf a ≡ under (recordLeaf records pool first) (eqb holds 1) (take (end - start) (drop start s)) → place ≡ number (rowAt tape n) 3 → v ≡ verdictOf first place (findingOf a)
+      → holds ≡ rowNumber (rowAt tape n) 0 → findingOf a ≡ findingUnder (recordLeaf records pool first) (eqb holds 1) (take (end - start) (drop start s)) → place ≡ rowNumber (rowAt tape n) 3 → v ≡ verdictOf first place (findingOf a)
       → v ≡ leafVerdict records pool s first (rowAt tape n)
   value-told records pool first holds place a v eh ea ep ev =
       let row = rowAt tape n in
-      ev ∙ ap (verdictOf first place) ea ∙ λ j. verdictOf first (ep j) (under (recordLeaf records pool first) (eqb (eh j) 1) (part s (es j) (ee j)))
+      ev ∙ ap (verdictOf first place) ea ∙ λ j. verdictOf first (ep j) (findingUnder (recordLeaf records pool first) (eqb (eh j) 1) (part s (es j) (ee j)))
 
 -- what a row holds: a block, or a string or a word
 module _ (s : List ℕ) (rows : ℕ) (tape : List ℕ) (n : ℕ) where
-  pub content-block : number (rowAt tape n) 0 ≡ 0
+  pub content-block : rowNumber (rowAt tape n) 0 ≡ 0
       → contentOn s rows tape n ≡ Data.block (datumOn s rows tape (blockOn tape n))
   content-block h = rw h
 
   -- a leaf under an object
-  leaf-under-object : (number·object : ℕ) (inside : Data.Datum → Verdict) → (number (rowAt tape n) 0 ≡ 0 → ⊥)
-      → judgeContent number·object inside (contentOn s rows tape n) ≡ fails 20 number·object (number (rowAt tape n) 3)
+  leaf-under-object : (number·object : ℕ) (inside : Data.Datum → Verdict) → (rowNumber (rowAt tape n) 0 ≡ 0 → ⊥)
+      → judgeContent number·object inside (contentOn s rows tape n) ≡ fails 20 number·object (rowNumber (rowAt tape n) 3)
   leaf-under-object m inside h =
-      rw (ne-eqb (number (rowAt tape n) 0) 0 h)
-      (by-cond (λ c. judgeContent m inside c ≡ fails 20 m (number (rowAt tape n) 3)) (eqb (number (rowAt tape n) 0) isString) (λ _. refl) (λ _. refl))
+      rw (ne-eqb (rowNumber (rowAt tape n) 0) 0 h)
+      (by-cond (λ c. judgeContent m inside c ≡ fails 20 m (rowNumber (rowAt tape n) 3)) (eqb (rowNumber (rowAt tape n) 0) isString) (λ _. refl) (λ _. refl))
 
   -- a leaf under items
   leaf-under-items : (records pool : List ℕ) (l : Leaf) (first : ℕ) → leafNumber l ≡ first
-      → recordLeaf records pool first ≡ some l → (number (rowAt tape n) 0 ≡ 0 → ⊥)
+      → recordLeaf records pool first ≡ some l → (rowNumber (rowAt tape n) 0 ≡ 0 → ⊥)
       → judgeLeaf l (contentOn s rows tape n) ≡ leafVerdict records pool s first (rowAt tape n)
   leaf-under-items records pool l first el ef h =
       let row = rowAt tape n in
-      let w = part s (number row 6) (number row 7) in
-      rw (ne-eqb (number row 0) 0 h, ef, ← el) (by (eqb (number row 0) isString))
+      let w = part s (rowNumber row 6) (rowNumber row 7) in
+      rw (ne-eqb (rowNumber row 0) 0 h, ef, ← el) (by (eqb (rowNumber row 0) isString))
     where
       by : (b : Bool)
-          → judgeLeaf l (cond b (string (number (rowAt tape n) 3) (part s (number (rowAt tape n) 6) (number (rowAt tape n) 7))) (word (number (rowAt tape n) 3) (part s (number (rowAt tape n) 6) (number (rowAt tape n) 7)))) ≡ verdictOf (leafNumber l) (number (rowAt tape n) 3) (under (some l) b (part s (number (rowAt tape n) 6) (number (rowAt tape n) 7)))
+          → judgeLeaf l (cond b (string (rowNumber (rowAt tape n) 3) (part s (rowNumber (rowAt tape n) 6) (rowNumber (rowAt tape n) 7))) (word (rowNumber (rowAt tape n) 3) (part s (rowNumber (rowAt tape n) 6) (rowNumber (rowAt tape n) 7)))) ≡ verdictOf (leafNumber l) (rowNumber (rowAt tape n) 3) (findingUnder (some l) b (part s (rowNumber (rowAt tape n) 6) (rowNumber (rowAt tape n) 7)))
       by true = refl
       by false = refl
 
@@ -129,7 +129,7 @@ module _ (records pool s tape : List ℕ) (rows : ℕ) (value : RecordNumber) (r
       items-kind : (kind ≡ 1 → ⊥) → among (kindAt (imageFrom records pool) (value .0)) items ≡ true
       items-kind z = by-kind (kindAt (imageFrom records pool) (value .0)) 1 items (l .kind (omega arith)) (λ f. absurd (z (sym kind-read ∙ f))) (λ f. f)
 
-      module _ (z : row < rows) (holds : ℕ) (eh : holds ≡ number (rowAt tape row) 0) where
+      module _ (z : row < rows) (holds : ℕ) (eh : holds ≡ rowNumber (rowAt tape row) 0) where
         -- a block under an object is still to be judged
         pub value-nested : kind ≡ 1 → holds ≡ 0 → (b : Block) → b ≡ blockOn tape row
             → ValueIs (imageFrom records pool) s rows tape (value .0) row (Nested value b)
@@ -149,9 +149,9 @@ module _ (records pool s tape : List ℕ) (rows : ℕ) (value : RecordNumber) (r
             }
 
         module _ (v : declared.Verdict) (place : ℕ) (er : verdictIn v ≡ fails 20 (value .0) place)
-            (ep : place ≡ number (rowAt tape row) 3) where
+            (ep : place ≡ rowNumber (rowAt tape row) 3) where
           told-20 : fails 20 (value .0)
-              (number (rowAt tape row) 3) ≡ judgeValue (valueIn (treeAt (imageFrom records pool) (value .0)))
+              (rowNumber (rowAt tape row) 3) ≡ judgeValue (valueIn (treeAt (imageFrom records pool) (value .0)))
               (contentOn s rows tape row) → ValueIs (imageFrom records pool) s rows tape (value .0) row (Told v)
           told-20 f = record { is = er ∙ ap (fails 20 (value .0)) ep ∙ f; leads = tt }
 
@@ -204,10 +204,10 @@ member-within w (member x d more) c levels e h = by (same w x) e (λ g. member-w
 
 -- the place of what a row holds
 content-place : (s : List ℕ) (rows : ℕ) (tape : List ℕ) (n : ℕ)
-    → placeOf (contentOn s rows tape n) ≡ number (rowAt tape n) 3
+    → placeOf (contentOn s rows tape n) ≡ rowNumber (rowAt tape n) 3
 content-place s rows tape n =
-    let P : Content → Type 0 = λ c. placeOf c ≡ number (rowAt tape n) 3 in
-    either P (eqb (number (rowAt tape n) 0) isBlock) refl (either P (eqb (number (rowAt tape n) 0) isString) refl refl)
+    let P : Content → Type 0 = λ c. placeOf c ≡ rowNumber (rowAt tape n) 3 in
+    either P (eqb (rowNumber (rowAt tape n) 0) isBlock) refl (either P (eqb (rowNumber (rowAt tape n) 0) isString) refl refl)
 
 -- the block that a step leads into is within what holds it
 leads-map : (m : Image) (s : List ℕ) (rows : ℕ) (tape : List ℕ) (P Q : ℕ → Type 0)
@@ -254,7 +254,7 @@ module _ (records pool s tape : List ℕ) (rows : ℕ) (n : RecordNumber) (e : E
       member-row = rw h at (f .there)
 
       pub member-present : (v : declared.Verdict) (place : ℕ) → verdictIn v ≡ fails 23 (n .0) place
-          → place ≡ number (rowAt tape row) 3 → e .flag ≡ 0
+          → place ≡ rowNumber (rowAt tape row) 3 → e .flag ≡ 0
           → AttributeAnswerIs (imageFrom records pool) s rows tape (n .0) b (Told v)
       member-present v place ev ep z =
           let k : fails 23 (n .0) (placeOf (contentOn s rows tape row)) ≡ judgeFirst (attributesIn (treeAt (imageFrom records pool) (n .0))) (b .place) (membersOn s rows tape b) = rw (h, z) at first-is in

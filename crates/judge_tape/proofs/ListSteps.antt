@@ -18,7 +18,7 @@ use Rattle.meaning.specs.Findings
 use Rattle.meaning.specs.Findings.{Finding, admitted, found, try}
 use Rattle.meaning.specs.Sorts.{inRange, inSome, textKind}
 use Rattle.meaning.specs.Admission.{isSome, wordUnder, stringUnder}
-use Rattle.dadl.specs.contracts.Tape.{number}
+use Rattle.dadl.specs.contracts.Tape.{rowNumber}
 use Rattle.dadl.specs.contracts.Rows.{rowAt}
 use Rattle.table.specs.Records.{Record, field, recordIn}
 use Rattle.table.specs.Rows.{Shape, tableHeader, object, attribute, text, single, range, shapeOf, kindOf, isKnown, isListed}
@@ -27,7 +27,7 @@ use Rattle.table.specs.contracts.Answers.{recordOf}
 use Rattle.table.specs.declared.records.Entry.{Entry}
 use Rattle.table.proofs.UseLaws.{by-or, shape-kind, kind-shape}
 use Rattle.judge_admission.specs.contracts.Items.{rangeIn, textIn, itemOfShape, itemOf, Lies, NamedRecord, imageFrom, TableGood}
-use Rattle.judge_admission.specs.contracts.Answers.{under, isAdmitted, itemAdmits}
+use Rattle.judge_admission.specs.contracts.Answers.{findingUnder, isAdmitted, itemAdmits}
 use Rattle.judge_tape.specs.contracts.Rows.{LeafRow, Walk}
 use Rattle.judge_tape.specs.contracts.Memo.{marked, markBit, Marks, recordCount, mayVisit, ValueAdmitted, leadsIn, markItem, markItems, enterLeaf, knownIn, Listing, OfItems, old, item, ItemsMarked, MemoGood, KnownIs}
 use Rattle.judge_admission.proofs.TableLaws.{records-long, kind-back, name-there, list-link-below, ranges-leaf, ranges-rest, texts-leaf, texts-rest}
@@ -122,28 +122,28 @@ abbrev numbered : ℕ → Range → Range
 numbered n x = record { number = n; low = x .low; high = x .high }
 
 module _ (x : Range) (xs : List Range) (w : List ℕ) where
-  ranges-alone : (sort : RangeSort) (n : ℕ) (t : Bool) → under (some (ranges sort (numbered n x ∷ []))) t w ≡ admitted
-      → under (some (ranges sort (x ∷ xs))) t w ≡ admitted
+  ranges-alone : (sort : RangeSort) (n : ℕ) (t : Bool) → findingUnder (some (ranges sort (numbered n x ∷ []))) t w ≡ admitted
+      → findingUnder (some (ranges sort (x ∷ xs))) t w ≡ admitted
   unfolding wordUnder stringUnder inSome
   ranges-alone sort n true h = h
   ranges-alone integers n false h = try-grow (integerOf w) _ _ (λ v. or-alone (inRange v x) (inSome v xs)) h
   ranges-alone dates n false h = try-grow (dateOf w) _ _ (λ d. and-grow (eqb (d .parts) 3) _ _ (or-alone (inRange (d .day) x) (inSome (d .day) xs))) h
 
-  ranges-more : (sort : RangeSort) (t : Bool) → under (some (ranges sort xs)) t w ≡ admitted
-      → under (some (ranges sort (x ∷ xs))) t w ≡ admitted
+  ranges-more : (sort : RangeSort) (t : Bool) → findingUnder (some (ranges sort xs)) t w ≡ admitted
+      → findingUnder (some (ranges sort (x ∷ xs))) t w ≡ admitted
   unfolding wordUnder stringUnder inSome
   ranges-more sort true h = h
   ranges-more integers false h = try-grow (integerOf w) _ _ (λ v. or-more (inRange v x) (inSome v xs)) h
   ranges-more dates false h = try-grow (dateOf w) _ _ (λ d. and-grow (eqb (d .parts) 3) _ _ (or-more (inRange (d .day) x) (inSome (d .day) xs))) h
 
 module _ (x : Text) (xs : List Text) (w : List ℕ) where
-  texts-alone : (n : ℕ) (t : Bool) → under (some (texts (record { number = n; text = x .text } ∷ []))) t w ≡ admitted
-      → under (some (texts (x ∷ xs))) t w ≡ admitted
+  texts-alone : (n : ℕ) (t : Bool) → findingUnder (some (texts (record { number = n; text = x .text } ∷ []))) t w ≡ admitted
+      → findingUnder (some (texts (x ∷ xs))) t w ≡ admitted
   unfolding wordUnder stringUnder isSome
   texts-alone n true h = found-of (same w (x .text) || isSome w xs) (or-alone (same w (x .text)) (isSome w xs) (found-true (same w (x .text) || false) h))
   texts-alone n false h = h
 
-  texts-more : (t : Bool) → under (some (texts xs)) t w ≡ admitted → under (some (texts (x ∷ xs))) t w ≡ admitted
+  texts-more : (t : Bool) → findingUnder (some (texts xs)) t w ≡ admitted → findingUnder (some (texts (x ∷ xs))) t w ≡ admitted
   unfolding wordUnder stringUnder isSome
   texts-more true h = found-of (same w (x .text) || isSome w xs) (or-more (same w (x .text)) (isSome w xs) (found-true (isSome w xs) h))
   texts-more false h = h
@@ -172,7 +172,7 @@ module _ (records pool : List ℕ) (t : TableGood records pool) (n : ℕ) (here 
 
   module _ (s : Bool) (w : List ℕ) where
     item-alone : (x : Shape) → shapeOf (recordIn records n .kind) ≡ x → isListed x ≡ true
-        → under (itemOfShape pool (recordIn records n) x) s w ≡ admitted → ValueAdmitted records pool n s w
+        → findingUnder (itemOfShape pool (recordIn records n) x) s w ≡ admitted → ValueAdmitted records pool n s w
     item-alone tableHeader q a h = absurd (false≢true a)
     item-alone object q a h = absurd (false≢true a)
     item-alone attribute q a h = absurd (false≢true a)
@@ -213,7 +213,7 @@ module _ (records pool memo : List ℕ) (base : ℕ) (s : Bool) (w : List ℕ) (
         let l : leadsIn pool memo base (recordIn records n) s w ≡ true = subst (λ r. leadsIn pool memo base r s w ≡ true) q h in
         let x = field (recordIn records n) 4 in
         by-or (itemAdmits pool (recordIn records n) s w) (not (eqb x 0) && marked memo (base + x)) l
-        (λ y. item-alone records pool (g .checked) n here below s w (shapeOf (recordIn records n .kind)) refl b (admitted-is (under (itemOf pool (recordIn records n)) s w) y))
+        (λ y. item-alone records pool (g .checked) n here below s w (shapeOf (recordIn records n .kind)) refl b (admitted-is (findingUnder (itemOf pool (recordIn records n)) s w) y))
         (λ y.
         let z : 0 < x = not-nought x (and-left (not (eqb x 0)) (marked memo (base + x)) y) in
         item-more records pool (g .checked) n here below s w (shapeOf (recordIn records n .kind)) refl b z (g .admits x z (item-below records pool (g .checked) n here below s w b z) (and-right (not (eqb x 0)) (marked memo (base + x)) y)))
@@ -330,8 +330,8 @@ module _ (records pool s tape memo : List ℕ) (rows row base : ℕ) (k : Walk r
   pub row-near : base ≤ 8_388_608
   row-near = rw eb (rows-near records pool s tape rows row k l)
 
-  pub row-listing : (after : List ℕ) → Marks memo base after → (start end holds : ℕ) → start ≡ number (rowAt tape row) 6
-      → end ≡ number (rowAt tape row) 7 → holds ≡ number (rowAt tape row) 0
+  pub row-listing : (after : List ℕ) → Marks memo base after → (start end holds : ℕ) → start ≡ rowNumber (rowAt tape row) 6
+      → end ≡ rowNumber (rowAt tape row) 7 → holds ≡ rowNumber (rowAt tape row) 0
       → Listing records pool after base (eqb holds 1) (take (end - start) (drop start s))
   row-listing after m start end holds es ee eh =
       let h = memo-entered records pool s tape rows memo after g row base eb m in
@@ -341,8 +341,8 @@ module _ (records pool s tape memo : List ℕ) (rows row base : ℕ) (k : Walk r
         admits = λ n p b t. rw (eh, es, ee) (h .leaves row n (l .leaf) p b (rw (← eb) t));
       }
 
-  pub row-marked : (after : List ℕ) → Marks memo base after → (start end holds : ℕ) → start ≡ number (rowAt tape row) 6
-      → end ≡ number (rowAt tape row) 7 → holds ≡ number (rowAt tape row) 0
+  pub row-marked : (after : List ℕ) → Marks memo base after → (start end holds : ℕ) → start ≡ rowNumber (rowAt tape row) 6
+      → end ≡ rowNumber (rowAt tape row) 7 → holds ≡ rowNumber (rowAt tape row) 0
       → (last : List ℕ) → ItemsMarked records pool after base (eqb holds 1) (take (end - start) (drop start s)) last → MemoGood records pool s tape rows last
   row-marked after m start end holds es ee eh last i =
       memo-listed records pool s tape rows after last (memo-entered records pool s tape rows memo after g row base eb m) row base eb (l .leaf) (take (end - start) (drop start s)) (eqb holds 1) (rw (es, ee)) (rw eh) i
@@ -353,8 +353,8 @@ module _ (records pool s tape memo : List ℕ) (rows row base : ℕ) (k : Walk r
   leaf-again r e h = rw (← eb, ← e, h)
 
   pub leaf-first : (r : Bool) → r ≡ marked memo base → r ≡ false → (after : List ℕ) → after ≡ markBit memo base
-      → (start end holds : ℕ) → start ≡ number (rowAt tape row) 6 → end ≡ number (rowAt tape row) 7
-      → holds ≡ number (rowAt tape row) 0
+      → (start end holds : ℕ) → start ≡ rowNumber (rowAt tape row) 6 → end ≡ rowNumber (rowAt tape row) 7
+      → holds ≡ rowNumber (rowAt tape row) 0
       → (last : List ℕ) → last ≡ markItems records pool base (eqb holds 1) (take (end - start) (drop start s)) (recordCount records - 1) after → last ≡ enterLeaf records pool s tape row memo
   unfolding enterLeaf
   leaf-first r e h after ea start end holds es ee eh last el = rw (← eb, ← e, h, ← ea, ← es, ← ee, ← eh) el

@@ -13,7 +13,7 @@ use Rattle.lexis.proofs.Cases.{by-cond}
 use Rattle.meaning.specs.Data.{Members, Content}
 use Rattle.meaning.specs.Data
 use Rattle.meaning.specs.Judging.{memberOf}
-use Rattle.dadl.specs.contracts.Tape.{rowSize, number, membersAt}
+use Rattle.dadl.specs.contracts.Tape.{rowSize, rowNumber, membersAt}
 use Rattle.dadl.specs.contracts.Rows.{rowAt, TapeGood, linked, walked}
 use Rattle.dadl.specs.contracts.Answers.{nameAt, NameLies}
 use Rattle.dadl.proofs.TapeLaws.{number-at}
@@ -23,7 +23,7 @@ use Rattle.judge_tape.specs.contracts.Rows.{contentOn, foundRow, rowFrom
 
 -- a number of a row, as it is read
 pub number-read : (tape : List ℕ) (n i r : ℕ) → i < rowSize → r ≡ getD tape (rowSize * n + i) 0
-    → r ≡ number (rowAt tape n) i
+    → r ≡ rowNumber (rowAt tape n) i
 number-read tape n i r h e = e ∙ sym (number-at tape n i h)
 
 -- a row that there is lies on the tape
@@ -53,13 +53,13 @@ module _ (s tape : List ℕ) (rows first inside : ℕ) (name : List ℕ) (n : �
   either here fuel next = cond here (some n) (cond (eqb next 0) none (rowFrom s tape name fuel next))
 
   now-or-later : (fuel : ℕ) × (rows ≤ suc n + fuel)
-      × (either (same name (part s (number (rowAt tape n) 1) (number (rowAt tape n) 2))) fuel (number (rowAt tape n) 8) ≡ memberRow s tape rows first inside name)
+      × (either (same name (part s (rowNumber (rowAt tape n) 1) (rowNumber (rowAt tape n) 2))) fuel (rowNumber (rowAt tape n) 8) ≡ memberRow s tape rows first inside name)
   unfolding rowFrom
   now-or-later = by (i .fuel) (i .enough) (i .is)
     where
       by : (fuel : ℕ) → rows ≤ n + fuel → rowFrom s tape name fuel n ≡ memberRow s tape rows first inside name
           → (fuel : ℕ) × (rows ≤ suc n + fuel)
-          × (either (same name (part s (number (rowAt tape n) 1) (number (rowAt tape n) 2))) fuel (number (rowAt tape n) 8) ≡ memberRow s tape rows first inside name)
+          × (either (same name (part s (rowNumber (rowAt tape n) 1) (rowNumber (rowAt tape n) 2))) fuel (rowNumber (rowAt tape n) 8) ≡ memberRow s tape rows first inside name)
       by zero l e = absurd (let t = i .there in omega arith)
       by (suc fuel) l e = (fuel, omega arith, e)
 
@@ -70,14 +70,14 @@ module _ (s tape : List ℕ) (rows first inside : ℕ) (name : List ℕ) (n : �
       let y = number-at tape n 2 (omega arith) in
       record { room = let r = row-lies (length s) rows tape n g (i .there) in omega arith; order = let o = q .nameStart in omega arith; inside = rw y at (q .nameEnd) }
 
-  name-at : nameAt s tape n ≡ part s (number (rowAt tape n) 1) (number (rowAt tape n) 2)
+  name-at : nameAt s tape n ≡ part s (rowNumber (rowAt tape n) 1) (rowNumber (rowAt tape n) 2)
   name-at = rw (number-at tape n 1 (omega arith), number-at tape n 2 (omega arith))
 
   module _ (w : List ℕ) (ew : w ≡ nameAt s tape n) (r : Bool) (er : r ≡ same name w) where
     pub rows-found : r ≡ true → foundRow (At n) ≡ memberRow s tape rows first inside name
-    rows-found h = ap (λ b. either b (now-or-later .0) (number (rowAt tape n) 8)) (sym h ∙ er ∙ ap (same name) (ew ∙ name-at)) ∙ now-or-later .2
+    rows-found h = ap (λ b. either b (now-or-later .0) (rowNumber (rowAt tape n) 8)) (sym h ∙ er ∙ ap (same name) (ew ∙ name-at)) ∙ now-or-later .2
 
-    module _ (h : r ≡ false) (next : ℕ) (en : next ≡ number (rowAt tape n) 8) where
+    module _ (h : r ≡ false) (next : ℕ) (en : next ≡ rowNumber (rowAt tape n) 8) where
       later : cond (eqb next 0) none (rowFrom s tape name (now-or-later .0) next) ≡ memberRow s tape rows first inside name
       later = ap₂ (λ b k. either b (now-or-later .0) k) (sym h ∙ er ∙ ap (same name) (ew ∙ name-at)) en ∙ now-or-later .2
 
@@ -86,7 +86,7 @@ module _ (s tape : List ℕ) (rows first inside : ℕ) (name : List ℕ) (n : �
 
       module _ (z : next ≡ 0 → ⊥) where
         up : (n < next) × (next < rows)
-        up = let q = g .rows n (i .there) .next in let k : 0 < number (rowAt tape n) 8 = rw (← en) (omega arith) in rw (← en) at (q k)
+        up = let q = g .rows n (i .there) .next in let k : 0 < rowNumber (rowAt tape n) 8 = rw (← en) (omega arith) in rw (← en) at (q k)
 
         pub rows-next : InRows s tape rows first inside name next
         rows-next = record { fuel = now-or-later .0; enough = let l = now-or-later .1 in let u = up in omega arith; there = up .1; is = rw (ne-eqb next 0 z) at later }
@@ -116,9 +116,9 @@ module _ (s : List ℕ) (rows : ℕ) (tape name : List ℕ) (g : TapeGood (lengt
   row-holds zero n h l = absurd (omega arith)
   row-holds (suc fuel) n h l =
       let row = rowAt tape n in
-      let next = number row 8 in
+      let next = rowNumber row 8 in
       rw (good-step s (length s) rows tape n g h)
-      (by-cond (λ o. FoundIs s rows tape (walked s rows tape n row) name o) (same name (part s (number row 1) (number row 2)))
+      (by-cond (λ o. FoundIs s rows tape (walked s rows tape n row) name o) (same name (part s (rowNumber row 1) (rowNumber row 2)))
       (λ e. record { is = rw e; there = h })
       (λ e. by-cond (λ o. FoundIs s rows tape (walked s rows tape n row) name o) (eqb next 0)
       (λ z. record { is = rw (e, z); there = tt })
@@ -140,7 +140,7 @@ module _ (s : List ℕ) (rows : ℕ) (tape name : List ℕ) (g : TapeGood (lengt
 
 -- where the value of a row that holds a string or a word lies
 module _ (s : List ℕ) (rows : ℕ) (tape : List ℕ) (n start end : ℕ) (g : TapeGood (length s) rows tape)
-    (l : LeafRow rows tape n) (es : start ≡ number (rowAt tape n) 6) (ee : end ≡ number (rowAt tape n) 7) where
+    (l : LeafRow rows tape n) (es : start ≡ rowNumber (rowAt tape n) 6) (ee : end ≡ rowNumber (rowAt tape n) 7) where
   pub value-order : start ≤ end
   value-order = let r = g .rows n (l .there) .value (l .leaf) in omega arith
 

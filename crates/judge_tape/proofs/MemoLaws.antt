@@ -12,7 +12,7 @@ use Rattle.meaning.specs.Data.{Members}
 use Rattle.meaning.specs.Verdicts.{Verdict, valid, fails}
 use Rattle.meaning.specs.Judging.{thenJudge, memberOf, judgeMember, judgeAttributes, judgeValue}
 use Rattle.lexis.specs.Runs.{part}
-use Rattle.dadl.specs.contracts.Tape.{isString, number, HoldsBlock, HoldsLeaf}
+use Rattle.dadl.specs.contracts.Tape.{isString, rowNumber, HoldsBlock, HoldsLeaf}
 use Rattle.dadl.specs.contracts.Rows.{rowAt}
 use Rattle.table.specs.Records.{field, recordIn}
 use Rattle.table.specs.Rows.{shapeOf}
@@ -20,7 +20,7 @@ use Rattle.table.specs.Check.{kindAt}
 use Rattle.table.proofs.UseLaws.{LinkRight}
 use Rattle.judge_admission.specs.contracts.Items.{Lies, imageFrom, TableGood}
 use Rattle.judge_tape.specs.contracts.Rows.{blockOn, OfRow}
-use Rattle.judge_tape.specs.contracts.Memo.{marked, Blank, Marks, recordCount, baseOf, VisitOf, OnChain, here, later, ChainGood, Marking, before, new, ChainMarked, BlockAdmitted, RowAdmits, OfItems, old, item, ItemsMarked, MemoGood}
+use Rattle.judge_tape.specs.contracts.Memo.{marked, NoBit, Marks, recordCount, baseOf, VisitOf, OnChain, here, later, ChainGood, Marking, before, new, ChainMarked, BlockAdmitted, RowAdmits, OfItems, old, item, ItemsMarked, MemoGood}
 use Rattle.judge_tape.specs.declared.members.Block.{Block}
 use Rattle.judge_tape.specs.declared.memo.Visit.{Visit}
 use Rattle.judge_tape.proofs.MemoSteps.{no-bit}
@@ -47,10 +47,10 @@ none-marked : (n i : ℕ) → marked (replicate n 0) i ≡ false
 unfolding marked
 none-marked n i = rw (replicate-none n (i / 8)) (no-bit (i % 8) (omega arith))
 
-pub memo-blank : (n : ℕ) → Blank (replicate n 0)
+pub memo-blank : (n : ℕ) → NoBit (replicate n 0)
 memo-blank n = record { none = none-marked n }
 
-pub memo-start : (records pool s tape : List ℕ) (rows : ℕ) (memo : List ℕ) → Blank memo
+pub memo-start : (records pool s tape : List ℕ) (rows : ℕ) (memo : List ℕ) → NoBit memo
     → MemoGood records pool s tape rows memo
 memo-start records pool s tape rows memo b = record {
   admits = λ row k q h l t. absurd (false≢true (sym (b .none ((row + 1) * recordCount records + k)) ∙ t));
@@ -86,8 +86,8 @@ module _ (records pool s tape : List ℕ) (rows : ℕ) (memo after : List ℕ)
 
   -- the items of a row are marked
   pub memo-listed : (row base : ℕ) → base ≡ (row + 1) * recordCount records → HoldsLeaf (rowAt tape row)
-      → (w : List ℕ) (t : Bool) → w ≡ part s (number (rowAt tape row) 6) (number (rowAt tape row) 7)
-      → t ≡ eqb (number (rowAt tape row) 0) isString
+      → (w : List ℕ) (t : Bool) → w ≡ part s (rowNumber (rowAt tape row) 6) (rowNumber (rowAt tape row) 7)
+      → t ≡ eqb (rowNumber (rowAt tape row) 0) isString
       → ItemsMarked records pool memo base t w after → MemoGood records pool s tape rows after
   memo-listed row base eb leaf w t ew et m = record {
     admits = λ r n q h l x. block r n q h l x (m .each ((r + 1) * recordCount records + n) x);

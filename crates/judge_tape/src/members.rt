@@ -4,7 +4,7 @@ use lexis::runs::same_bytes;
 ghost use mathlib.Core.Path.{_≡_};
 ghost use Prim.Native.Nat.{_+_, _*_, _≤_, _<_};
 ghost use lib.ListN.{length};
-ghost use Rattle.dadl.specs.contracts.Tape.{rowSize, number};
+ghost use Rattle.dadl.specs.contracts.Tape.{rowSize, rowNumber};
 ghost use Rattle.dadl.specs.contracts.Rows.{rowAt, TapeGood};
 ghost use Rattle.judge_tape.specs.contracts.Rows.{Begins, foundRow, memberRow};
 
@@ -29,7 +29,7 @@ pub struct Block {
 pub fn number(tape: &[u16], n: usize, i: usize) -> usize
     requires { ⌜ rowSize * n + rowSize ≤ length (now tape) ⌝ }
     requires { ⌜ i < rowSize ⌝ }
-    ensures { λ r. ⌜ r ≡ number (rowAt (now (tape .entry)) n) i ⌝ }
+    ensures { λ r. ⌜ r ≡ rowNumber (rowAt (now (tape .entry)) n) i ⌝ }
 {
     dadl::rows::number(tape, n, i)
 }

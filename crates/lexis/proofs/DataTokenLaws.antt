@@ -13,7 +13,7 @@ use Rattle.lexis.specs.Bytes.{is, sortOf, small, capital, wordByte, stri
 use Rattle.lexis.specs.Runs.{past, byteAt, part, all, startsWith, same, StandsAt}
 use Rattle.lexis.specs.Blanks.{tokenStart}
 use Rattle.lexis.specs.Spelling
-use Rattle.lexis.specs.Spelling.{literal, wordSort}
+use Rattle.lexis.specs.Spelling.{literalOf, wordSort}
 use Rattle.lexis.specs.Tokens.{token, noToken, spelled, quoted, unreadable, typeName, name}
 use Rattle.lexis.specs.DataTokens.{dataMarks, nameSort, runSort, typeSort, dataTokenOn, dataTokenAt, typeTokenAt}
 use Rattle.lexis.specs.declared.Token.{Token}
@@ -42,7 +42,7 @@ record Plain (x y w : List ℕ) : Type 0 where
 
 -- the sort of a run under two spellings of other sorts: its own where it is plain, else unreadable
 name-sort : (x y : List ℕ) (a b sort : ℕ) → a ≢ sort → b ≢ sort → (w : List ℕ) (P : ℕ → Type 0) → (Plain x y w → P sort)
-    → (¬ Plain x y w → P unreadable) → P (nameSort (literal a x ∷ literal b y ∷ []) sort w)
+    → (¬ Plain x y w → P unreadable) → P (nameSort (literalOf a x ∷ literalOf b y ∷ []) sort w)
 unfolding wordSort
 name-sort x y a b sort n m w P f g =
     let Q : ℕ → Type 0 = λ v. P (cond (eqb v sort) sort unreadable) in

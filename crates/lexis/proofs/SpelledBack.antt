@@ -10,7 +10,7 @@ use borrow.Author.Tests.{eqb-true, eqb-false, ne-eqb, not-true}
 use Rattle.lexis.specs.Text.{byte}
 use Rattle.lexis.specs.Bytes.{is, sortOf, digit, small, capital, mark}
 use Rattle.lexis.specs.Runs.{byteAt, startsWith, same}
-use Rattle.lexis.specs.Spelling.{Literal, literal, markSpellings, elementSign, datePatternSpellings, timePatternSpellings, less, greater}
+use Rattle.lexis.specs.Spelling.{Literal, literalOf, markSpellings, elementSign, datePatternSpellings, timePatternSpellings, less, greater}
 use Rattle.lexis.specs.Tokens.{token, spelled, tokenOn}
 use Rattle.lexis.specs.declared.Token.{Token}
 use Rattle.lexis.proofs.Cases.{by-cond, and-left, and-right}
@@ -107,7 +107,7 @@ literals = markSpellings ++ elementSign ++ datePatternSpellings ++ timePatternSp
 
 -- one of the list by its number
 abbrev pub literalAt : ℕ → Literal
-literalAt i = getD literals i (literal 0 [])
+literalAt i = getD literals i (literalOf 0 [])
 
 -- a byte may stand behind a spelling of that sort: only `=` may not, and only behind `<` and `>`
 abbrev pub free : ℕ → ℕ → Bool
@@ -141,5 +141,5 @@ pub literal-read : (s : List ℕ) (at : ℕ) (rest : List ℕ) (i : ℕ) → i <
     → free (literalAt i .sort) (byteAt rest 0) ≡ true → tokenOn s at ≡ token (literalAt i .sort) at (at + length (literalAt i .spelling))
 unfolding literal-reads
 literal-read s at rest i l h f =
-    let k = every-at (literal-reads (byteAt rest 0)) literals i (literal 0 []) l (literals-read (byteAt rest 0)) in
+    let k = every-at (literal-reads (byteAt rest 0)) literals i (literalOf 0 []) l (literals-read (byteAt rest 0)) in
     reads-back s at (literalAt i .spelling) rest h (literalAt i .sort) (rw f at k)

@@ -11,7 +11,7 @@ use lib.Seq.{getD-drop}
 use borrow.Author.Tests.{ne-eqb}
 use Rattle.lexis.specs.Text.{bytes}
 use Rattle.lexis.specs.Runs.{byteAt, startsWith}
-use Rattle.lexis.specs.Spelling.{Literal, literal, markSpellings, datePatternSpellings, timePatternSpellings}
+use Rattle.lexis.specs.Spelling.{Literal, literalOf, markSpellings, datePatternSpellings, timePatternSpellings}
 use Rattle.lexis.specs.Tokens.{token, noToken, spelled}
 use Rattle.lexis.specs.DataTokens.{dataMarks}
 use Rattle.lexis.specs.declared.Token.{Token}
@@ -156,11 +156,11 @@ spelled-else ls at bs a b t e p = rw e at p
 
 -- whether a spelling stands at a place
 pub spelled-one : (s : List ℕ) (at : ℕ) (w : List ℕ) (sort : ℕ) (o : Token) (r : Bool) → r ≡ startsWith w (drop at s)
-    → r ≡ true → token sort at (at + length w) ≡ spelled (literal sort w ∷ []) at (drop at s) o
+    → r ≡ true → token sort at (at + length w) ≡ spelled (literalOf sort w ∷ []) at (drop at s) o
 unfolding spelled
 spelled-one s at w sort o r q e = rw (← q, e)
 
 pub spelled-other : (s : List ℕ) (at : ℕ) (w : List ℕ) (sort : ℕ) (o : Token) (r : Bool) → r ≡ startsWith w (drop at s)
-    → r ≡ false → o ≡ spelled (literal sort w ∷ []) at (drop at s) o
+    → r ≡ false → o ≡ spelled (literalOf sort w ∷ []) at (drop at s) o
 unfolding spelled
 spelled-other s at w sort o r q e = rw (← q, e)

@@ -6,7 +6,7 @@ use Prim.Native.Nat.{ℕ}
 use lib.ListN.{drop}
 use Rattle.lexis.specs.Bytes.{wordByte}
 use Rattle.lexis.specs.Runs.{past, part, same}
-use Rattle.lexis.specs.Spelling.{Literal, literal, wordSort, keywords, booleans}
+use Rattle.lexis.specs.Spelling.{Literal, literalOf, wordSort, keywords, booleans}
 use Rattle.lexis.specs.Tokens.{token, word}
 use Rattle.lexis.specs.contracts.Answers.{PlaceIs, wordsOf}
 use Rattle.lexis.specs.declared.spellings.Words.{Words}
@@ -20,11 +20,11 @@ sort-first l ls w a b k p q = rw q at p
 
 -- whether a word has a spelling
 module _ (w spelling : List ℕ) (sort k : ℕ) (r : Bool) (q : r ≡ same spelling w) where
-  pub sort-one : r ≡ true → sort ≡ wordSort (literal sort spelling ∷ []) w k
+  pub sort-one : r ≡ true → sort ≡ wordSort (literalOf sort spelling ∷ []) w k
   unfolding wordSort
   sort-one e = rw (← q, e)
 
-  pub sort-other : r ≡ false → k ≡ wordSort (literal sort spelling ∷ []) w k
+  pub sort-other : r ≡ false → k ≡ wordSort (literalOf sort spelling ∷ []) w k
   unfolding wordSort
   sort-other e = rw (← q, e)
 

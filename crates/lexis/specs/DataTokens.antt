@@ -9,7 +9,7 @@ use lib.ListN.{length, drop}
 use Rattle.lexis.specs.Bytes.{is, small, capital, wordByte, runByte}
 use Rattle.lexis.specs.Runs.{past, byteAt, part, all}
 use Rattle.lexis.specs.Blanks.{tokenStart}
-use Rattle.lexis.specs.Spelling.{Literal, literal, less, greater, wordSort, keywords, booleans}
+use Rattle.lexis.specs.Spelling.{Literal, literalOf, less, greater, wordSort, keywords, booleans}
 use Rattle.lexis.specs.Tokens.{token, noToken, spelled, quoted, textEnd, unreadable, typeName, name}
 use Rattle.lexis.specs.declared.Token.{Token}
 
@@ -28,11 +28,11 @@ wordRun = 26
 -- < > = ( )
 abbrev pub dataMarks : List Literal
 dataMarks =
-    literal less (bytes "<")
-    ∷ literal greater (bytes ">")
-    ∷ literal equals (bytes "=")
-    ∷ literal openRound (bytes "(")
-    ∷ literal closeRound (bytes ")")
+    literalOf less (bytes "<")
+    ∷ literalOf greater (bytes ">")
+    ∷ literalOf equals (bytes "=")
+    ∷ literalOf openRound (bytes "(")
+    ∷ literalOf closeRound (bytes ")")
     ∷ []
 
 -- a run all of whose bytes go on in a word is of the sort given, unless the list spells it

@@ -63,60 +63,60 @@ pub record Literal : Type 0 where
   pub sort : ℕ
   pub spelling : List ℕ
 
-abbrev pub literal : ℕ → List ℕ → Literal
-literal sort spelling = record { sort = sort; spelling = spelling }
+abbrev pub literalOf : ℕ → List ℕ → Literal
+literalOf sort spelling = record { sort = sort; spelling = spelling }
 
 -- { } , * | .. <= < >= > +/- : where one mark begins another, the longer stands first
 abbrev pub markSpellings : List Literal
 markSpellings =
-    literal openBrace (bytes "{")
-    ∷ literal closeBrace (bytes "}")
-    ∷ literal comma (bytes ",")
-    ∷ literal star (bytes "*")
-    ∷ literal bar (bytes "|")
-    ∷ literal dots (bytes "..")
-    ∷ literal atMost (bytes "<=")
-    ∷ literal less (bytes "<")
-    ∷ literal atLeast (bytes ">=")
-    ∷ literal greater (bytes ">")
-    ∷ literal plusMinus (bytes "+/-")
+    literalOf openBrace (bytes "{")
+    ∷ literalOf closeBrace (bytes "}")
+    ∷ literalOf comma (bytes ",")
+    ∷ literalOf star (bytes "*")
+    ∷ literalOf bar (bytes "|")
+    ∷ literalOf dots (bytes "..")
+    ∷ literalOf atMost (bytes "<=")
+    ∷ literalOf less (bytes "<")
+    ∷ literalOf atLeast (bytes ">=")
+    ∷ literalOf greater (bytes ">")
+    ∷ literalOf plusMinus (bytes "+/-")
     ∷ []
 
 -- matches, existence: the keywords
 abbrev pub keywords : List Literal
 keywords =
-    literal matches (bytes "matches")
-    ∷ literal existence (bytes "existence")
+    literalOf matches (bytes "matches")
+    ∷ literalOf existence (bytes "existence")
     ∷ []
 
 -- the sign ∈, another spelling of matches
 abbrev pub elementSign : List Literal
-elementSign = literal matches (bytes "â\u{88}\u{88}") ∷ []
+elementSign = literalOf matches (bytes "â\u{88}\u{88}") ∷ []
 
 -- True, False
 abbrev pub booleans : List Literal
 booleans =
-    literal trueWord (bytes "True")
-    ∷ literal falseWord (bytes "False")
+    literalOf trueWord (bytes "True")
+    ∷ literalOf falseWord (bytes "False")
     ∷ []
 
 -- yyyy-mm-dd, yyyy-mm-??, yyyy-??-??, yyyy-mm-XX, yyyy-??-XX
 abbrev pub datePatternSpellings : List Literal
 datePatternSpellings =
-    literal (datePattern + 1) (bytes "yyyy-mm-dd")
-    ∷ literal (datePattern + 2) (bytes "yyyy-mm-??")
-    ∷ literal (datePattern + 3) (bytes "yyyy-??-??")
-    ∷ literal (datePattern + 4) (bytes "yyyy-mm-XX")
-    ∷ literal (datePattern + 5) (bytes "yyyy-??-XX")
+    literalOf (datePattern + 1) (bytes "yyyy-mm-dd")
+    ∷ literalOf (datePattern + 2) (bytes "yyyy-mm-??")
+    ∷ literalOf (datePattern + 3) (bytes "yyyy-??-??")
+    ∷ literalOf (datePattern + 4) (bytes "yyyy-mm-XX")
+    ∷ literalOf (datePattern + 5) (bytes "yyyy-??-XX")
     ∷ []
 
 -- Thh:mm:ss, Thh:mm:XX, Thh:??:XX, Thh:??:??
 abbrev pub timePatternSpellings : List Literal
 timePatternSpellings =
-    literal (timePattern + 1) (bytes "Thh:mm:ss")
-    ∷ literal (timePattern + 2) (bytes "Thh:mm:XX")
-    ∷ literal (timePattern + 3) (bytes "Thh:??:XX")
-    ∷ literal (timePattern + 4) (bytes "Thh:??:??")
+    literalOf (timePattern + 1) (bytes "Thh:mm:ss")
+    ∷ literalOf (timePattern + 2) (bytes "Thh:mm:XX")
+    ∷ literalOf (timePattern + 3) (bytes "Thh:??:XX")
+    ∷ literalOf (timePattern + 4) (bytes "Thh:??:??")
     ∷ []
 
 -- `[at`, with which a code begins

@@ -29,7 +29,7 @@ ghost use mathlib.Core.Path.{_≡_};
 ghost use mathlib.Core.List.{[], _∷_};
 ghost use Prim.Native.Nat.{_<_};
 ghost use lib.ListN.{length, drop};
-ghost use Rattle.lexis.specs.Spelling.{literal, markSpellings, elementSign, datePatternSpellings, timePatternSpellings, keywords, booleans, wordSort};
+ghost use Rattle.lexis.specs.Spelling.{literalOf, markSpellings, elementSign, datePatternSpellings, timePatternSpellings, keywords, booleans, wordSort};
 ghost use Rattle.lexis.specs.Tokens.{noToken, spelled};
 ghost use Rattle.lexis.specs.DataTokens.{dataMarks};
 ghost use Rattle.lexis.specs.contracts.Answers.{wordsOf, OpensMark, OpensPlain};
@@ -162,7 +162,7 @@ pub fn mark(s: &[u8], at: usize) -> Token
 // The spelling w at a place, as a token of a sort; where it does not stand there, the token given.
 fn spelling(s: &[u8], at: usize, w: &[u8], sort: u8, other: Token) -> Token
     requires { ⌜ at < length (now s) ⌝ }
-    ensures { λ r. ⌜ r ≡ spelled (literal sort (now (w .entry)) ∷ []) at (drop at (now (s .entry))) other ⌝ }
+    ensures { λ r. ⌜ r ≡ spelled (literalOf sort (now (w .entry)) ∷ []) at (drop at (now (s .entry))) other ⌝ }
 {
     if starts_with(s, at, w) {
         return Token {
@@ -249,7 +249,7 @@ pub fn time_pattern(s: &[u8], at: usize, other: Token) -> Token
 
 // The sort given where a word has that spelling, else the other one.
 fn sort_if(w: &[u8], spelling: &[u8], sort: u8, other: u8) -> u8
-    ensures { λ r. ⌜ r ≡ wordSort (literal sort (now (spelling .entry)) ∷ []) (now (w .entry)) other ⌝ }
+    ensures { λ r. ⌜ r ≡ wordSort (literalOf sort (now (spelling .entry)) ∷ []) (now (w .entry)) other ⌝ }
 {
     if same_bytes(spelling, w) {
         return sort;

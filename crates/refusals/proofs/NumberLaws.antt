@@ -4,10 +4,10 @@ use native.Mathlib.Omega.{arith}
 use Rattle.refusals.specs.declared.Cause.{Cause}
 use Rattle.refusals.specs.declared.Cause.the-variants.{TextTooLong, Unreadable, CannotFollow, EndsEarly, TooDeep, TooLong, Impossible, OutOfRange, BadWord, EmptyInterval, TooManyItems, TooManyRecords, Overlap, RepeatedName, PoolTooLarge, OutputTooShort, NotATable, BrokenRecord, NotAnObject, NoName}
 use Rattle.refusals.specs.Refusals.{numberOf}
-use Rattle.refusals.specs.Numbers.{PlaceSort, Row}
+use Rattle.refusals.specs.Numbers.{PlaceSort, NumberRow}
 use Rattle.refusals.specs.Numbers
 
-pub row-of : (c : Cause) → (p : PlaceSort) × Row c (numberOf c) p
+pub row-of : (c : Cause) → (p : PlaceSort) × NumberRow c (numberOf c) p
 unfolding numberOf
 row-of TextTooLong = (_, Numbers.textTooLong)
 row-of Unreadable = (_, Numbers.unreadable)
@@ -31,7 +31,7 @@ row-of NotAnObject = (_, Numbers.notAnObject)
 row-of NoName = (_, Numbers.noName)
 
 -- the rows of a text's faults: from 2 to 9, each at a token
-pub text-row : (c : Cause) → 2 ≤ numberOf c → numberOf c < 10 → Row c (numberOf c) Numbers.token
+pub text-row : (c : Cause) → 2 ≤ numberOf c → numberOf c < 10 → NumberRow c (numberOf c) Numbers.token
 unfolding numberOf
 text-row TextTooLong l m = absurd (omega arith)
 text-row Unreadable l m = Numbers.unreadable

@@ -24,29 +24,29 @@ pub data PlaceSort : Type 0 where
   needed : PlaceSort
 
 -- a cause, its number and what its place is
-pub data Row : Cause → (number : ℕ) → PlaceSort → Type 0 where
-  textTooLong : Row TextTooLong 1 limit
-  unreadable : Row Unreadable 2 token
-  cannotFollow : Row CannotFollow 2 token
-  endsEarly : Row EndsEarly 2 token
-  tooDeep : Row TooDeep 3 token
-  tooLong : Row TooLong 4 token
-  impossible : Row Impossible 5 token
-  outOfRange : Row OutOfRange 5 token
-  badWord : Row BadWord 5 token
-  emptyInterval : Row EmptyInterval 6 token
-  tooManyItems : Row TooManyItems 7 token
-  tooManyRecords : Row TooManyRecords 8 token
-  tooManyMerged : Row TooManyRecords 8 merged
-  overlap : Row Overlap 9 token
-  repeatedName : Row RepeatedName 9 token
-  poolTooLarge : Row PoolTooLarge 10 merged
-  tableTooLong : Row OutputTooShort 11 textEnd
-  mergedTooLong : Row OutputTooShort 11 needed
-  notATable : Row NotATable 12 wholeTable
-  brokenRecord : Row BrokenRecord 13 tableRecord
-  notAnObject : Row NotAnObject 14 asked
-  noName : Row NoName 14 asked
+pub data NumberRow : Cause → (number : ℕ) → PlaceSort → Type 0 where
+  textTooLong : NumberRow TextTooLong 1 limit
+  unreadable : NumberRow Unreadable 2 token
+  cannotFollow : NumberRow CannotFollow 2 token
+  endsEarly : NumberRow EndsEarly 2 token
+  tooDeep : NumberRow TooDeep 3 token
+  tooLong : NumberRow TooLong 4 token
+  impossible : NumberRow Impossible 5 token
+  outOfRange : NumberRow OutOfRange 5 token
+  badWord : NumberRow BadWord 5 token
+  emptyInterval : NumberRow EmptyInterval 6 token
+  tooManyItems : NumberRow TooManyItems 7 token
+  tooManyRecords : NumberRow TooManyRecords 8 token
+  tooManyMerged : NumberRow TooManyRecords 8 merged
+  overlap : NumberRow Overlap 9 token
+  repeatedName : NumberRow RepeatedName 9 token
+  poolTooLarge : NumberRow PoolTooLarge 10 merged
+  tableTooLong : NumberRow OutputTooShort 11 textEnd
+  mergedTooLong : NumberRow OutputTooShort 11 needed
+  notATable : NumberRow NotATable 12 wholeTable
+  brokenRecord : NumberRow BrokenRecord 13 tableRecord
+  notAnObject : NumberRow NotAnObject 14 asked
+  noName : NumberRow NoName 14 asked
 
 -- why a data text is refused: "the whole data text (1 to 5, 9)"
 pub data OfDataText : Cause → Type 0 where

@@ -8,13 +8,13 @@ use Rattle.refusals.specs.Limits.{levelLimit}
 use Rattle.refusals.specs.Parsing.{faultsIn}
 use Rattle.cadl_items.specs.Ranges
 use Rattle.cadl_items.specs.Strings
-use Rattle.cadl_objects.specs.Objects.{deeper, objectFrom}
+use Rattle.cadl_objects.specs.Objects.{deeperObject, objectFrom}
 use Rattle.cadl_objects.proofs.Computes.{constraintComputes}
 use Rattle.rules_faults.specs.ConstraintFaults.{faults}
 use Rattle.rules_faults.proofs.FaultTable.{told}
 
 unfoldable faultsCompute : Unit {0}
-unfolding constraintComputes Ranges.further Strings.furtherStrings deeper faults
+unfolding constraintComputes Ranges.further Strings.furtherStrings deeperObject faults
 faultsCompute = tt
 
 -- the faults of an object whose record has a number

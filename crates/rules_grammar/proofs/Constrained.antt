@@ -27,7 +27,7 @@ use Rattle.meaning.specs.Constraints.{Object, object, AttributeHead, Attributes
 use Rattle.cadl_items.specs.contracts.Told
 use Rattle.cadl_items.proofs.LeafReading.{LeafRead, leaf-holds}
 use Rattle.cadl_objects.specs.Existence.{opening, isZero, isOne, fromNought, fromOne, bounds, existenceFrom}
-use Rattle.cadl_objects.specs.Objects.{Attribute, past, headOf}
+use Rattle.cadl_objects.specs.Objects.{Attribute, pastAttribute, headOf}
 use Rattle.cadl_objects.specs.Objects
 use Rattle.cadl_objects.specs.contracts.Told.{objectType, objectCode, attributeName, value, attributeFrom, attributes, objectFrom}
 use Rattle.cadl_objects.specs.Texts.{constraintOf}
@@ -36,7 +36,7 @@ use Rattle.cadl_objects.proofs.TreeParts.{body, type-is, code-is, name-is, valu
 use Rattle.cadl_objects.proofs.TreeReading.{ObjectRead, object-holds}
 use Rattle.rules_grammar.specs.DataGrammar.{Distinct, noName, newName}
 use Rattle.rules_grammar.specs.LeafGrammar.{NextToken, next}
-use Rattle.rules_grammar.specs.ConstraintGrammar.{Opens, opens, Digit, digit, DerivesBounds, DerivesExistence, unwritten, written, DerivesCode, uncoded, coded, attributeNames, objectLevels, attributeLevels, valueLevels, behindAttribute, WithinLimit, DerivesObject, anObject, DerivesBody, anyMembers, DerivesAttributes, lastOne, oneMore, DerivesAttribute, anAttribute, DerivesValue, anything, oneObject, oneLeaf, DerivesConstraint, wholeText}
+use Rattle.rules_grammar.specs.ConstraintGrammar.{Opens, opens, SpelledInteger, digit, DerivesBounds, DerivesExistence, unwritten, written, DerivesCode, uncoded, coded, attributeNames, objectLevels, attributeLevels, valueLevels, behindAttribute, WithinLimit, DerivesObject, anObject, DerivesBody, anyMembers, DerivesAttributes, lastOne, oneMore, DerivesAttribute, anAttribute, DerivesValue, anything, oneObject, oneLeaf, DerivesConstraint, wholeText}
 use Rattle.rules_grammar.specs.ConstraintGrammar
 use Rattle.rules_grammar.proofs.NextLaws.{next-token, token-read, sort-read}
 use Rattle.lexis.proofs.TestLaws.{same-eq}
@@ -94,7 +94,7 @@ module _ (s : List ℕ) where
 
   digit-of : (w : List ℕ) (from : ℕ)
       → (eqb (tokenAt s from .sort) integer && same w (spelling s (tokenAt s from))) ≡ true
-      → Digit s from w (tokenAt s from)
+      → SpelledInteger s from w (tokenAt s from)
   digit-of w from e =
       let t = tokenAt s from in
       digit (next-token (eqb-true _ _ (and-left (eqb (t .sort) integer) (same w (spelling s t)) e))) (same-eq w (spelling s t) (and-right (eqb (t .sort) integer) (same w (spelling s t)) e))
@@ -191,7 +191,7 @@ last-made (attributeGiven d m l) n = attributesGiven (lastOne d) n (newName m no
 
 more-made : {s : List ℕ} {levels from p q : ℕ} {seen : List (List ℕ)} {c : ℕ} {a : Attribute} {xs : Attributes}
     → AttributeGiven s levels seen c from a p
-    → AttributesGiven s levels (a .name ∷ seen) (past c a) p xs q
+    → AttributesGiven s levels (a .name ∷ seen) (pastAttribute c a) p xs q
     → AttributesGiven s levels seen c from (attribute (headOf c a) (a .value) xs) q
 unfolding attributeNames attributeLevels
 more-made (attributeGiven d m l) (attributesGiven ds n x k) = attributesGiven (oneMore d ds) n (newName m x) (omega arith)
@@ -247,7 +247,7 @@ module _ (s : List ℕ) (levels : ℕ)
       rw (attributes-is s levels fuel seen c from) (then-gives P (AttributeGiven s levels seen c from) (attributeFrom s levels seen c from) _ (attribute-gives seen c from) (λ a p x.
       cond-gives P (eqb (tokenAt s p .sort) closeBrace) _ _
       (λ e. got-gives P (attribute (headOf c a) (a .value) noMore) (tokenAt s p .end) (last-made x (next-token (eqb-true _ _ e))))
-      (λ e. then-gives P (AttributesGiven s levels (a .name ∷ seen) (past c a) p) (attributes s levels fuel (a .name ∷ seen) (past c a) p) _ (attributes-gives fuel (a .name ∷ seen) (past c a) p) (λ xs q y.
+      (λ e. then-gives P (AttributesGiven s levels (a .name ∷ seen) (pastAttribute c a) p) (attributes s levels fuel (a .name ∷ seen) (pastAttribute c a) p) _ (attributes-gives fuel (a .name ∷ seen) (pastAttribute c a) p) (λ xs q y.
       got-gives P (attribute (headOf c a) (a .value) xs) q (more-made x y)))))
 
   body-gives : (c from : ℕ) → Gives (BodyGiven s levels c from) (body s levels c from)
@@ -308,11 +308,11 @@ unfolding opening
 opening-got (opens m b) = rw (expect-got m, expect-got b)
 
 -- a digit under a test for another
-is-digit : {s : List ℕ} {from : ℕ} {w : List ℕ} {t : Token} → Digit s from w t → (v : List ℕ)
+is-digit : {s : List ℕ} {from : ℕ} {w : List ℕ} {t : Token} → SpelledInteger s from w t → (v : List ℕ)
     → (eqb (tokenAt s from .sort) integer && same v (spelling s (tokenAt s from))) ≡ same v w
 is-digit (digit (next n e) h) v = rw (token-read n, other e integer) (ap (same v) (sym h))
 
-digit-read : {s : List ℕ} {from : ℕ} {w : List ℕ} {t : Token} → Digit s from w t → tokenAt s from ≡ t
+digit-read : {s : List ℕ} {from : ℕ} {w : List ℕ} {t : Token} → SpelledInteger s from w t → tokenAt s from ≡ t
 digit-read (digit (next n e) h) = token-read n
 
 bounds-got : {s : List ℕ} {from e p : ℕ} {z : Token} → DerivesBounds s from e p → NextToken s p closeBrace z

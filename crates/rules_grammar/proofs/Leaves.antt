@@ -24,7 +24,7 @@ use Rattle.meaning.specs.Sorts.{inRange, inSome, inFlag}
 use Rattle.meaning.specs.Admission.{isSome, wordUnder, stringUnder}
 use Rattle.values.specs.WordRules
 use Rattle.values.specs.WordRules.{IsBoolean, IsInteger, IsDate, IsTime}
-use Rattle.rules_grammar.specs.Admits.{Fits, InItem, inItem, IsItem, isItem, Flagged, Readable, LeafAdmits, DatePattern, TimePattern}
+use Rattle.rules_grammar.specs.Admits.{Fits, InItem, inItem, InTexts, isItem, Flagged, Readable, LeafAdmits, DatePattern, TimePattern}
 use Rattle.rules_grammar.specs.Admits
 use Rattle.lexis.proofs.TestLaws.{false-true, none-some, some-inj, same-eq, eq-same, or-left, or-right, or-cases, and-both}
 use Rattle.values.proofs.DateWordLaws.{date-word}
@@ -52,7 +52,7 @@ item-in v x (y ∷ ys) (List·Memᴰ·tail m) a b = or-right (inRange v y) (inSo
 of-item : {v : ℕ} {l : List Range} → InItem v l → inSome v l ≡ true
 of-item {v} {l} (inItem x m a b) = item-in v x l m a b
 
-is-item : (w : List ℕ) (l : List Text) → isSome w l ≡ true → IsItem w l
+is-item : (w : List ℕ) (l : List Text) → isSome w l ≡ true → InTexts w l
 unfolding isSome
 is-item w [] h = absurd (false-true h)
 is-item w (x ∷ xs) h =
@@ -60,7 +60,7 @@ is-item w (x ∷ xs) h =
     (λ e. isItem x (List·Memᴰ·head refl) (same-eq w (x .text) e))
     (λ e. more (is-item w xs e))
   where
-    more : IsItem w xs → IsItem w (x ∷ xs)
+    more : InTexts w xs → InTexts w (x ∷ xs)
     more (isItem y m a) = isItem y (List·Memᴰ·tail m) a
 
 item-is : (w : List ℕ) (x : Text) (l : List Text) → List·Memᴰ x l → w ≡ x .text → isSome w l ≡ true

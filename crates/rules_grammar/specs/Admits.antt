@@ -61,8 +61,8 @@ pub data TimePattern : (flag : ℕ) → List Part → Type 0 where
 pub data InItem (v : ℕ) (l : List Range) : Type 0 where
   inItem : (x : Range) → List·Memᴰ x l → x .low ≤ v → v ≤ x .high → InItem v l
 
-pub data IsItem (w : List ℕ) (l : List Text) : Type 0 where
-  isItem : (x : Text) → List·Memᴰ x l → w ≡ x .text → IsItem w l
+pub data InTexts (w : List ℕ) (l : List Text) : Type 0 where
+  isItem : (x : Text) → List·Memᴰ x l → w ≡ x .text → InTexts w l
 
 -- True is 1, False 2, both 3
 pub data Flagged (b : ℕ) : ℕ → Type 0 where
@@ -87,7 +87,7 @@ pub data LeafAdmits : Leaf → Content → Type 0 where
       → LeafAdmits (single booleans n f) (Data.word p w)
   integer : {l : List Range} {p v : ℕ} {w : List ℕ} → IsInteger w v → InItem v l
       → LeafAdmits (ranges integers l) (Data.word p w)
-  string : {l : List Text} {p : ℕ} {w : List ℕ} → IsItem w l → LeafAdmits (texts l) (Data.string p w)
+  string : {l : List Text} {p : ℕ} {w : List ℕ} → InTexts w l → LeafAdmits (texts l) (Data.string p w)
   patternDate : {n f p : ℕ} {w : List ℕ} {d : Date} {ps : List Part} → IsDate w d → DatePattern f ps
       → Fits ps (d .parts)
       → LeafAdmits (single datePattern n f) (Data.word p w)

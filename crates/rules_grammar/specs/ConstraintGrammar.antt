@@ -22,18 +22,18 @@ pub data Opens (s : List ℕ) (from : ℕ) : Token → Type 0 where
   opens : {m b : Token} → NextToken s from matches m → NextToken s (m .end) openBrace b → Opens s from b
 
 -- an integer spelled so
-pub data Digit (s : List ℕ) (from : ℕ) (w : List ℕ) : Token → Type 0 where
-  digit : {t : Token} → NextToken s from integer t → w ≡ spelling s t → Digit s from w t
+pub data SpelledInteger (s : List ℕ) (from : ℕ) (w : List ℕ) : Token → Type 0 where
+  digit : {t : Token} → NextToken s from integer t → w ≡ spelling s t → SpelledInteger s from w t
 
 -- 0, 1, 0..0, 0..1 or 1..1: 0 for 0..0, 1 for 0..1, 2 for 1..1, as in the flag of kind 2
 pub data DerivesBounds (s : List ℕ) (from : ℕ) : ℕ → ℕ → Type 0 where
-  nought : {t : Token} → Digit s from (bytes "0") t → DerivesBounds s from 0 (t .end)
-  one : {t : Token} → Digit s from (bytes "1") t → DerivesBounds s from 2 (t .end)
-  noughtToNought : {t d u : Token} → Digit s from (bytes "0") t → NextToken s (t .end) dots d
-      → Digit s (d .end) (bytes "0") u → DerivesBounds s from 0 (u .end)
-  noughtToOne : {t d u : Token} → Digit s from (bytes "0") t → NextToken s (t .end) dots d
-      → Digit s (d .end) (bytes "1") u → DerivesBounds s from 1 (u .end)
-  oneToOne : {t d u : Token} → Digit s from (bytes "1") t → NextToken s (t .end) dots d → Digit s (d .end) (bytes "1") u
+  nought : {t : Token} → SpelledInteger s from (bytes "0") t → DerivesBounds s from 0 (t .end)
+  one : {t : Token} → SpelledInteger s from (bytes "1") t → DerivesBounds s from 2 (t .end)
+  noughtToNought : {t d u : Token} → SpelledInteger s from (bytes "0") t → NextToken s (t .end) dots d
+      → SpelledInteger s (d .end) (bytes "0") u → DerivesBounds s from 0 (u .end)
+  noughtToOne : {t d u : Token} → SpelledInteger s from (bytes "0") t → NextToken s (t .end) dots d
+      → SpelledInteger s (d .end) (bytes "1") u → DerivesBounds s from 1 (u .end)
+  oneToOne : {t d u : Token} → SpelledInteger s from (bytes "1") t → NextToken s (t .end) dots d → SpelledInteger s (d .end) (bytes "1") u
       → DerivesBounds s from 2 (u .end)
 
 -- no existence means 1..1

@@ -76,7 +76,7 @@ pub record Texts (s : List ℕ) (number : ℕ) (scratch : List ℕ) (count : ℕ
   pub records : number + count ≤ recordLimit
   pub spans : SpansIn s scratch 0 count
 
-pub record Strings (s : List ℕ) (number from : ℕ) (scratch : List ℕ) (count next : ℕ) : Type 0 where
+pub record StringsLeft (s : List ℕ) (number from : ℕ) (scratch : List ℕ) (count next : ℕ) : Type 0 where
   pub order : from < next
   pub inside : next ≤ length s
   pub texts : Texts s number scratch count
@@ -86,7 +86,7 @@ abbrev pub LeafPast : List ℕ → ℕ → ℕ → List ℕ → LeafRead → Typ
 LeafPast s number from scratch (leafRead.Faulty x) = Unit {0}
 LeafPast s number from scratch (leafRead.Single sort flag next) = Single s number from next
 LeafPast s number from scratch (leafRead.Ranges sort count next) = Listed s number from count next
-LeafPast s number from scratch (leafRead.Strings count next) = Strings s number from scratch count next
+LeafPast s number from scratch (leafRead.Strings count next) = StringsLeft s number from scratch count next
 
 -- the answer and the scratch are the reading; nothing is said of the scratch after a refusal, for a leaf of one record, or behind the items
 pub record LeafIs (s : List ℕ) (number from : ℕ) (reading : Reading Leaf) (scratch : List ℕ) (r : LeafRead) : Type 0 where

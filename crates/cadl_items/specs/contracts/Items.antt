@@ -138,14 +138,14 @@ keptString s number count seen t p =
     (goOnStrings s (record { number = number; text = inner s t }) (strings s (itemLimit - (count + 1)) (number + 1) (inner s t ∷ seen)) p)
 
 -- a string's token, in quotes
-pub record Quoted (s : List ℕ) (t : Token) : Type 0 where
+pub record QuotedToken (s : List ℕ) (t : Token) : Type 0 where
   pub order : t .start + 2 ≤ t .end
   pub inside : t .end ≤ length s
 
 -- a string's token, if there is room for one more item and one more record
 abbrev pub StringStartPast : List ℕ → ℕ → ℕ → Expected → Type 0
 StringStartPast s number count (Fault x) = Unit {0}
-StringStartPast s number count (Taken t) = Quoted s t × (count < itemLimit) × (number < recordLimit)
+StringStartPast s number count (Taken t) = QuotedToken s t × (count < itemLimit) × (number < recordLimit)
 
 pub record StringStartIs (s : List ℕ) (number count from : ℕ) (r : Expected) : Type 0 where
   pub is : tokenReading r ≡ roomy (λ t. t .start) number count (startString s from)
@@ -158,7 +158,7 @@ pub record StringRoom (s : List ℕ) (number count from : ℕ) (scratch : List �
   pub spans : SpansIn s scratch 0 count
 
 pub record KeepString (s : List ℕ) (number count : ℕ) (t : Token) (scratch : List ℕ) : Type 0 where
-  pub quoted : Quoted s t
+  pub quoted : QuotedToken s t
   pub few : count < itemLimit
   pub records : number < recordLimit
   pub short : length s ≤ textLimit

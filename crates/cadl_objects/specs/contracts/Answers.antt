@@ -38,11 +38,11 @@ pub record ExistenceIs (s : List ℕ) (from : ℕ) (reading : Reading ℕ) (r : 
   pub past : ExistencePast s from r
 
 -- an existence up to its `}`, and with its braces
-unfoldable pub closed : List ℕ → ℕ → ℕ → Reading ℕ
-closed s flag from = readThen (expect s closeBrace from) (λ v r. got flag r)
+unfoldable pub existenceClosed : List ℕ → ℕ → ℕ → Reading ℕ
+existenceClosed s flag from = readThen (expect s closeBrace from) (λ v r. got flag r)
 
 unfoldable pub braced : List ℕ → ℕ → Reading ℕ
-braced s from = readThen (opening s from) (λ u p. readThen (bounds s p) (λ e q. closed s e q))
+braced s from = readThen (opening s from) (λ u p. readThen (bounds s p) (λ e q. existenceClosed s e q))
 
 -- where an object or an attribute is read: a place of the text, and the next record's number
 pub record Counted (s : List ℕ) (next from : ℕ) : Type 0 where
@@ -91,11 +91,11 @@ objectHead s levels next from =
     got (record { type = spelling s t; code = k }) r)))
 
 -- what an attribute begins with: its name and its existence, up to its opening brace
-pub record Named : Type 0 where
+pub record NamedAttribute : Type 0 where
   pub name : List ℕ
   pub existence : ℕ
 
-unfoldable pub attributeHead : List ℕ → List (List ℕ) → ℕ → ℕ → Reading Named
+unfoldable pub attributeHead : List ℕ → List (List ℕ) → ℕ → ℕ → Reading NamedAttribute
 attributeHead s seen next from =
     readThen (attributeName s seen next from) (λ t p.
     readThen (existenceFrom s p) (λ e q.
@@ -137,7 +137,7 @@ pub record ObjectHeadIs (s : List ℕ) (levels next from : ℕ) (r : ObjectHeadR
   pub past : ObjectHeadPast s next from r
 
 -- an attribute's head as a reading
-abbrev pub namedReading : List ℕ → AttributeHeadRead → Reading Named
+abbrev pub namedReading : List ℕ → AttributeHeadRead → Reading NamedAttribute
 namedReading s (attributeHeadRead.Faulty x) = refused x
 namedReading s (attributeHeadRead.Head nameStart nameEnd existence behind) = got (record { name = part s nameStart nameEnd; existence = existence }) behind
 

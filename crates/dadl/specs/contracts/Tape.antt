@@ -80,35 +80,35 @@ abbrev pub rowsOf : ℕ → List ℕ → List (List ℕ)
 rowsOf zero xs = []
 rowsOf (suc n) xs = take rowSize xs ∷ rowsOf n (drop rowSize xs)
 
-abbrev pub number : List ℕ → ℕ → ℕ
-number row i = getD row i 0
+abbrev pub rowNumber : List ℕ → ℕ → ℕ
+rowNumber row i = getD row i 0
 
 -- a row whose member holds a block, and one whose member holds a string or a word
 abbrev pub HoldsBlock : List ℕ → Type 0
-HoldsBlock row = number row 0 ≡ isBlock
+HoldsBlock row = rowNumber row 0 ≡ isBlock
 
 abbrev pub HoldsLeaf : List ℕ → Type 0
-HoldsLeaf row = isBlock < number row 0
+HoldsLeaf row = isBlock < rowNumber row 0
 
 -- the members that a step up leads to, of those that the rows above stand for
 abbrev pub reachMembers : List Members → ℕ → Members
 reachMembers above k = getD (Data.noMore ∷ above) k Data.noMore
 
 abbrev pub typeIn : List ℕ → List ℕ → Option (List ℕ)
-typeIn s row = cond (eqb (number row 5) 0) none (some (part s (number row 4) (number row 5)))
+typeIn s row = cond (eqb (rowNumber row 5) 0) none (some (part s (rowNumber row 4) (rowNumber row 5)))
 
 -- what a row's member holds, given the members inside it
 abbrev pub contentIn : List ℕ → List ℕ → Members → Data.Content
 contentIn s row ms =
-    cond (eqb (number row 0) isBlock) (Data.block (datum (number row 3) (typeIn s row) ms))
-    (cond (eqb (number row 0) isString) (Data.string (number row 3) (part s (number row 6) (number row 7))) (Data.word (number row 3) (part s (number row 6) (number row 7))))
+    cond (eqb (rowNumber row 0) isBlock) (Data.block (datum (rowNumber row 3) (typeIn s row) ms))
+    (cond (eqb (rowNumber row 0) isString) (Data.string (rowNumber row 3) (part s (rowNumber row 6) (rowNumber row 7))) (Data.word (rowNumber row 3) (part s (rowNumber row 6) (rowNumber row 7))))
 
 -- the row with number n, and the members of its block from there on
 abbrev pub membersBy : List ℕ → ℕ → List ℕ → List Members → Members
 membersBy s n row above =
-    member (part s (number row 1) (number row 2))
-    (contentIn s row (reachMembers above (cond (eqb (number row 7) 0) 0 1)))
-    (reachMembers above (number row 8 - n))
+    member (part s (rowNumber row 1) (rowNumber row 2))
+    (contentIn s row (reachMembers above (cond (eqb (rowNumber row 7) 0) 0 1)))
+    (reachMembers above (rowNumber row 8 - n))
 
 abbrev pub membersOf : List ℕ → ℕ → List (List ℕ) → List Members
 membersOf s n [] = []

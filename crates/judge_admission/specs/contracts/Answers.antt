@@ -18,10 +18,10 @@ findingOf Refuted = refuted
 findingOf Admitted = admitted
 
 -- a string or a word under a leaf; where there is none, it is unsuited
-abbrev pub under : Option Leaf → Bool → List ℕ → Finding
-under none isString w = unsuited
-under (some l) true w = stringUnder l w
-under (some l) false w = wordUnder l w
+abbrev pub findingUnder : Option Leaf → Bool → List ℕ → Finding
+findingUnder none isString w = unsuited
+findingUnder (some l) true w = stringUnder l w
+findingUnder (some l) false w = wordUnder l w
 
 -- a value is admitted; an item alone admits it
 abbrev pub isAdmitted : Finding → Bool
@@ -30,4 +30,4 @@ isAdmitted refuted = false
 isAdmitted admitted = true
 
 abbrev pub itemAdmits : List ℕ → Record → Bool → List ℕ → Bool
-itemAdmits pool r isString w = isAdmitted (under (itemOf pool r) isString w)
+itemAdmits pool r isString w = isAdmitted (findingUnder (itemOf pool r) isString w)

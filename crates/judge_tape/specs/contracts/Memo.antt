@@ -10,13 +10,13 @@ use Rattle.lexis.specs.Runs.{part}
 use Rattle.meaning.specs.Verdicts.{valid}
 use Rattle.meaning.specs.Findings.{admitted}
 use Rattle.meaning.specs.Judging.{judgeAttributes}
-use Rattle.dadl.specs.contracts.Tape.{isString, number, HoldsBlock, HoldsLeaf}
+use Rattle.dadl.specs.contracts.Tape.{isString, rowNumber, HoldsBlock, HoldsLeaf}
 use Rattle.dadl.specs.contracts.Rows.{rowAt}
 use Rattle.table.specs.Records.{Record, Image, recordSize, field, recordIn}
 use Rattle.table.specs.Rows.{shapeOf, isListed}
 use Rattle.table.specs.Trees.{attributesIn, treeAt}
 use Rattle.judge_admission.specs.contracts.Items.{recordLeaf, Lies, imageFrom, TableGood}
-use Rattle.judge_admission.specs.contracts.Answers.{under, itemAdmits}
+use Rattle.judge_admission.specs.contracts.Answers.{findingUnder, itemAdmits}
 use Rattle.judge_tape.specs.contracts.Rows.{membersOn, blockOn}
 use Rattle.judge_tape.specs.declared.members.Block.{Block}
 use Rattle.judge_tape.specs.declared.memo.Visit.{Visit}
@@ -37,7 +37,7 @@ unfoldable pub markBit : List ℕ → ℕ → List ℕ
 markBit memo i = set memo (i / 8) (withBit (getD memo (i / 8) 0) (i % 8))
 
 -- no bit is set
-pub record Blank (memo : List ℕ) : Type 0 where
+pub record NoBit (memo : List ℕ) : Type 0 where
   pub none : (i : ℕ) → marked memo i ≡ false
 
 -- a visit is left, or there is a memo of so many bytes
@@ -103,13 +103,13 @@ BlockAdmitted m s rows tape b n = judgeAttributes (attributesIn (treeAt m n)) (b
 
 -- the items from n on admit a value
 abbrev pub ValueAdmitted : List ℕ → List ℕ → ℕ → Bool → List ℕ → Type 0
-ValueAdmitted records pool n isString w = under (recordLeaf records pool n) isString w ≡ admitted
+ValueAdmitted records pool n isString w = findingUnder (recordLeaf records pool n) isString w ≡ admitted
 
 -- they admit the string or word of a row
 abbrev pub RowAdmits : List ℕ → List ℕ → List ℕ → List ℕ → ℕ → ℕ → Type 0
 RowAdmits records pool s tape row n =
     let r = rowAt tape row in
-    ValueAdmitted records pool n (eqb (number r 0) isString) (part s (number r 6) (number r 7))
+    ValueAdmitted records pool n (eqb (rowNumber r 0) isString) (part s (rowNumber r 6) (rowNumber r 7))
 
 -- an item admits a value by itself, or the item next to it is marked
 abbrev pub leadsIn : List ℕ → List ℕ → ℕ → Record → Bool → List ℕ → Bool
@@ -131,7 +131,7 @@ unfoldable pub enterLeaf : List ℕ → List ℕ → List ℕ → List ℕ → �
 enterLeaf records pool s tape row memo =
     let base = (row + 1) * recordCount records in
     let r = rowAt tape row in
-    let all = markItems records pool base (eqb (number r 0) isString) (part s (number r 6) (number r 7)) (recordCount records - 1) (markBit memo base) in
+    let all = markItems records pool base (eqb (rowNumber r 0) isString) (part s (rowNumber r 6) (rowNumber r 7)) (recordCount records - 1) (markBit memo base) in
     cond (marked memo base) memo all
 
 -- whether the memo then knows that the items from n on admit it

@@ -9,7 +9,7 @@ use lib.ListN.{length}
 use Rattle.lexis.specs.Runs.{part, same}
 use Rattle.meaning.specs.Data.{Datum, datum, Members, member, Content, string, word}
 use Rattle.meaning.specs.Data
-use Rattle.dadl.specs.contracts.Tape.{number, contentIn, HoldsBlock, HoldsLeaf}
+use Rattle.dadl.specs.contracts.Tape.{rowNumber, contentIn, HoldsBlock, HoldsLeaf}
 use Rattle.dadl.specs.contracts.Rows.{rowAt, TapeGood, linked}
 use Rattle.judge_admission.specs.contracts.Items.{TableGood}
 use Rattle.judge_tape.specs.declared.members.Found.{Found}
@@ -23,7 +23,7 @@ typeOn s start end = cond (eqb end 0) none (some (part s start end))
 module _ (s : List ℕ) (rows : ℕ) (tape : List ℕ) where
   -- what the member of a row holds
   abbrev pub contentOn : ℕ → Content
-  contentOn n = contentIn s (rowAt tape n) (linked s rows tape (number (rowAt tape n) 7) (n + 1))
+  contentOn n = contentIn s (rowAt tape n) (linked s rows tape (rowNumber (rowAt tape n) 7) (n + 1))
 
   -- the members of a block, and the block
   abbrev pub membersOn : Block → Members
@@ -42,8 +42,8 @@ unfoldable pub rowFrom : List ℕ → List ℕ → List ℕ → ℕ → ℕ → 
 rowFrom s tape name zero n = none
 rowFrom s tape name (suc fuel) n =
     let row = rowAt tape n in
-    let more = rowFrom s tape name fuel (number row 8) in
-    cond (same name (part s (number row 1) (number row 2))) (some n) (cond (eqb (number row 8) 0) none more)
+    let more = rowFrom s tape name fuel (rowNumber row 8) in
+    cond (same name (part s (rowNumber row 1) (rowNumber row 2))) (some n) (cond (eqb (rowNumber row 8) 0) none more)
 
 -- the row of the member with a name among those from row `first` on, none where `inside` is 0
 abbrev pub memberRow : (s tape : List ℕ) (rows first inside : ℕ) → List ℕ → Option ℕ
@@ -68,7 +68,7 @@ pub record LeafRow (rows : ℕ) (tape : List ℕ) (n : ℕ) : Type 0 where
 abbrev pub blockOn : List ℕ → ℕ → Block
 blockOn tape n =
     let row = rowAt tape n in
-    record { place = number row 3; «type_start» = number row 4; «type_end» = number row 5; first = n + 1; inside = number row 7 }
+    record { place = rowNumber row 3; «type_start» = rowNumber row 4; «type_end» = rowNumber row 5; first = n + 1; inside = rowNumber row 7 }
 
 -- a block whose first row tells which row's it is, and the row holds a block; the outermost block's is 0
 pub record OfRow (rows : ℕ) (tape : List ℕ) (b : Block) : Type 0 where
