@@ -23,25 +23,29 @@ module _ (s : List ℕ) where
   literal-is kind at = told-then (wanted s kind at) _ _ _ (told-read (expect s kind at)) (λ t p. refl)
 
   pub up-is : (kind low at : ℕ) → upTo s kind low at
-      ≡ cond (eqb (tokenAt s at .sort) less) (readThen (literal s kind (tokenAt s at .end)) (λ b p. got (ends kind low b true) p))
+      ≡ cond (eqb (tokenAt s at .sort) less)
+      (readThen (literal s kind (tokenAt s at .end)) (λ b p. got (ends kind low b true) p))
       (readThen (literal s kind at) (λ b p. got (ends kind low b false) p))
   unfolding upTo literal Intervals.upTo
   up-is kind low at = told-cond (eqb (tokenAt s at .sort) less) _ _ _ _ (first-then (Intervals.literal s kind (tokenAt s at .end)) _) (first-then (Intervals.literal s kind at) _)
 
   pub above-is : (kind a at : ℕ) → above s kind a at
-      ≡ cond (eqb (tokenAt s at .sort) dots) (upTo s kind (after kind a) (tokenAt s at .end)) (got (ends kind (after kind a) (most kind) false) at)
+      ≡ cond (eqb (tokenAt s at .sort) dots) (upTo s kind (after kind a) (tokenAt s at .end))
+      (got (ends kind (after kind a) (most kind) false) at)
   unfolding above upTo Intervals.above
   above-is kind a at = told-cond (eqb (tokenAt s at .sort) dots) _ _ _ _ refl refl
 
   pub spread-is : (a at : ℕ) → spread s a at
       ≡ readThen (literal s integer at) (λ d p.
-      readUnless (cond (inside a d) false true) OutOfRange (tokenAt s at .start) (got (ends integer (around a d .low) (around a d .high) false) p))
+      readUnless (cond (inside a d) false true) OutOfRange (tokenAt s at .start)
+      (got (ends integer (around a d .low) (around a d .high) false) p))
   unfolding spread literal Intervals.spread
   spread-is a at = told-soundly (Intervals.literal s integer at) _ _ _ refl (λ d p. told-noting (cond (inside a d) false true) OutOfRange (tokenAt s at .start) _ _ refl)
 
   pub from-is : (kind a at : ℕ) → from s kind a at
       ≡ cond (eqb (tokenAt s at .sort) dots) (upTo s kind a (tokenAt s at .end))
-      (cond (eqb (tokenAt s at .sort) plusMinus) (cond (eqb kind date) (syntaxFault (tokenAt s at)) (spread s a (tokenAt s at .end)))
+      (cond (eqb (tokenAt s at .sort) plusMinus)
+      (cond (eqb kind date) (syntaxFault (tokenAt s at)) (spread s a (tokenAt s at .end)))
       (got (ends kind a a false) at))
   unfolding from upTo spread Intervals.from
   from-is kind a at =
@@ -50,9 +54,12 @@ module _ (s : List ℕ) where
 
   pub between-is : (kind at : ℕ) → between s kind at
       ≡ cond (eqb (tokenAt s at .sort) greater) (withLiteral s kind (tokenAt s at .end) (above s))
-      (cond (eqb (tokenAt s at .sort) less) (withLiteral s kind (tokenAt s at .end) (λ k a p. got (ends k (least k) a true) p))
-      (cond (eqb (tokenAt s at .sort) atMost) (withLiteral s kind (tokenAt s at .end) (λ k a p. got (ends k (least k) a false) p))
-      (cond (eqb (tokenAt s at .sort) atLeast) (withLiteral s kind (tokenAt s at .end) (λ k a p. got (ends k a (most k) false) p))
+      (cond (eqb (tokenAt s at .sort) less)
+      (withLiteral s kind (tokenAt s at .end) (λ k a p. got (ends k (least k) a true) p))
+      (cond (eqb (tokenAt s at .sort) atMost)
+      (withLiteral s kind (tokenAt s at .end) (λ k a p. got (ends k (least k) a false) p))
+      (cond (eqb (tokenAt s at .sort) atLeast)
+      (withLiteral s kind (tokenAt s at .end) (λ k a p. got (ends k a (most k) false) p))
       (withLiteral s kind at (from s)))))
   unfolding between literal above from Intervals.between
   between-is kind at =
@@ -64,7 +71,8 @@ module _ (s : List ℕ) where
 
   pub interval-is : (kind at : ℕ) → interval s kind at
       ≡ readThen (between s kind at) (λ e p.
-      readThen (expect s bar p) (λ t q. readUnless (empty e) EmptyInterval (t .start) (got (record { kind = e .kind; pair = closed e }) q)))
+      readThen (expect s bar p)
+      (λ t q. readUnless (empty e) EmptyInterval (t .start) (got (record { kind = e .kind; pair = closed e }) q)))
   unfolding interval between Intervals.interval
   interval-is kind at =
       told-soundly (Intervals.between s kind at) _ _ _ refl (λ e p.

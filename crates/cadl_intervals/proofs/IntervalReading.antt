@@ -186,7 +186,8 @@ module _ (s : List ℕ) (asked : ℕ) (ok : Asked asked) where
   -- a literal of the kind asked, or of either where that is open
   with-ordered : (sound : Bool) (low first at : ℕ) (go : Bool → ℕ → ℕ → ℕ → Parse Ends) → low ≤ rank at 0
       → at ≤ length s
-      → ((o : Bool) (l : ℕ) (known : Bool) (k a p : ℕ) → Kind k → (asked ≢ undecided → k ≡ asked) → (o ≡ true → (known ≡ true) × Value k a) → l ≤ rank p 0 → at + 1 ≤ p → p ≤ length s
+      → ((o : Bool) (l : ℕ) (known : Bool) (k a p : ℕ) → Kind k → (asked ≢ undecided → k ≡ asked)
+      → (o ≡ true → (known ≡ true) × Value k a) → l ≤ rank p 0 → at + 1 ≤ p → p ≤ length s
       → Ordered s (Open s asked first) o l (go known k a p))
       → Ordered s (Open s asked first) sound low (withLiteral s asked at go)
   with-ordered sound low first at go l h f =
@@ -201,7 +202,8 @@ module _ (s : List ℕ) (asked : ℕ) (ok : Asked asked) where
   simple : (sound : Bool) (low at sort : ℕ) (a b : ℕ → ℕ → ℕ) (below : Bool)
       → ((k v : ℕ) → Value k v → EndsGood (ends k (a k v) (b k v) below)) → low ≤ rank at 0 → at ≤ length s → 1 < sort
       → eqb (tokenAt s at .sort) sort ≡ true
-      → Ordered s (Open s asked (at + 1)) sound low (withLiteral s asked (tokenAt s at .end) (λ known k v p. parsed (ends k (a k v) (b k v) below) p))
+      → Ordered s (Open s asked (at + 1)) sound low
+      (withLiteral s asked (tokenAt s at .end) (λ known k v p. parsed (ends k (a k v) (b k v) below) p))
   simple sound low at sort a b below good l h m e =
       let f = token-past s at sort h m e in
       with-ordered sound low (at + 1) (tokenAt s at .end) _ (omega (arith, f .least)) (f .most)

@@ -343,11 +343,13 @@ module _ (kind low high next : ℕ) (below : Bool) (n : NotEmpty kind low high b
       record { some = omega arith; day = λ d. n .day d l }
 
   pub closed-below : below ≡ true → (h : ℕ) → h ≡ before kind high
-      → intervalReading (intervalRead.Interval kind low h next) ≡ got (shut kind (closed (ends kind low high below))) next
+      → intervalReading (intervalRead.Interval kind low h next)
+      ≡ got (shut kind (closed (ends kind low high below))) next
   closed-below k h e = rw (k, e)
 
   pub closed-shut : below ≡ false
-      → intervalReading (intervalRead.Interval kind low high next) ≡ got (shut kind (closed (ends kind low high below))) next
+      → intervalReading (intervalRead.Interval kind low high next)
+      ≡ got (shut kind (closed (ends kind low high below))) next
   closed-shut k = rw k
 
 -- the closing bar
@@ -360,7 +362,8 @@ module _ (s : List ℕ) (kind low high at : ℕ) (below : Bool) (r : Expected)
 
   module _ (t : Token) (g : r ≡ Taken t) (b : Bool) (h : b ≡ empty (ends undecided low high below)) where
     pub close-empty : b ≡ true
-        → intervalReading (intervalRead.Faulty (refusal EmptyInterval (t .start))) ≡ closing s (ends kind low high below) at
+        → intervalReading (intervalRead.Faulty (refusal EmptyInterval (t .start)))
+        ≡ closing s (ends kind low high below) at
     unfolding closing
     close-empty k = let z : empty (ends undecided low high below) ≡ true = sym h ∙ k in rw (expected-token e t g, z)
 

@@ -87,12 +87,14 @@ module _ {A : Type 0} where
     roomy-none (got x p) e = rw e
 
     pub roomy-some : (r : Reading A) → eqb count itemLimit ≡ false
-        → readThen (roomy place number count r) go ≡ readThen r (λ x p. readUnless (eqb number recordLimit) TooManyRecords (place x) (go x p))
+        → readThen (roomy place number count r) go
+        ≡ readThen r (λ x p. readUnless (eqb number recordLimit) TooManyRecords (place x) (go x p))
     unfolding roomy
     roomy-some (refused x) e = refl
     roomy-some (got x p) e = rw e (by (eqb number recordLimit))
       where
         by : (b : Bool)
-            → readThen (cond b (refuse TooManyRecords (place x)) (got x p)) go ≡ cond b (refuse TooManyRecords (place x)) (go x p)
+            → readThen (cond b (refuse TooManyRecords (place x)) (got x p)) go
+            ≡ cond b (refuse TooManyRecords (place x)) (go x p)
         by true = refl
         by false = refl

@@ -30,9 +30,11 @@ use Rattle.cadl_items.specs.contracts.Told.{start, item, goOnRanges, ran
 
 module _ (s : List ℕ) where
   pub start-is : (kind at : ℕ) → start s kind at
-      ≡ cond (eqb (tokenAt s at .sort) bar) (got (record { place = tokenAt s at .start; single = false; value = 0 }) (tokenAt s at .end))
+      ≡ cond (eqb (tokenAt s at .sort) bar)
+      (got (record { place = tokenAt s at .start; single = false; value = 0 }) (tokenAt s at .end))
       (cond (eqb (tokenAt s at .sort) integer && not (eqb kind date))
-      (readThen (literal s integer at) (λ v p. got (record { place = tokenAt s at .start; single = true; value = v }) p))
+      (readThen (literal s integer at)
+      (λ v p. got (record { place = tokenAt s at .start; single = true; value = v }) p))
       (syntaxFault (tokenAt s at)))
   unfolding start literal rangeText.start
   start-is kind at =
@@ -59,7 +61,8 @@ module _ (s : List ℕ) where
       (told-cond (eqb (tokenAt s q .sort) comma) _ _ _ _ (first-then (rangeText.ranges s left (i .kind) (number + 1) (i .pair ∷ seen) (tokenAt s q .end)) _) refl))))
 
   pub start-string-is : (at : ℕ) → startString s at
-      ≡ readThen (expect s string at) (λ t p. readUnless (ltb stringLimit (length (inner s t))) TooLong (t .start) (got t p))
+      ≡ readThen (expect s string at)
+      (λ t p. readUnless (ltb stringLimit (length (inner s t))) TooLong (t .start) (got t p))
   unfolding startString stringText.startString
   start-string-is at = told-then (wanted s string at) _ _ _ (told-read (expect s string at)) (λ t p. told-noting (ltb stringLimit (length (inner s t))) TooLong (t .start) _ _ refl)
 
@@ -72,7 +75,8 @@ module _ (s : List ℕ) where
       ≡ readThen (startString s at) (λ t p.
       readUnless (eqb number recordLimit) TooManyRecords (t .start)
       (readUnless (listed (inner s t) seen) Overlap (t .start)
-      (goOnStrings s (record { number = number; text = inner s t }) (strings s left (number + 1) (inner s t ∷ seen)) p)))
+      (goOnStrings s (record { number = number; text = inner s t })
+      (strings s left (number + 1) (inner s t ∷ seen)) p)))
   unfolding strings startString stringText.strings
   strings-some left number seen at =
       told-soundly (stringText.startString s at) _ _ _ refl (λ t p.
@@ -82,25 +86,30 @@ module _ (s : List ℕ) where
 
   pub second-is : (number flag at : ℕ) → secondBoolean s number flag at
       ≡ cond (isBoolean (tokenAt s at))
-      (readUnless (eqb (booleanFlag (tokenAt s at)) flag) Overlap (tokenAt s at .start) (got (single booleans number 3) (tokenAt s at .end)))
+      (readUnless (eqb (booleanFlag (tokenAt s at)) flag) Overlap (tokenAt s at .start)
+      (got (single booleans number 3) (tokenAt s at .end)))
       (syntaxFault (tokenAt s at))
   unfolding secondBoolean leafText.secondBoolean
   second-is number flag at =
       told-cond (isBoolean (tokenAt s at)) _ _ _ _ (told-noting (eqb (booleanFlag (tokenAt s at)) flag) Overlap (tokenAt s at .start) _ _ refl) refl
 
   pub boolean-is : (number : ℕ) (t : Token) → booleanList s number t
-      ≡ cond (eqb (tokenAt s (t .end) .sort) comma) (secondBoolean s number (booleanFlag t) (tokenAt s (t .end) .end)) (got (single booleans number (booleanFlag t)) (t .end))
+      ≡ cond (eqb (tokenAt s (t .end) .sort) comma) (secondBoolean s number (booleanFlag t) (tokenAt s (t .end) .end))
+      (got (single booleans number (booleanFlag t)) (t .end))
   unfolding booleanList secondBoolean leafText.booleanList
   boolean-is number t = told-cond (eqb (tokenAt s (t .end) .sort) comma) _ _ _ _ refl refl
 
   pub leaf-is : (number at : ℕ) → leaf s number at
-      ≡ cond (isBoolean (tokenAt s at)) (readUnless (eqb number recordLimit) TooManyRecords (tokenAt s at .start) (booleanList s number (tokenAt s at)))
+      ≡ cond (isBoolean (tokenAt s at))
+      (readUnless (eqb number recordLimit) TooManyRecords (tokenAt s at .start) (booleanList s number (tokenAt s at)))
       (cond (eqb (tokenAt s at .sort) integer || eqb (tokenAt s at .sort) bar)
       (readThen (ranges s itemLimit undecided number [] at) (λ l p. got (rangeLeaf l) p))
       (cond (eqb (tokenAt s at .sort) string)
       (readThen (strings s itemLimit number [] at) (λ l p. got (texts l) p))
-      (cond (isPattern datePattern Spelling.datePattern (tokenAt s at)) (patternLeaf datePattern Spelling.datePattern number (tokenAt s at))
-      (cond (isPattern timePattern Spelling.timePattern (tokenAt s at)) (patternLeaf timePattern Spelling.timePattern number (tokenAt s at))
+      (cond (isPattern datePattern Spelling.datePattern (tokenAt s at))
+      (patternLeaf datePattern Spelling.datePattern number (tokenAt s at))
+      (cond (isPattern timePattern Spelling.timePattern (tokenAt s at))
+      (patternLeaf timePattern Spelling.timePattern number (tokenAt s at))
       (syntaxFault (tokenAt s at))))))
   unfolding leaf booleanList ranges strings leafText.leaf
   leaf-is number at =

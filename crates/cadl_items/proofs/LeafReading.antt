@@ -40,7 +40,8 @@ use Rattle.cadl_items.proofs.RangeReading.{Listed, ranges-ordered}
 use Rattle.cadl_items.proofs.RangeReading
 
 -- a tree that was read from a place on up to p, the first record's number given: the numbers and the count of its records, what makes it proper, and its pool bytes
-pub record TreeRead (s : List ℕ) (next from : ℕ) (ns : List ℕ) (records : ℕ) (Proper : Type 0) (bs : List ℕ) (p : ℕ) : Type 0 where
+pub record TreeRead (s : List ℕ) (next from : ℕ) (ns : List ℕ) (records : ℕ) (Proper : Type 0) (bs : List ℕ)
+    (p : ℕ) : Type 0 where
   pub least : from + 1 ≤ p
   pub most : p ≤ length s
   pub numbers : ns ≡ upFrom next records
@@ -83,8 +84,10 @@ module _ (s : List ℕ) where
   more-ordered : (number from p : ℕ) (sound : Bool) (low : ℕ) (t : Token) (more : ℕ → Parse (List Text))
       → (sound ≡ true → number ≢ recordLimit) → low ≤ rank p 0 → Passed s from t p
       → (sound ≡ true → length (inner s t) ≤ 255)
-      → ((q : ℕ) → low ≤ rank q 0 → from + 1 ≤ q → q ≤ length s → Ordered s (Passes s q (Texts s (number + 1) q)) sound low (more q))
-      → Ordered s (Passes s from (Texts s number from)) sound low (goOnStrings s (record { number = number; text = inner s t }) more p)
+      → ((q : ℕ) → low ≤ rank q 0 → from + 1 ≤ q → q ≤ length s
+      → Ordered s (Passes s q (Texts s (number + 1) q)) sound low (more q))
+      → Ordered s (Passes s from (Texts s number from)) sound low
+      (goOnStrings s (record { number = number; text = inner s t }) more p)
   more-ordered number from p sound low t more w b h short k =
       let P = Passes s from (Texts s number from) in
       let x = inner-sub from p t h in
@@ -128,7 +131,8 @@ module _ (s : List ℕ) where
   -- a string, and those behind it
   by-ordered : (full : Bool) (more : Strings) (number : ℕ) (seen : List (List ℕ)) (from : ℕ) (sound : Bool) (low : ℕ)
       → low ≤ rank from 0 → from ≤ length s
-      → ((n : ℕ) (xs : List (List ℕ)) (q : ℕ) (o : Bool) (l : ℕ) → l ≤ rank q 0 → from + 1 ≤ q → q ≤ length s → Ordered s (Passes s q (Texts s n q)) o l (more n xs q))
+      → ((n : ℕ) (xs : List (List ℕ)) (q : ℕ) (o : Bool) (l : ℕ) → l ≤ rank q 0 → from + 1 ≤ q → q ≤ length s
+      → Ordered s (Passes s q (Texts s n q)) o l (more n xs q))
       → Ordered s (Passes s from (Texts s number from)) sound low (stringBy s full more number seen from)
   unfolding numberOf
   by-ordered full more number seen from sound low l h k =
@@ -138,7 +142,10 @@ module _ (s : List ℕ) where
       P = Passes s from (Texts s number from)
 
       rest : (o : Bool) (j : ℕ) (short : Bool) (t : Token) (p : ℕ) → StringToken s from o j t p
-          → Ordered s P o j (noting full TooManyItems (t .start) (noting (eqb number recordLimit) TooManyRecords (t .start) (noting (short && listed (inner s t) seen) Overlap (t .start)
+          → Ordered s P o j
+          (noting full TooManyItems (t .start)
+          (noting (eqb number recordLimit) TooManyRecords (t .start)
+          (noting (short && listed (inner s t) seen) Overlap (t .start)
           (goOnStrings s (record { number = number; text = inner s t }) (more (number + 1) (inner s t ∷ seen)) p))))
       rest o j short t p q =
           let z = q .passed in
@@ -258,7 +265,8 @@ module _ (s : List ℕ) where
   pattern-ordered : (sort : SingleSort) (first number from : ℕ) (sound : Bool) (low : ℕ) → 0 < first → from ≤ length s
       → isPattern sort first (tokenAt s from) ≡ true → (sound ≡ true → number ≢ recordLimit)
       → low ≤ rank (tokenAt s from .start) 8
-      → Ordered s (Passes s from (LeafRead s number from)) sound low (parsed (single sort number (patternFlag first (tokenAt s from))) (tokenAt s from .end))
+      → Ordered s (Passes s from (LeafRead s number from)) sound low
+      (parsed (single sort number (patternFlag first (tokenAt s from))) (tokenAt s from .end))
   pattern-ordered sort first number from sound low k h e w b =
       let t = tokenAt s from in
       let f = token-found s from h in

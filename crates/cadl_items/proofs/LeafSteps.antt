@@ -95,7 +95,8 @@ module _ (number place : ℕ) (l : LeafRead) where
   roomed-is s reading e o = by (eqb number recordLimit)
     where
       by : (b : Bool)
-          → OneIs s number (cond b (refuse TooManyRecords place) reading) (cond b (leafRead.Faulty (refusal TooManyRecords place)) l)
+          → OneIs s number (cond b (refuse TooManyRecords place) reading)
+          (cond b (leafRead.Faulty (refusal TooManyRecords place)) l)
       by true = record { is = λ scratch. refl; one = tt }
       by false = record { is = e; one = o }
 
@@ -152,7 +153,8 @@ module _ (s : List ℕ) (number at : ℕ) (scratch : List ℕ) (d : ListRoom s n
   range-faulty x g = let h : ranges s itemLimit undecided number [] at ≡ refused x = sym (e .is) ∙ ap (rangesReading number scratch) g in record { is = rw h; past = tt }
 
   module _ (kind count p : ℕ) (g : r ≡ rangesRead.Ranges kind count p) where
-    listed : ranges s itemLimit undecided number [] at ≡ got (record { kind = kind; items = itemsFrom (rangeAt scratch) number 0 count }) p
+    listed : ranges s itemLimit undecided number [] at
+        ≡ got (record { kind = kind; items = itemsFrom (rangeAt scratch) number 0 count }) p
     listed = sym (e .is) ∙ ap (rangesReading number scratch) g
 
     lies : Listed s undecided number at (record { kind = kind; items = itemsFrom (rangeAt scratch) number 0 count }) p

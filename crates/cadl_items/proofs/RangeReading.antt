@@ -95,7 +95,8 @@ module _ (s : List ℕ) where
   -- behind an item: what holds of the items that follow holds with it
   more-ordered : (asked number from first p : ℕ) (sound : Bool) (low : ℕ) (i : Interval) (more : ℕ → Parse Ranges)
       → (sound ≡ true → number ≢ recordLimit) → from + 1 ≤ first → Shut s asked first sound low i p
-      → ((q : ℕ) → low ≤ rank q 0 → from + 1 ≤ q → q ≤ length s → Ordered s (Passes s q (Listed s (i .kind) (number + 1) q)) sound low (more q))
+      → ((q : ℕ) → low ≤ rank q 0 → from + 1 ≤ q → q ≤ length s
+      → Ordered s (Passes s q (Listed s (i .kind) (number + 1) q)) sound low (more q))
       → Ordered s (Passes s from (Listed s asked number from)) sound low (goOnRanges s number i more p)
   more-ordered asked number from first p sound low i more w a h k =
       let P = Passes s from (Listed s asked number from) in
@@ -130,7 +131,8 @@ module _ (s : List ℕ) where
   -- an item, and those behind it
   by-ordered : (full : Bool) (more : Items) (asked number : ℕ) (seen : List Pair) (from : ℕ) (sound : Bool) (low : ℕ)
       → Asked asked → low ≤ rank from 0 → from ≤ length s
-      → ((kind n : ℕ) (xs : List Pair) (q : ℕ) (o : Bool) (l : ℕ) → Asked kind → l ≤ rank q 0 → from + 1 ≤ q → q ≤ length s → Ordered s (Passes s q (Listed s kind n q)) o l (more kind n xs q))
+      → ((kind n : ℕ) (xs : List Pair) (q : ℕ) (o : Bool) (l : ℕ) → Asked kind → l ≤ rank q 0 → from + 1 ≤ q
+      → q ≤ length s → Ordered s (Passes s q (Listed s kind n q)) o l (more kind n xs q))
       → Ordered s (Passes s from (Listed s asked number from)) sound low (itemBy s full more asked number seen from)
   unfolding numberOf
   by-ordered full more asked number seen from sound low ok l h k =
@@ -145,8 +147,10 @@ module _ (s : List ℕ) where
       last o j keeps i p q w x y = more-ordered asked number from p q o j i (more (i .kind) (number + 1) keeps) w x y (λ r a c d. k (i .kind) (number + 1) keeps r o j (λ m. y .kind) a c d)
 
       rest : (o : Bool) (j : ℕ) (begun : Bool) (x : Start) (p : ℕ) → Started s asked from o j x p
-          → Ordered s P o j (noting full TooManyItems (x .place) (noting (eqb number recordLimit) TooManyRecords (x .place)
-          (soundly (item s asked x p) (λ ended i q. noting (ended && begun && overlaps (i .pair) seen) Overlap (x .place)
+          → Ordered s P o j
+          (noting full TooManyItems (x .place) (noting (eqb number recordLimit) TooManyRecords (x .place)
+          (soundly (item s asked x p)
+          (λ ended i q. noting (ended && begun && overlaps (i .pair) seen) Overlap (x .place)
           (goOnRanges s number i (more (i .kind) (number + 1) (cond (ended && begun) (i .pair ∷ seen) seen)) q)))))
       rest o j begun x p q =
           ordered-noting s P o j full TooManyItems (x .place) _ 7 refl (lit≤ tt) (lit< tt) (omega (arith, q .bound)) (omega (arith, q .order, q .most)) (λ u a b c.

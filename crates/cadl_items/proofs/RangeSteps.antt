@@ -194,7 +194,8 @@ module _ (s : List ℕ) (number count place kind low high at : ℕ) (before : Li
 
 -- a list from an item on
 ranges-step : (s : List ℕ) (kind number count at : ℕ) (seen : List Pair) → count ≤ itemLimit
-    → readThen (roomy (λ x. x .place) number count (start s kind at)) (λ x p. readThen (item s kind x p) (λ i q. keptRange s number count seen (x .place) i q))
+    → readThen (roomy (λ x. x .place) number count (start s kind at))
+    (λ x p. readThen (item s kind x p) (λ i q. keptRange s number count seen (x .place) i q))
     ≡ ranges s (itemLimit - count) kind number seen at
 unfolding keptRange
 ranges-step s kind number count at seen l = by (eqb count itemLimit) refl
@@ -203,7 +204,8 @@ ranges-step s kind number count at seen l = by (eqb count itemLimit) refl
     go x p = readThen (item s kind x p) (λ i q. keptRange s number count seen (x .place) i q)
 
     by : (b : Bool) → eqb count itemLimit ≡ b
-        → readThen (roomy (λ x. x .place) number count (start s kind at)) go ≡ ranges s (itemLimit - count) kind number seen at
+        → readThen (roomy (λ x. x .place) number count (start s kind at)) go
+        ≡ ranges s (itemLimit - count) kind number seen at
     by true e =
         let c = eqb-true count itemLimit e in
         let z : itemLimit - count ≡ zero = omega arith in
@@ -219,7 +221,8 @@ module _ (s : List ℕ) (kind number count at : ℕ) (before : List ℕ) (d : It
   Steps after o = RangeIs s number count (ranges s (itemLimit - count) kind number (pairsOf before count) at) before after o
 
   step : readThen (startReading r)
-      (λ x p. readThen (item s kind x p) (λ i q. keptRange s number count (pairsOf before count) (x .place) i q)) ≡ ranges s (itemLimit - count) kind number (pairsOf before count) at
+      (λ x p. readThen (item s kind x p) (λ i q. keptRange s number count (pairsOf before count) (x .place) i q))
+      ≡ ranges s (itemLimit - count) kind number (pairsOf before count) at
   step = rw (e .is) (ranges-step s kind number count at (pairsOf before count) (d .before .few))
 
   pub step-faulty : (x : Refusal) → r ≡ startRead.Faulty x → Steps before (rangeRead.Faulty x)
@@ -233,7 +236,8 @@ module _ (s : List ℕ) (kind number count at : ℕ) (before : List ℕ) (d : It
     step-at = record { inside = start-past .0; asked = d .asked }
 
     begun-step : readThen (item s kind (started single v) p)
-        (λ i q. keptRange s number count (pairsOf before count) place i q) ≡ ranges s (itemLimit - count) kind number (pairsOf before count) at
+        (λ i q. keptRange s number count (pairsOf before count) place i q)
+        ≡ ranges s (itemLimit - count) kind number (pairsOf before count) at
     begun-step = rw g at step
 
     module _ (i : IntervalRead) (f : IntervalIs s (item s kind (started single v) p) i) where
@@ -253,7 +257,8 @@ module _ (s : List ℕ) (kind number count at : ℕ) (before : List ℕ) (d : It
             record { inside = a .0; asked = a .1; few = b .1; records = b .2 }
 
         pub step-kept : (after : List ℕ) (o : RangeRead)
-            → RangeIs s number count (keptRange s number count (pairsOf before count) place (shut q (pair low high)) next) before after o
+            → RangeIs s number count
+            (keptRange s number count (pairsOf before count) place (shut q (pair low high)) next) before after o
             → Steps after o
         step-kept after o b = record { is = b .is ∙ rw read at begun-step; kept = b .kept; past = b .past }
 
@@ -277,7 +282,8 @@ pub record InRanges (s : List ℕ) (number from : ℕ) (scratch : List ℕ) (kin
   pub few : count ≤ itemLimit
   pub records : number + count ≤ recordLimit
   pub is : withItems (itemsFrom (rangeAt scratch) number 0 count)
-      (ranges s (itemLimit - count) kind (number + count) (pairsOf scratch count) at) ≡ ranges s itemLimit undecided number [] from
+      (ranges s (itemLimit - count) kind (number + count) (pairsOf scratch count) at)
+      ≡ ranges s itemLimit undecided number [] from
 
 pub ranges-start : (s : List ℕ) (number from : ℕ) (scratch : List ℕ) → ListRoom s number from
     → InRanges s number from scratch undecided 0 from
@@ -293,7 +299,8 @@ module _ (s : List ℕ) (number from : ℕ) (before : List ℕ) (kind count at :
   ranges-room = record { before = record { inside = inv .inside; few = inv .few; records = inv .records }; asked = inv .asked }
 
   module _ (after : List ℕ) (r : RangeRead)
-      (e : RangeIs s (number + count) count (ranges s (itemLimit - count) kind (number + count) (pairsOf before count) at) before after r) where
+      (e : RangeIs s (number + count) count
+      (ranges s (itemLimit - count) kind (number + count) (pairsOf before count) at) before after r) where
     whole : withItems (itemsFrom (rangeAt after) number 0 count)
         (rangeReading s (number + count) count after r) ≡ ranges s itemLimit undecided number [] from
     whole =
@@ -303,7 +310,8 @@ module _ (s : List ℕ) (number from : ℕ) (before : List ℕ) (kind count at :
     pub ranges-faulty : (x : Refusal) → r ≡ rangeRead.Faulty x → RangesIs s number from after (rangesRead.Faulty x)
     ranges-faulty x g = record { is = rw g at whole; past = tt }
 
-    more : itemsFrom (rangeAt after) number 0 (count + 1) ≡ itemsFrom (rangeAt after) number 0 count ++ (rangeAt after (number + count) count ∷ [])
+    more : itemsFrom (rangeAt after) number 0 (count + 1)
+        ≡ itemsFrom (rangeAt after) number 0 count ++ (rangeAt after (number + count) count ∷ [])
     more = items-last (rangeAt after) number count
 
     pub ranges-last : (k p : ℕ) → r ≡ rangeRead.Last k p

@@ -181,7 +181,8 @@ module _ (s : List ℕ) (number count : ℕ) (t : Token) (before : List ℕ) (ro
 
 -- a list from a string on
 strings-step : (s : List ℕ) (number count at : ℕ) (seen : List (List ℕ)) → count ≤ itemLimit
-    → readThen (roomy (λ t. t .start) number count (startString s at)) (λ t p. keptString s number count seen t p) ≡ strings s (itemLimit - count) number seen at
+    → readThen (roomy (λ t. t .start) number count (startString s at)) (λ t p. keptString s number count seen t p)
+    ≡ strings s (itemLimit - count) number seen at
 unfolding keptString
 strings-step s number count at seen l = by (eqb count itemLimit) refl
   where
@@ -189,7 +190,8 @@ strings-step s number count at seen l = by (eqb count itemLimit) refl
     go t p = keptString s number count seen t p
 
     by : (b : Bool) → eqb count itemLimit ≡ b
-        → readThen (roomy (λ t. t .start) number count (startString s at)) go ≡ strings s (itemLimit - count) number seen at
+        → readThen (roomy (λ t. t .start) number count (startString s at)) go
+        ≡ strings s (itemLimit - count) number seen at
     by true e =
         let c = eqb-true count itemLimit e in
         let z : itemLimit - count ≡ zero = omega arith in
@@ -205,7 +207,8 @@ module _ (s : List ℕ) (number count at : ℕ) (before : List ℕ) (d : StringR
   Steps after o = StringIs s number count (strings s (itemLimit - count) number (earlier s before 0 count) at) before after o
 
   step : readThen (tokenReading r)
-      (λ t p. keptString s number count (earlier s before 0 count) t p) ≡ strings s (itemLimit - count) number (earlier s before 0 count) at
+      (λ t p. keptString s number count (earlier s before 0 count) t p)
+      ≡ strings s (itemLimit - count) number (earlier s before 0 count) at
   step = rw (e .is) (strings-step s number count at (earlier s before 0 count) (d .before .few))
 
   pub step-faulty : (x : Refusal) → r ≡ Fault x → Steps before (stringRead.Faulty x)
@@ -243,7 +246,8 @@ pub record InStrings (s : List ℕ) (number from : ℕ) (scratch : List ℕ) (co
   pub records : number + count ≤ recordLimit
   pub spans : SpansIn s scratch 0 count
   pub is : withTexts (itemsFrom (textAt s scratch) number 0 count)
-      (strings s (itemLimit - count) (number + count) (earlier s scratch 0 count) at) ≡ strings s itemLimit number [] from
+      (strings s (itemLimit - count) (number + count) (earlier s scratch 0 count) at)
+      ≡ strings s itemLimit number [] from
 
 pub strings-start : (s : List ℕ) (number from : ℕ) (scratch : List ℕ) → LeafRoom s number from
     → InStrings s number from scratch 0 from
@@ -266,7 +270,8 @@ module _ (s : List ℕ) (number from : ℕ) (before : List ℕ) (count at : ℕ)
   strings-room = record { before = record { inside = inv .inside; few = inv .few; records = inv .records }; short = inv .short; spans = inv .spans }
 
   module _ (after : List ℕ) (r : StringRead)
-      (e : StringIs s (number + count) count (strings s (itemLimit - count) (number + count) (earlier s before 0 count) at) before after r) where
+      (e : StringIs s (number + count) count
+      (strings s (itemLimit - count) (number + count) (earlier s before 0 count) at) before after r) where
     same-items : itemsFrom (textAt s after) number 0 count ≡ itemsFrom (textAt s before) number 0 count
     same-items =
         items-same (textAt s after) (textAt s before) number 0 count
@@ -279,7 +284,8 @@ module _ (s : List ℕ) (number from : ℕ) (before : List ℕ) (count at : ℕ)
     pub strings-faulty : (x : Refusal) → r ≡ stringRead.Faulty x → StringsIs s number from after (stringsRead.Faulty x)
     strings-faulty x g = record { is = rw g at whole; past = tt }
 
-    more : itemsFrom (textAt s after) number 0 (count + 1) ≡ itemsFrom (textAt s after) number 0 count ++ (textAt s after (number + count) count ∷ [])
+    more : itemsFrom (textAt s after) number 0 (count + 1)
+        ≡ itemsFrom (textAt s after) number 0 count ++ (textAt s after (number + count) count ∷ [])
     more = items-last (textAt s after) number count
 
     pub strings-last : (p : ℕ) → r ≡ stringRead.Last p

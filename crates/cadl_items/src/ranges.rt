@@ -189,7 +189,8 @@ fn keep_range(
 ) -> RangeRead
     requires { ⌜ KeepRoom (now s) kind number count from ⌝ }
     ensures { λ r. ⌜ RangeIs (now (s .entry)) number count
-        (keptRange (now (s .entry)) number count (pairsOf (now (scratch .entry)) count) place (shut kind (pair low high)) from)
+        (keptRange (now (s .entry)) number count (pairsOf (now (scratch .entry)) count) place
+        (shut kind (pair low high)) from)
         (now (scratch .entry)) (now (scratch .exit)) r ⌝ }
 {
     if overlaps(scratch, count, low, high) {

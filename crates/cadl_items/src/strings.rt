@@ -129,7 +129,8 @@ fn string_item(
 ) -> StringRead
     requires { ⌜ StringRoom (now s) number count from (now scratch) ⌝ }
     ensures { λ r. ⌜ StringIs (now (s .entry)) number count
-        (strings (now (s .entry)) (itemLimit - count) number (earlier (now (s .entry)) (now (scratch .entry)) 0 count) from)
+        (strings (now (s .entry)) (itemLimit - count) number
+        (earlier (now (s .entry)) (now (scratch .entry)) 0 count) from)
         (now (scratch .entry)) (now (scratch .exit)) r ⌝ }
 {
     match roomy_string(s, number, count, from) {

@@ -155,7 +155,8 @@ module _ (s : List ℕ) (flag from : ℕ) (small : flag ≤ 2) (r : Expected)
   unfolding existenceClosed
   closed-fault x g = record { is = rw (expected-fault e x g); past = tt }
 
-  pub closed-there : (t : Token) → r ≡ Taken t → ExistenceIs s from (existenceClosed s flag from) (Existence flag (t .end))
+  pub closed-there : (t : Token) → r ≡ Taken t
+      → ExistenceIs s from (existenceClosed s flag from) (Existence flag (t .end))
   unfolding existenceClosed
   closed-there t g = let p = expected-past e t g in record { is = rw (expected-token e t g); past = (small, omega arith, p .2) }
 

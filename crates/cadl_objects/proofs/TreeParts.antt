@@ -49,7 +49,8 @@ module _ (s : List ℕ) where
 
   pub code-is : (from : ℕ) → objectCode s from
       ≡ cond (eqb (tokenAt s from .sort) code)
-      (readUnless (ltb codeLimit (length (inner s (tokenAt s from)))) TooLong (tokenAt s from .start) (got (inner s (tokenAt s from)) (tokenAt s from .end)))
+      (readUnless (ltb codeLimit (length (inner s (tokenAt s from)))) TooLong (tokenAt s from .start)
+      (got (inner s (tokenAt s from)) (tokenAt s from .end)))
       (got [] from)
   unfolding objectCode Objects.objectCode
   code-is from = let t = tokenAt s from in told-cond (eqb (t .sort) code) _ _ _ _ (told-noting (ltb codeLimit (length (inner s t))) TooLong (t .start) _ _ refl) refl
@@ -91,7 +92,8 @@ module _ (s : List ℕ) where
 
   pub attributes-is : (levels fuel : ℕ) (seen : List (List ℕ)) (next from : ℕ)
       → attributes s levels (suc fuel) seen next from
-      ≡ readThen (attributeFrom s levels seen next from) (λ a p. goOn s next a (attributes s levels fuel (a .name ∷ seen) (pastAttribute next a)) p)
+      ≡ readThen (attributeFrom s levels seen next from)
+      (λ a p. goOn s next a (attributes s levels fuel (a .name ∷ seen) (pastAttribute next a)) p)
   unfolding attributes attributeFrom Objects.attributes
   attributes-is levels fuel seen next from =
       told-then (Objects.attributeFrom s (Objects.objectFrom s levels) seen next from) _ _ _ refl (λ a p.
@@ -115,7 +117,8 @@ module _ (s : List ℕ) where
       (told-then (wanted s closeBrace (tokenAt s r .end)) _ _ _ (told-read (expect s closeBrace (tokenAt s r .end))) (λ z x. refl)) refl) (λ xs x. refl))))
 
   unread : (r : Reading Token) (f g : Token → ℕ → Reading Object)
-      → readThen (readThen r (λ t p. refuse {A = Token} TooDeep (t .start))) f ≡ readThen (readThen r (λ t p. refuse {A = Token} TooDeep (t .start))) g
+      → readThen (readThen r (λ t p. refuse {A = Token} TooDeep (t .start))) f
+      ≡ readThen (readThen r (λ t p. refuse {A = Token} TooDeep (t .start))) g
   unread (refused x) f g = refl
   unread (got t p) f g = refl
 
@@ -128,7 +131,8 @@ module _ (s : List ℕ) where
 
 -- a constraint text
 pub constraint-is : (s : List ℕ) → constraintOf s
-    ≡ readUnless (ltb textLimit (length s)) TextTooLong textLimit (readThen (objectFrom s levelLimit 1 0) (λ o p. readThen (expect s textEnd p) (λ t q. got o q)))
+    ≡ readUnless (ltb textLimit (length s)) TextTooLong textLimit
+    (readThen (objectFrom s levelLimit 1 0) (λ o p. readThen (expect s textEnd p) (λ t q. got o q)))
 unfolding constraintOf constraintText objectAlone objectFrom
 constraint-is s =
     told-noting (ltb textLimit (length s)) TextTooLong textLimit _ _

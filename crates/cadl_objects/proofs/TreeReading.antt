@@ -120,7 +120,9 @@ module _ (s : List ℕ) (first : ℕ) (down : ℕ → ℕ → Parse Object) (bel
   -- an attribute before others: numbers and pool
   first-holds : (next from p q : ℕ) (a : Attribute) (more : Attributes) → AttributeRead s next from a p → p ≤ q
       → q ≤ length s
-      → attributeNumbers more ≡ upFrom (pastAttribute next a) (attributeRecords more) → (pastAttribute next a ≤ recordLimit → pastAttribute next a + attributeRecords more ≤ recordLimit) → ProperAttributes more
+      → attributeNumbers more ≡ upFrom (pastAttribute next a) (attributeRecords more)
+      → (pastAttribute next a ≤ recordLimit → pastAttribute next a + attributeRecords more ≤ recordLimit)
+      → ProperAttributes more
       → Sub (attributePool more) (part s p q)
       → AttributesRead s next from (attribute (headOf next a) (a .value) more) q
   unfolding attributeNumbers attributeRecords attributePool ProperAttributes

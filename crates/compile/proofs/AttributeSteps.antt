@@ -51,8 +51,10 @@ attributeAs flag w v = record { existence = flag; name = w; value = v }
 attribute-written : (s : List ℕ) (little : Bool) (p : Spot) (flag : ℕ) (w : List ℕ) (v : Value) (place : ℕ)
     (rs bs : List ℕ) (x : Reading Token)
     → linkBelow (p .next + 1) (p .next + 1 + length (valueTable v (p .pool + length w))) ≡ valueLink v
-    → closedAttribute s little p flag w (spot place (p .next + 1 + length (valueTable v (p .pool + length w))) (p .pool + length w + length (valuePool v)))
-    (sets rs (recordSize * (p .next + 1)) (encodes little (valueTable v (p .pool + length w)))) (sets (sets bs (p .pool) w) (p .pool + length w) (valuePool v)) x
+    → closedAttribute s little p flag w
+    (spot place (p .next + 1 + length (valueTable v (p .pool + length w))) (p .pool + length w + length (valuePool v)))
+    (sets rs (recordSize * (p .next + 1)) (encodes little (valueTable v (p .pool + length w))))
+    (sets (sets bs (p .pool) w) (p .pool + length w) (valuePool v)) x
     ≡ attributeWritten s little p rs bs (readThen x (λ u at. got (attributeAs flag w v) at))
 unfolding closedAttribute attributeWritten
 attribute-written s little p flag w v place rs bs (refused x) h = refl
@@ -74,7 +76,8 @@ name-of s levels n h r a at e = by (value s levels (n + 1) r) e
     two v (got u z) f = let k : a ≡ attributeAs (h .existence) (h .name) v = cc in ap (λ (x : Attribute). x .name) k
 
     by : (x : Reading Value)
-        → readThen x (λ v y. readThen (expect s closeBrace y) (λ u z. got (attributeAs (h .existence) (h .name) v) z)) ≡ got a at
+        → readThen x (λ v y. readThen (expect s closeBrace y) (λ u z. got (attributeAs (h .existence) (h .name) v) z))
+        ≡ got a at
         → a .name ≡ h .name
     by (refused x) f = let z : _≡_ {A = ℕ} 0 1 = cc in absurd (omega arith)
     by (got v y) f = two v (expect s closeBrace y) f
@@ -131,7 +134,8 @@ module _ {s : List ℕ} {p : Spot} {first top : ℕ} {names : List ℕ} (room : 
           rw (put .spot) (record { room = record { inside = h .inside; short = v .short; records = let n = h .records in omega arith; bytes = omega arith }; few = omega arith })
 
       module _ (levels : ℕ) (little : Bool) (rs : List ℕ) {names2 rs2 bs2 : List ℕ} {r : TreeRead}
-          (d : TreeIs (top + 1) names1 names2 (written valueTable valuePool little q rs bs1 (value s levels (q .next) (q .place))) rs2 bs2 r) where
+          (d : TreeIs (top + 1) names1 names2
+          (written valueTable valuePool little q rs bs1 (value s levels (q .next) (q .place))) rs2 bs2 r) where
         abbrev inside : Reading Value
         inside = value s levels (p .next + 1) next
 

@@ -44,7 +44,8 @@ ended true q = attributeRead.Last q
 ended false q = attributeRead.More q
 
 -- what an answer says of the attribute that was read
-record IsAttribute (s : List ℕ) (little : Bool) (p : Spot) (rs bs rs' bs' : List ℕ) (last : Bool) (q : Spot) (x : Reading Attribute) : Type 0 where
+record IsAttribute (s : List ℕ) (little : Bool) (p : Spot) (rs bs rs' bs' : List ℕ) (last : Bool) (q : Spot)
+    (x : Reading Attribute) : Type 0 where
   pub a : Attribute
   pub at : ℕ
   pub is : x ≡ got a at
@@ -53,7 +54,10 @@ record IsAttribute (s : List ℕ) (little : Bool) (p : Spot) (rs bs rs' bs' : Li
       (p .next + 1 + length (valueTable (a .value) (p .pool + length (a .name))))
       (p .pool + length (a .name) + length (valuePool (a .value)))
   pub records : rs' ≡ sets rs (recordSize * p .next)
-      (encodes little (attributeRow (a .existence) (a .name) (p .pool) (valueLink (a .value)) (cond last 0 (p .next + 1 + length (valueTable (a .value) (p .pool + length (a .name))))) ∷ valueTable (a .value) (p .pool + length (a .name))))
+      (encodes little
+      (attributeRow (a .existence) (a .name) (p .pool) (valueLink (a .value))
+      (cond last 0 (p .next + 1 + length (valueTable (a .value) (p .pool + length (a .name)))))
+      ∷ valueTable (a .value) (p .pool + length (a .name))))
   pub bytes : bs' ≡ sets bs (p .pool) (a .name ++ valuePool (a .value))
 
 module _ (s : List ℕ) (little : Bool) (p : Spot) (rs bs rs' bs' : List ℕ) where
@@ -116,10 +120,16 @@ module _ (s : List ℕ) (little : Bool) (p : Spot) (rs bs rs' bs' : List ℕ) wh
 -- an attribute that is written, and the attributes behind it
 step : (little : Bool) (p : Spot) (a : Attribute) (place link : ℕ) (rs bs : List ℕ) (rest : Reading Attributes)
     → ((xs : Attributes) (at : ℕ) → rest ≡ got xs at → attributesLink xs ≡ link)
-    → written attributesTable attributePool little (spot place (p .next + 1 + length (valueTable (a .value) (p .pool + length (a .name)))) (p .pool + length (a .name) + length (valuePool (a .value))))
-    (sets rs (recordSize * p .next) (encodes little (attributeRow (a .existence) (a .name) (p .pool) (valueLink (a .value)) link ∷ valueTable (a .value) (p .pool + length (a .name)))))
+    → written attributesTable attributePool little
+    (spot place (p .next + 1 + length (valueTable (a .value) (p .pool + length (a .name))))
+    (p .pool + length (a .name) + length (valuePool (a .value))))
+    (sets rs (recordSize * p .next)
+    (encodes little
+    (attributeRow (a .existence) (a .name) (p .pool) (valueLink (a .value)) link
+    ∷ valueTable (a .value) (p .pool + length (a .name)))))
     (sets bs (p .pool) (a .name ++ valuePool (a .value))) rest
-    ≡ written attributesTable attributePool little p rs bs (readThen rest (λ xs at. got (attribute (headOf (p .next) a) (a .value) xs) at))
+    ≡ written attributesTable attributePool little p rs bs
+    (readThen rest (λ xs at. got (attribute (headOf (p .next) a) (a .value) xs) at))
 unfolding written attributesTable attributePool
 step little p a place link rs bs (refused x) h = refl
 step little p a place link rs bs (got xs at) h =
@@ -146,7 +156,8 @@ step little p a place link rs bs (got xs at) h =
 
 -- no more attributes: nothing more is written
 none-more : (little : Bool) (place next pool : ℕ) (rs bs : List ℕ)
-    → wrote (Read (spot place next pool)) rs bs ≡ written attributesTable attributePool little (spot place next pool) rs bs (got noMore place)
+    → wrote (Read (spot place next pool)) rs bs
+    ≡ written attributesTable attributePool little (spot place next pool) rs bs (got noMore place)
 unfolding written attributesTable attributePool
 none-more little place next pool rs bs = rw (add-zero, add-zero)
 
@@ -180,14 +191,17 @@ module _ {s : List ℕ} {first top : ℕ} {names names' : List ℕ} {w : List �
       lies i (no m) a b = let z : i ≡ top = omega arith in rw z (h .lies)
 
 -- at an attribute, with so many names on the stack: with what is left the records and the pool are what they are to be
-pub record InAttributes (s : List ℕ) (little : Bool) (levels : ℕ) (p : Spot) (first : ℕ) (rs₀ bs₀ names₀ : List ℕ) (q : Spot) (top : ℕ) (rs bs names : List ℕ) : Type 0 where
+pub record InAttributes (s : List ℕ) (little : Bool) (levels : ℕ) (p : Spot) (first : ℕ) (rs₀ bs₀ names₀ : List ℕ)
+    (q : Spot) (top : ℕ) (rs bs names : List ℕ) : Type 0 where
   pub fuel : ℕ
   pub room : AttributeRoom s q first top names
   pub order : first ≤ top
   pub enough : length s < q .place + fuel
   pub kept : Kept first names₀ names
-  pub is : written attributesTable attributePool little q rs bs (attributes s levels fuel (earlier s names first top) (q .next) (q .place))
-      ≡ written attributesTable attributePool little p rs₀ bs₀ (attributes s levels (length s + 1) [] (p .next) (p .place))
+  pub is : written attributesTable attributePool little q rs bs
+      (attributes s levels fuel (earlier s names first top) (q .next) (q .place))
+      ≡ written attributesTable attributePool little p rs₀ bs₀
+      (attributes s levels (length s + 1) [] (p .next) (p .place))
 
 pub attributes-start : (s : List ℕ) (little : Bool) (levels : ℕ) {p : Spot} {first : ℕ} (rs bs names : List ℕ)
     → Stacked s p first → InAttributes s little levels p first rs bs names p first rs bs names
@@ -203,8 +217,10 @@ attributes-start s little levels {first = first} rs bs names h =
       is = rw e;
     }
 
-module _ {s : List ℕ} {little : Bool} {levels : ℕ} {p : Spot} {first : ℕ} {rs₀ bs₀ names₀ : List ℕ} {q : Spot} {top : ℕ} {rs bs names : List ℕ} (inv : InAttributes s little levels p first rs₀ bs₀ names₀ q top rs bs names)
-    {names' rs' bs' : List ℕ} {r : attributeReads.AttributeRead} (d : AttributeIs s little levels q first top names rs bs names' rs' bs' r) where
+module _ {s : List ℕ} {little : Bool} {levels : ℕ} {p : Spot} {first : ℕ} {rs₀ bs₀ names₀ : List ℕ} {q : Spot}
+    {top : ℕ} {rs bs names : List ℕ} (inv : InAttributes s little levels p first rs₀ bs₀ names₀ q top rs bs names)
+    {names' rs' bs' : List ℕ} {r : attributeReads.AttributeRead}
+    (d : AttributeIs s little levels q first top names rs bs names' rs' bs' r) where
   abbrev Whole : Reading Attributes
   Whole = attributes s levels (length s + 1) [] (p .next) (p .place)
 
@@ -215,7 +231,9 @@ module _ {s : List ℕ} {little : Bool} {levels : ℕ} {p : Spot} {first : ℕ} 
   still = kept-both (inv .order) (inv .kept) (d .kept)
 
   one-turn : attributes s levels (inv .fuel) (earlier s names first top) Here (q .place)
-      ≡ readThen (AttributeOf s levels q first top names) (λ a at. goOn s Here a (attributes s levels (inv .fuel - 1) (a .name ∷ earlier s names first top) (pastAttribute Here a)) at)
+      ≡ readThen (AttributeOf s levels q first top names)
+      (λ a at. goOn s Here a
+      (attributes s levels (inv .fuel - 1) (a .name ∷ earlier s names first top) (pastAttribute Here a)) at)
   one-turn = turn s levels (inv .fuel) (earlier s names first top) Here (q .place) (let a = inv .enough in let b = inv .room .stacked .room .inside in omega arith)
 
   pub attributes-not : (x : Refusal) → r ≡ attributeRead.Refused x

@@ -62,8 +62,10 @@ counted h = record { inside = h .inside; records = h .records }
 -- attributes behind an object's record and names make up the object
 object-written : (little : Bool) (p : Spot) (t c : List ℕ) (place : ℕ) (first : ℕ) (rs bs : List ℕ)
     (x : Reading Attributes) → ((xs : Attributes) (at : ℕ) → x ≡ got xs at → attributesLink xs ≡ first)
-    → written attributesTable attributePool little (spot place (p .next + 1) (p .pool + length t + length c)) (sets rs (recordSize * p .next) (encode little (objectRow t c (p .pool) first))) (sets bs (p .pool) (t ++ c)) x
-    ≡ written objectTable objectPool little p rs bs (readThen x (λ xs at. got (object (record { number = p .next; type = t; code = c }) xs) at))
+    → written attributesTable attributePool little (spot place (p .next + 1) (p .pool + length t + length c))
+    (sets rs (recordSize * p .next) (encode little (objectRow t c (p .pool) first))) (sets bs (p .pool) (t ++ c)) x
+    ≡ written objectTable objectPool little p rs bs
+    (readThen x (λ xs at. got (object (record { number = p .next; type = t; code = c }) xs) at))
 unfolding written objectTable objectPool
 object-written little p t c place first rs bs (refused x) h = refl
 object-written little p t c place first rs bs (got xs at) h =
@@ -131,7 +133,9 @@ module _ {s : List ℕ} {p : Spot} {top : ℕ} (room : Stacked s p top) {levels 
           rw (put .spot) (record { room = record { inside = h .inside; short = v .short; records = let n = h .records in omega arith; bytes = omega arith }; few = omega arith })
 
       pub object-attributes : (names names' rs2 bs2 : List ℕ) (r : TreeRead) → any ≡ eqb (t .sort) star → any ≡ false
-          → TreeIs top names names' (written attributesTable attributePool little q rs' bs' (attributes s (levels - 1) (length s + 1) [] (q .next) (q .place))) rs2 bs2 r
+          → TreeIs top names names'
+          (written attributesTable attributePool little q rs' bs'
+          (attributes s (levels - 1) (length s + 1) [] (q .next) (q .place))) rs2 bs2 r
           → TreeIs top names names' (written objectTable objectPool little p rs bs From) rs2 bs2 r
       object-attributes names names' rs2 bs2 r k y h =
           let z : eqb (tokenAt s next .sort) star ≡ false = ap (λ (x : Token). eqb (x .sort) star) (sym (tok .is)) ∙ sym k ∙ y in
@@ -148,7 +152,8 @@ module _ {s : List ℕ} {p : Spot} {top : ℕ} (room : Stacked s p top) {levels 
 -- ---- a value
 
 nested-written : (little : Bool) (p : Spot) (rs bs : List ℕ) (x : Reading Object)
-    → written objectTable objectPool little p rs bs x ≡ written valueTable valuePool little p rs bs (readThen x (λ o at. got (nested o) at))
+    → written objectTable objectPool little p rs bs x
+    ≡ written valueTable valuePool little p rs bs (readThen x (λ o at. got (nested o) at))
 unfolding written valueTable valuePool
 nested-written little p rs bs (refused x) = refl
 nested-written little p rs bs (got o at) = refl
@@ -159,13 +164,16 @@ ValueOf s levels p = value s levels (p .next) (p .place)
 module _ (s : List ℕ) (p : Spot) (t : Token) (tok : TokenIs s (p .place) (tokenAt s (p .place)) t)
     (levels top : ℕ) where
   pub value-any : (little : Bool) (names rs bs : List ℕ) → t .sort ≡ star
-      → TreeIs top names names (written valueTable valuePool little p rs bs (ValueOf s levels p)) rs bs (Read (spot (t .end) (p .next) (p .pool)))
+      → TreeIs top names names (written valueTable valuePool little p rs bs (ValueOf s levels p)) rs bs
+      (Read (spot (t .end) (p .next) (p .pool)))
   unfolding written valueTable valuePool
   value-any little names rs bs k = record { is = rw (value-is s levels (p .next) (p .place), ← tok .is, eq-eqb (t .sort) star k, add-zero, add-zero); kept = all-kept names top }
 
   pub value-object : (little : Bool) (names names' rs bs rs' bs' : List ℕ) (r : TreeRead) → (t .sort ≡ star → ⊥)
       → t .sort ≡ typeName
-      → TreeIs top names names' (written objectTable objectPool little p rs bs (objectFrom s levels (p .next) (p .place))) rs' bs' r → TreeIs top names names' (written valueTable valuePool little p rs bs (ValueOf s levels p)) rs' bs' r
+      → TreeIs top names names'
+      (written objectTable objectPool little p rs bs (objectFrom s levels (p .next) (p .place))) rs' bs' r
+      → TreeIs top names names' (written valueTable valuePool little p rs bs (ValueOf s levels p)) rs' bs' r
   value-object little names names' rs bs rs' bs' r k l h = record {
     is = h .is ∙ nested-written little p rs bs (objectFrom s levels (p .next) (p .place)) ∙ rw (value-is s levels (p .next) (p .place), ← tok .is, ne-eqb (t .sort) star k, eq-eqb (t .sort) typeName l);
     kept = h .kept;

@@ -36,7 +36,8 @@ then-same (got a p) f g h = h a p
 -- three readings that make a head, and what is read behind it
 by-head : {A B C D E : Type 0} (a : Reading A) (b : A → ℕ → Reading B) (c : ℕ → Reading C) (make : A → B → D)
     (go : D → ℕ → Reading E)
-    → readThen a (λ t p. readThen (b t p) (λ k q. readThen (c q) (λ u r. go (make t k) r))) ≡ readThen (readThen a (λ t p. readThen (b t p) (λ k q. readThen (c q) (λ u r. got (make t k) r)))) go
+    → readThen a (λ t p. readThen (b t p) (λ k q. readThen (c q) (λ u r. go (make t k) r)))
+    ≡ readThen (readThen a (λ t p. readThen (b t p) (λ k q. readThen (c q) (λ u r. got (make t k) r)))) go
 by-head a b c make go =
     sym (then-then a (λ t p. readThen (b t p) (λ k q. readThen (c q) (λ u r. got (make t k) r))) go
     ∙ then-same a _ _ (λ t p. then-then (b t p) (λ k q. readThen (c q) (λ u r. got (make t k) r)) go
@@ -48,7 +49,10 @@ behindHead s levels n h r = readThen (body s levels (n + 1) r) (λ xs x. got (ob
 
 -- a TYPE, a code and `matches {`, and what is read behind them
 head-by : (s : List ℕ) (levels n from : ℕ) (go : Typed → ℕ → Reading Object)
-    → readThen (objectType s levels n from) (λ t p. readThen (objectCode s p) (λ k q. readThen (opening s q) (λ u r. go (record { type = spelling s t; code = k }) r))) ≡ readThen (objectHead s levels n from) go
+    → readThen (objectType s levels n from)
+    (λ t p. readThen (objectCode s p)
+    (λ k q. readThen (opening s q) (λ u r. go (record { type = spelling s t; code = k }) r)))
+    ≡ readThen (objectHead s levels n from) go
 unfolding objectHead
 head-by s levels n from go = by-head (objectType s levels n from) (λ t p. objectCode s p) (opening s) (λ t k. record { type = spelling s t; code = k }) go
 
@@ -62,7 +66,9 @@ unfolding objectHead
 headless s n from h p e = by (expect s typeName from) (rw (type-is s zero n from) at e)
   where
     by : (r : Reading Token)
-        → readThen (readThen r (λ t q. refuse {A = Token} TooDeep (t .start))) (λ t q. readThen (objectCode s q) (λ k x. readThen (opening s x) (λ u y. got (record { type = spelling s t; code = k }) y))) ≡ got h p
+        → readThen (readThen r (λ t q. refuse {A = Token} TooDeep (t .start)))
+        (λ t q. readThen (objectCode s q)
+        (λ k x. readThen (opening s x) (λ u y. got (record { type = spelling s t; code = k }) y))) ≡ got h p
         → ⊥
     by (refused x) g = let z : _≡_ {A = ℕ} 0 1 = cc in omega arith
     by (got t q) g = let z : _≡_ {A = ℕ} 0 1 = cc in omega arith
@@ -121,6 +127,8 @@ linked s levels (suc fuel) seen n from =
 
 -- one turn of the attributes
 pub turn : (s : List ℕ) (levels fuel : ℕ) (seen : List (List ℕ)) (n from : ℕ) → 0 < fuel
-    → attributes s levels fuel seen n from ≡ readThen (attributeFrom s levels seen n from) (λ a p. goOn s n a (attributes s levels (fuel - 1) (a .name ∷ seen) (pastAttribute n a)) p)
+    → attributes s levels fuel seen n from
+    ≡ readThen (attributeFrom s levels seen n from)
+    (λ a p. goOn s n a (attributes s levels (fuel - 1) (a .name ∷ seen) (pastAttribute n a)) p)
 turn s levels zero seen n from z = absurd (omega arith)
 turn s levels (suc fuel) seen n from z = rw sub-one (attributes-is s levels fuel seen n from)

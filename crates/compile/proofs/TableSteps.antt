@@ -52,12 +52,14 @@ use Rattle.compile_emission.proofs.TreeWriting.{counted-object, row-below, IsTr
 
 -- the entry of a header
 pub header-entry-is : (count pool : ℕ) (x : Entry) → x ≡ plainEntry 0 0
-    → recordOf (record { kind = x .kind; flag = x .flag; a = count; b = pool; c = 1; d = x .d; e = x .e }) ≡ make 0 0 (count ∷ pool ∷ 1 ∷ [])
+    → recordOf (record { kind = x .kind; flag = x .flag; a = count; b = pool; c = 1; d = x .d; e = x .e })
+    ≡ make 0 0 (count ∷ pool ∷ 1 ∷ [])
 header-entry-is count pool x g = λ i. record { kind = g i .kind; flag = g i .flag; fields = count ∷ pool ∷ 1 ∷ g i .d ∷ g i .e ∷ [] }
 
 module _ (little : Bool) (end : ℕ) (q : Spot) (rs bs out : List ℕ) where
   pub output-short : length out < recordSize * q .next + q .pool
-      → answered (Outcomes.refused (refusal OutputTooShort end)) out ≡ write (tableWritten little end q rs bs (length out)) out
+      → answered (Outcomes.refused (refusal OutputTooShort end)) out
+      ≡ write (tableWritten little end q rs bs (length out)) out
   unfolding tableWritten
   output-short h = rw (lt-ltb (length out) (recordSize * q .next + q .pool) h)
 
@@ -86,12 +88,14 @@ module _ (little : Bool) (end : ℕ) (q : Spot) (rs bs out : List ℕ) where
 module _ {text : List ℕ} (q : Spot) {o : Expected}
     (e : ExpectIs text textEnd (q .place) (expect text textEnd (q .place)) o) (little : Bool) (rs bs out : List ℕ) where
   pub finish-fault : (x : Refusal) → o ≡ Fault x
-      → answered (Outcomes.refused x) out ≡ write (finished little text q rs bs (length out) (expect text textEnd (q .place))) out
+      → answered (Outcomes.refused x) out
+      ≡ write (finished little text q rs bs (length out) (expect text textEnd (q .place))) out
   finish-fault x g = rw (expected-fault e x g)
 
   pub finish-taken : (t : Token) (r : CompileResult) (out1 : List ℕ) → o ≡ Taken t
       → answered (answerOf r) out1 ≡ write (tableWritten little (length text) q rs bs (length out)) out
-      → answered (answerOf r) out1 ≡ write (finished little text q rs bs (length out) (expect text textEnd (q .place))) out
+      → answered (answerOf r) out1
+      ≡ write (finished little text q rs bs (length out) (expect text textEnd (q .place))) out
   finish-taken t r out1 g h = rw (expected-token e t g) h
 
 -- ---- compiling
@@ -108,7 +112,9 @@ front-part l xs n e h = let k : length xs ≤ length l = omega arith in rw (sub-
 -- the table of a tree that is in the scratch
 table-is : (little : Bool) (end place room : ℕ) (o : Object) (rs bs : List ℕ) → length rs ≡ 49_152 → length bs ≡ 16_384
     → suc (length (objectTable o 0)) ≤ recordLimit → length (objectPool o) ≤ poolLimit
-    → tableWritten little end (spot place (suc (length (objectTable o 0))) (length (objectPool o))) (sets rs (recordSize * 1) (encodes little (objectTable o 0))) (sets bs 0 (objectPool o)) room ≡ tableFor little end room o
+    → tableWritten little end (spot place (suc (length (objectTable o 0))) (length (objectPool o)))
+    (sets rs (recordSize * 1) (encodes little (objectTable o 0))) (sets bs 0 (objectPool o)) room
+    ≡ tableFor little end room o
 unfolding tableWritten imageOfTree bytesOf
 table-is little end place room o rs bs lr lb h k =
     let t = objectTable o 0 in
@@ -127,8 +133,10 @@ table-is little end place room o rs bs lr lb h k =
     let w : part (sets (sets rs (recordSize * 1) (encodes little t)) 0 (encode little head)) 0 (recordSize * n) ++ part (sets bs 0 b) 0 (length b) ≡ whole = (λ i. a i ++ c i) ∙ append-assoc (encode little head) (encodes little t) b in
     λ i. unless (ltb room (lw i)) (refusal OutputTooShort end) (gave (writes (w i) (lw i)))
 
-module _ (text : List ℕ) (short : length text ≤ textLimit) (little : Bool) (rs bs names names1 rs1 bs1 out : List ℕ) (r : TreeRead)
-    (d : TreeIs 0 names names1 (written objectTable objectPool little (spot 0 1 0) rs bs (objectFrom text levelLimit 1 0)) rs1 bs1 r) where
+module _ (text : List ℕ) (short : length text ≤ textLimit) (little : Bool) (rs bs names names1 rs1 bs1 out : List ℕ)
+    (r : TreeRead)
+    (d : TreeIs 0 names names1
+    (written objectTable objectPool little (spot 0 1 0) rs bs (objectFrom text levelLimit 1 0)) rs1 bs1 r) where
   pub compile-refused : (x : Refusal) → r ≡ Refused x
       → answered (Outcomes.refused x) out ≡ compileAnswer text little out
   unfolding compileAnswer
@@ -172,14 +180,16 @@ module _ (text : List ℕ) (short : length text ≤ textLimit) (little : Bool) (
     compile-room = let a = next-is in let b = pool-is in let c = records-room in let e = pool-room in record { some = omega arith; records = omega arith; bytes = omega arith }
 
     pub compile-done : (z : CompileResult) (out1 : List ℕ) → length rs ≡ 49_152 → length bs ≡ 16_384
-        → answered (answerOf z) out1 ≡ write (finished little text q rs1 bs1 (length out) (expect text textEnd (q .place))) out
+        → answered (answerOf z) out1
+        ≡ write (finished little text q rs1 bs1 (length out) (expect text textEnd (q .place))) out
         → answered (answerOf z) out1 ≡ compileAnswer text little out
     unfolding compileAnswer
     compile-done z out1 lr lb h =
         h ∙ ap (λ o. write o out) (by (expect text textEnd (q .place))) ∙ rw (constraint-is text, le-ltb textLimit (length text) short, read .is)
       where
         by : (x : Reading Token)
-            → finished little text q rs1 bs1 (length out) x ≡ afterReading (readThen x (λ t p. got (read .tree) p)) (tableFor little (length text) (length out))
+            → finished little text q rs1 bs1 (length out) x
+            ≡ afterReading (readThen x (λ t p. got (read .tree) p)) (tableFor little (length text) (length out))
         by (refused x) = refl
         by (got t p) =
             (λ i. tableWritten little (length text) (spot-is i) (read .records i) (read .bytes i) (length out))

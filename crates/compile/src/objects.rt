@@ -60,7 +60,8 @@ pub fn read_object(
 ) -> TreeRead
     requires { ⌜ Stacked (now s) p top ⌝ }
     ensures { λ r. ⌜ TreeIs top (now (names .entry)) (now (names .exit))
-        (written objectTable objectPool little p (now (records .entry)) (now (bytes .entry)) (objectFrom (now (s .entry)) levels (p .next) (p .place)))
+        (written objectTable objectPool little p (now (records .entry)) (now (bytes .entry))
+        (objectFrom (now (s .entry)) levels (p .next) (p .place)))
         (now (records .exit)) (now (bytes .exit)) r ⌝ }
 {
     match object_head(s, levels, p.next, p.place) {
@@ -98,7 +99,8 @@ fn read_attributes(
 ) -> TreeRead
     requires { ⌜ Stacked (now s) p first ⌝ }
     ensures { λ r. ⌜ TreeIs first (now (names .entry)) (now (names .exit))
-        (written attributesTable attributePool little p (now (records .entry)) (now (bytes .entry)) (attributes (now (s .entry)) levels (length (now (s .entry)) + 1) [] (p .next) (p .place)))
+        (written attributesTable attributePool little p (now (records .entry)) (now (bytes .entry))
+        (attributes (now (s .entry)) levels (length (now (s .entry)) + 1) [] (p .next) (p .place)))
         (now (records .exit)) (now (bytes .exit)) r ⌝ }
 {
     let mut q = p;
@@ -171,7 +173,8 @@ fn read_value(
 ) -> TreeRead
     requires { ⌜ Stacked (now s) p top ⌝ }
     ensures { λ r. ⌜ TreeIs top (now (names .entry)) (now (names .exit))
-        (written valueTable valuePool little p (now (records .entry)) (now (bytes .entry)) (value (now (s .entry)) levels (p .next) (p .place)))
+        (written valueTable valuePool little p (now (records .entry)) (now (bytes .entry))
+        (value (now (s .entry)) levels (p .next) (p .place)))
         (now (records .exit)) (now (bytes .exit)) r ⌝ }
 {
     let t = token_at(s, p.place);

@@ -86,7 +86,8 @@ pub fn finish(
     requires { ⌜ q .place ≤ length (now text) ⌝ }
     ensures { λ r. ⌜ answered (answerOf r) (now (out .exit))
         ≡ write
-        (finished little (now (text .entry)) q (now (records .entry)) (now (bytes .entry)) (length (now (out .entry))) (expect (now (text .entry)) textEnd (q .place)))
+        (finished little (now (text .entry)) q (now (records .entry)) (now (bytes .entry)) (length (now (out .entry)))
+        (expect (now (text .entry)) textEnd (q .place)))
         (now (out .entry)) ⌝ }
 {
     match expect(text, TEXT_END, q.place) {

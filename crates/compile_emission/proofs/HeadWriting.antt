@@ -38,12 +38,15 @@ first-there any n r a e = rw a e
 -- the entries of an object and of an attribute
 pub object-entry-is : (ts te cs ce pool first a b c d : ℕ) (x : Entry) → x ≡ plainEntry objectKind 0
     → a ≡ pooledPlace ts te pool → b ≡ te - ts → c ≡ pooledPlace cs ce (pool + (te - ts)) → d ≡ ce - cs
-    → recordOf (record { kind = x .kind; flag = x .flag; a = a; b = b; c = c; d = d; e = first }) ≡ make objectKind 0 (pooledPlace ts te pool ∷ (te - ts) ∷ pooledPlace cs ce (pool + (te - ts)) ∷ (ce - cs) ∷ first ∷ [])
+    → recordOf (record { kind = x .kind; flag = x .flag; a = a; b = b; c = c; d = d; e = first })
+    ≡ make objectKind 0
+    (pooledPlace ts te pool ∷ (te - ts) ∷ pooledPlace cs ce (pool + (te - ts)) ∷ (ce - cs) ∷ first ∷ [])
 object-entry-is ts te cs ce pool first a b c d x g p q r z = λ i. record { kind = g i .kind; flag = g i .flag; fields = p i ∷ q i ∷ r i ∷ z i ∷ first ∷ [] }
 
 pub attribute-entry-is : (flag start end pool value next a b : ℕ) (x : Entry) → x ≡ plainEntry attributeKind flag
     → a ≡ pooledPlace start end pool → b ≡ end - start
-    → recordOf (record { kind = x .kind; flag = x .flag; a = a; b = b; c = value; d = next; e = x .e }) ≡ make attributeKind flag (pooledPlace start end pool ∷ (end - start) ∷ value ∷ next ∷ [])
+    → recordOf (record { kind = x .kind; flag = x .flag; a = a; b = b; c = value; d = next; e = x .e })
+    ≡ make attributeKind flag (pooledPlace start end pool ∷ (end - start) ∷ value ∷ next ∷ [])
 attribute-entry-is flag start end pool value next a b x g p q = λ i. record { kind = g i .kind; flag = g i .flag; fields = p i ∷ q i ∷ value ∷ next ∷ g i .e ∷ [] }
 
 -- a part of the text, as a record has it
@@ -69,8 +72,11 @@ module _ {s : List ℕ} {p : Spot} {ts te cs ce place : ℕ} (room : Room s p)
 
     pub object-put : {little any : Bool} {rs rs' bs2 : List ℕ} {first pool : ℕ} {e : Entry}
         → first ≡ firstLink any (p .next)
-        → recordOf e ≡ make objectKind 0 (pooledPlace ts te (p .pool) ∷ (te - ts) ∷ pooledPlace cs ce (p .pool + (te - ts)) ∷ (ce - cs) ∷ first ∷ [])
-        → rs' ≡ sets rs (recordSize * p .next) (encode little (recordOf e)) → PartPut s cs ce middle bs1 bs2 pool → ObjectPut (part s ts te) (part s cs ce) little p place any rs bs rs' bs2 (spot place (p .next + 1) pool)
+        → recordOf e
+        ≡ make objectKind 0
+        (pooledPlace ts te (p .pool) ∷ (te - ts) ∷ pooledPlace cs ce (p .pool + (te - ts)) ∷ (ce - cs) ∷ first ∷ [])
+        → rs' ≡ sets rs (recordSize * p .next) (encode little (recordOf e)) → PartPut s cs ce middle bs1 bs2 pool
+        → ObjectPut (part s ts te) (part s cs ce) little p place any rs bs rs' bs2 (spot place (p .next + 1) pool)
     object-put {little} {any} {rs} {rs'} {bs2} {first} {pool} {e} f r w k =
         let a = part-row s ts te (p .pool) type-lies in
         let m : p .pool + (te - ts) ≡ p .pool + length (part s ts te) = ap (λ (x : ℕ). p .pool + x) (a .1) in
@@ -97,8 +103,10 @@ name-kept {p = p} {top = top} {place} {names = names} ea eb e k = record {
 -- an attribute's record
 pub attribute-put : (p : Spot) (s : List ℕ) (start end : ℕ) (little : Bool) (flag last next value n : ℕ)
     (rs rs' : List ℕ) (e : Entry) → Within s start end → value ≡ linkBelow (p .next + 1) last → n ≡ next
-    → recordOf e ≡ make attributeKind flag (pooledPlace start end (p .pool) ∷ (end - start) ∷ value ∷ n ∷ []) → rs' ≡ sets rs (recordSize * p .next) (encode little (recordOf e))
-    → rs' ≡ sets rs (recordSize * p .next) (encode little (attributeRow flag (part s start end) (p .pool) (linkBelow (p .next + 1) last) next))
+    → recordOf e ≡ make attributeKind flag (pooledPlace start end (p .pool) ∷ (end - start) ∷ value ∷ n ∷ [])
+    → rs' ≡ sets rs (recordSize * p .next) (encode little (recordOf e))
+    → rs' ≡ sets rs (recordSize * p .next)
+    (encode little (attributeRow flag (part s start end) (p .pool) (linkBelow (p .next + 1) last) next))
 attribute-put p s start end little flag last next value n rs rs' e h v m r w =
     let a = part-row s start end (p .pool) h in
     w ∙ ap (λ (x : Record). sets rs (recordSize * p .next) (encode little x)) (r ∙ λ i. make attributeKind flag (a .0 i ∷ a .1 i ∷ v i ∷ m i ∷ []))
@@ -118,13 +126,15 @@ module _ {s : List ℕ} {p : Spot} {start end : ℕ} {q : Spot} (room : CloseRoo
     module _ {t : Token} (tok : TokenIs s (close .end) (tokenAt s (close .end)) t) {little : Bool} {flag : ℕ}
         {rs rs' : List ℕ} where
       pub close-last : t .sort ≡ closeBrace
-          → rs' ≡ sets rs (recordSize * p .next) (encode little (attributeRow flag (part s start end) (p .pool) (linkBelow (p .next + 1) (q .next)) 0))
+          → rs' ≡ sets rs (recordSize * p .next)
+          (encode little (attributeRow flag (part s start end) (p .pool) (linkBelow (p .next + 1) (q .next)) 0))
           → CloseIs s little p flag (part s start end) q rs rs' (Last (spot (t .end) (q .next) (q .pool)))
       unfolding closedAttribute
       close-last k w = record { is = λ bs. rw (expected-token e close g, ← tok .is, eq-eqb (t .sort) closeBrace k, w) }
 
       pub close-more : (t .sort ≡ closeBrace → ⊥)
-          → rs' ≡ sets rs (recordSize * p .next) (encode little (attributeRow flag (part s start end) (p .pool) (linkBelow (p .next + 1) (q .next)) (q .next)))
+          → rs' ≡ sets rs (recordSize * p .next)
+          (encode little (attributeRow flag (part s start end) (p .pool) (linkBelow (p .next + 1) (q .next)) (q .next)))
           → CloseIs s little p flag (part s start end) q rs rs' (More (spot (close .end) (q .next) (q .pool)))
       unfolding closedAttribute
       close-more k w = record { is = λ bs. rw (expected-token e close g, ← tok .is, ne-eqb (t .sort) closeBrace k, w) }

@@ -42,7 +42,8 @@ module _ {s : List ℕ} {p : Spot} (room : Room s p) {scratch : List ℕ} {o : L
   put-is : (little : Bool) (l : Leaf) (place : ℕ) (table : List Record) (size : ℕ) (rs bs rs' bs' : List ℕ)
       (r : TreeRead) → got l place ≡ leaf s (p .next) (p .place) → table ≡ recordsOfLeaf (p .pool) l
       → size ≡ length (leafPool l)
-      → Puts little p place table size rs rs' r → bs' ≡ sets bs (p .pool) (leafPool l) → wrote r rs' bs' ≡ written valueTable valuePool little p rs bs (leafValue s p)
+      → Puts little p place table size rs rs' r → bs' ≡ sets bs (p .pool) (leafPool l)
+      → wrote r rs' bs' ≡ written valueTable valuePool little p rs bs (leafValue s p)
   unfolding written valueTable valuePool
   put-is little l place table size rs bs rs' bs' r f t z h b =
       rw (← f, h .answer, ← t, ← z, b, h .records)
@@ -55,11 +56,14 @@ module _ {s : List ℕ} {p : Spot} (room : Room s p) {scratch : List ℕ} {o : L
   module _ {little : Bool} {rs rs' : List ℕ} {r : TreeRead} (bs : List ℕ) where
     pub leaf-single : (sort : declared.SingleSort) (flag place kind : ℕ) → o ≡ leafRead.Single sort flag place
         → kind ≡ singleRow (singleOf sort) .kind
-        → Puts little p place (make kind flag [] ∷ []) 0 rs rs' r → wrote r rs' bs ≡ written valueTable valuePool little p rs bs (leafValue s p)
+        → Puts little p place (make kind flag [] ∷ []) 0 rs rs' r
+        → wrote r rs' bs ≡ written valueTable valuePool little p rs bs (leafValue s p)
     leaf-single sort flag place kind g k h = put-is little (single (singleOf sort) (p .next) flag) place _ 0 rs bs rs' bs r (read _ g) (ap (λ x. make x flag [] ∷ []) k) refl h refl
 
     pub leaf-ranges : (sort : declaredRange.RangeSort) (count place : ℕ) → o ≡ leafRead.Ranges sort count place
-        → Puts little p place (rangeRecords (rangeSortOf sort) (itemsFrom (rangeAt scratch) (p .next) 0 count)) 0 rs rs' r → wrote r rs' bs ≡ written valueTable valuePool little p rs bs (leafValue s p)
+        → Puts little p place
+        (rangeRecords (rangeSortOf sort) (itemsFrom (rangeAt scratch) (p .next) 0 count)) 0 rs rs' r
+        → wrote r rs' bs ≡ written valueTable valuePool little p rs bs (leafValue s p)
     leaf-ranges sort count place g h = put-is little (ranges (rangeSortOf sort) (itemsFrom (rangeAt scratch) (p .next) 0 count)) place _ 0 rs bs rs' bs r (read _ g) refl refl h refl
 
     pub leaf-strings : (count place : ℕ) (bs' : List ℕ) → o ≡ leafRead.Strings count place

@@ -71,14 +71,16 @@ encodes-append little (x ∷ xs) ys = rw (encodes-append little xs ys, append-as
 
 -- records behind others
 pub rows-behind : (little : Bool) (xs ys : List Record) (n m : ℕ) (out : List ℕ) → AllCounted xs → m ≡ n + length xs
-    → sets (sets out (recordSize * n) (encodes little xs)) (recordSize * m) (encodes little ys) ≡ sets out (recordSize * n) (encodes little (xs ++ ys))
+    → sets (sets out (recordSize * n) (encodes little xs)) (recordSize * m) (encodes little ys)
+    ≡ sets out (recordSize * n) (encodes little (xs ++ ys))
 rows-behind little xs ys n m out f e =
     let l = length-encodes little xs f in
     sets-behind (encodes little xs) (encodes little ys) out (recordSize * n) (recordSize * m) (omega arith) ∙ ap (λ (x : List ℕ). sets out (recordSize * n) x) (sym (encodes-append little xs ys))
 
 -- a record below others that are written already
 pub row-below : (little : Bool) (r : Record) (xs : List Record) (n : ℕ) (out : List ℕ) → length (r .fields) ≡ fieldCount
-    → sets (sets out (recordSize * (n + 1)) (encodes little xs)) (recordSize * n) (encode little r) ≡ sets out (recordSize * n) (encodes little (r ∷ xs))
+    → sets (sets out (recordSize * (n + 1)) (encodes little xs)) (recordSize * n) (encode little r)
+    ≡ sets out (recordSize * n) (encodes little (r ∷ xs))
 row-below little r xs n out f =
     let l = length-encode little r f in
     sym (sets-sets (encode little r) (encodes little xs) out (recordSize * n) (recordSize * (n + 1)) (omega arith))
@@ -86,7 +88,8 @@ row-below little r xs n out f =
 
 -- ---- what an answer says of the tree that was read
 
-pub record IsTree {A : Type 0} (table : A → ℕ → List Record) (pool : A → List ℕ) (little : Bool) (p : Spot) (rs bs rs' bs' : List ℕ) (q : Spot) (x : Reading A) : Type 0 where
+pub record IsTree {A : Type 0} (table : A → ℕ → List Record) (pool : A → List ℕ) (little : Bool) (p : Spot)
+    (rs bs rs' bs' : List ℕ) (q : Spot) (x : Reading A) : Type 0 where
   pub tree : A
   pub is : x ≡ got tree (q .place)
   pub spot : q ≡ spot (q .place) (p .next + length (table tree (p .pool))) (p .pool + length (pool tree))

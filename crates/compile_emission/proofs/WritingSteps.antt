@@ -77,7 +77,8 @@ module _ {s : List ℕ} {start end at : ℕ} {before : List ℕ} (h : CopyFits s
   length-up-to : length (take (end - 0) (drop 0 s)) ≡ end
   length-up-to = let l = h .lies in rw (up-to, length-take) (omega arith)
 
-  pub part-asks : (start ≤ length (take (end - 0) (drop 0 s))) × (at + (length (take (end - 0) (drop 0 s)) - start) ≤ length before)
+  pub part-asks : (start ≤ length (take (end - 0) (drop 0 s)))
+      × (at + (length (take (end - 0) (drop 0 s)) - start) ≤ length before)
   part-asks = let l = h .lies in let r = h .room in rw length-up-to (omega arith, omega arith)
 
   pub part-put : (after : List ℕ) → after ≡ sets before at (drop start (take (end - 0) (drop 0 s)))
@@ -109,7 +110,8 @@ single-put little p place kind flag before after e k w = record {
 
 -- a record in front of others
 pub front : (little : Bool) (r : Record) (rs : List Record) (n : ℕ) (out : List ℕ) → length (r .fields) ≡ fieldCount
-    → sets (sets out (recordSize * n) (encode little r)) (recordSize * (n + 1)) (encodes little rs) ≡ sets out (recordSize * n) (encodes little (r ∷ rs))
+    → sets (sets out (recordSize * n) (encode little r)) (recordSize * (n + 1)) (encodes little rs)
+    ≡ sets out (recordSize * n) (encodes little (r ∷ rs))
 front little r rs n out h =
     sets-behind (encode little r) (encodes little rs) out (recordSize * n) (recordSize * (n + 1)) (let l = length-encode little r h in omega arith)
 
@@ -139,29 +141,40 @@ ranges-length sort (x ∷ xs) = ap suc (ranges-length sort xs)
 -- the record of an integer or a date
 pub range-row : (sort : RangeSort) (low high next a b k : ℕ) (x : Entry) → k ≡ rangeRow sort .kind → x ≡ plainEntry k 0
     → a ≡ rangeRow sort .end low → b ≡ rangeRow sort .end high
-    → recordOf (record { kind = x .kind; flag = x .flag; a = a; b = b; c = x .c; d = x .d; e = next }) ≡ make (rangeRow sort .kind) 0 (rangeRow sort .end low ∷ rangeRow sort .end high ∷ 0 ∷ 0 ∷ next ∷ [])
+    → recordOf (record { kind = x .kind; flag = x .flag; a = a; b = b; c = x .c; d = x .d; e = next })
+    ≡ make (rangeRow sort .kind) 0 (rangeRow sort .end low ∷ rangeRow sort .end high ∷ 0 ∷ 0 ∷ next ∷ [])
 range-row sort low high next a b k x e g p q = λ i. record { kind = (ap (λ (y : Entry). y .kind) g ∙ e) i; flag = g i .flag; fields = p i ∷ q i ∷ g i .c ∷ g i .d ∷ next ∷ [] }
 
 -- the record of a string
 pub string-row : (place size next : ℕ) (x : Entry) → x ≡ plainEntry textKind 0
-    → recordOf (record { kind = x .kind; flag = x .flag; a = place; b = size; c = x .c; d = x .d; e = next }) ≡ make textKind 0 (place ∷ size ∷ 0 ∷ 0 ∷ next ∷ [])
+    → recordOf (record { kind = x .kind; flag = x .flag; a = place; b = size; c = x .c; d = x .d; e = next })
+    ≡ make textKind 0 (place ∷ size ∷ 0 ∷ 0 ∷ next ∷ [])
 string-row place size next x g = λ i. record { kind = g i .kind; flag = g i .flag; fields = place ∷ size ∷ g i .c ∷ g i .d ∷ next ∷ [] }
 
 pub range-put : (scratch rs after : List ℕ) (little : Bool) (sort : RangeSort) (i n end next : ℕ) (e : Entry)
     → next ≡ linkBelow (n + 1) end
-    → recordOf e ≡ make (rangeRow sort .kind) 0 (rangeRow sort .end (firstOf scratch i) ∷ rangeRow sort .end (secondOf scratch i) ∷ 0 ∷ 0 ∷ next ∷ [])
-    → after ≡ sets rs (recordSize * n) (encode little (recordOf e)) → after ≡ sets rs (recordSize * n) (encode little (make (rangeRow sort .kind) 0 (rangeRow sort .end (firstOf scratch i) ∷ rangeRow sort .end (secondOf scratch i) ∷ 0 ∷ 0 ∷ linkBelow (n + 1) end ∷ [])))
+    → recordOf e
+    ≡ make (rangeRow sort .kind) 0
+    (rangeRow sort .end (firstOf scratch i) ∷ rangeRow sort .end (secondOf scratch i) ∷ 0 ∷ 0 ∷ next ∷ [])
+    → after ≡ sets rs (recordSize * n) (encode little (recordOf e))
+    → after ≡ sets rs (recordSize * n)
+    (encode little
+    (make (rangeRow sort .kind) 0
+    (rangeRow sort .end (firstOf scratch i) ∷ rangeRow sort .end (secondOf scratch i) ∷ 0 ∷ 0 ∷ linkBelow (n + 1) end
+    ∷ [])))
 range-put scratch rs after little sort i n end next e p q w = w ∙ ap (λ (x : Record). sets rs (recordSize * n) (encode little x)) (q ∙ ap (λ (x : ℕ). make (rangeRow sort .kind) 0 (rangeRow sort .end (firstOf scratch i) ∷ rangeRow sort .end (secondOf scratch i) ∷ 0 ∷ 0 ∷ x ∷ [])) p)
 
 -- the items before item i are written: with those that are left the records are what they are to be
 abbrev rangesLeft : Bool → RangeSort → List ℕ → ℕ → ℕ → ℕ → List ℕ → List ℕ
 rangesLeft little sort scratch m i k rs = sets rs (recordSize * m) (encodes little (rangeRecords sort (itemsFrom (rangeAt scratch) m i k)))
 
-pub record InRanges (little : Bool) (p : Spot) (sort : RangeSort) (scratch : List ℕ) (count end : ℕ) (before : List ℕ) (i : ℕ) (rs : List ℕ) : Type 0 where
+pub record InRanges (little : Bool) (p : Spot) (sort : RangeSort) (scratch : List ℕ) (count end : ℕ) (before : List ℕ)
+    (i : ℕ) (rs : List ℕ) : Type 0 where
   pub room : ListWritingRoom p count
   pub ends : end ≡ p .next + count
   pub most : i ≤ count
-  pub is : rangesLeft little sort scratch (p .next + i) i (count - i) rs ≡ rangesLeft little sort scratch (p .next) 0 count before
+  pub is : rangesLeft little sort scratch (p .next + i) i (count - i) rs
+      ≡ rangesLeft little sort scratch (p .next) 0 count before
 
 pub ranges-start : (little : Bool) (p : Spot) (sort : RangeSort) (scratch : List ℕ) (count : ℕ) (before : List ℕ)
     → ListWritingRoom p count → InRanges little p sort scratch count (p .next + count) before 0 before
@@ -173,7 +186,11 @@ ranges-start little p sort scratch count before h =
 module _ {little : Bool} {p : Spot} {sort : RangeSort} {scratch : List ℕ} {count end : ℕ} {before : List ℕ} {i : ℕ}
     {rs : List ℕ} (inv : InRanges little p sort scratch count end before i rs) where
   pub ranges-go-on : (x : List ℕ) (item : ℕ) → i < count
-      → x ≡ sets rs (recordSize * (p .next + i)) (encode little (make (rangeRow sort .kind) 0 (rangeRow sort .end (firstOf scratch item) ∷ rangeRow sort .end (secondOf scratch item) ∷ 0 ∷ 0 ∷ linkBelow (p .next + i + 1) end ∷ [])))
+      → x ≡ sets rs (recordSize * (p .next + i))
+      (encode little
+      (make (rangeRow sort .kind) 0
+      (rangeRow sort .end (firstOf scratch item) ∷ rangeRow sort .end (secondOf scratch item) ∷ 0 ∷ 0
+      ∷ linkBelow (p .next + i + 1) end ∷ [])))
       → item ≡ i
       → InRanges little p sort scratch count end before (i + 1) x
   unfolding itemsFrom
@@ -189,7 +206,8 @@ module _ {little : Bool} {p : Spot} {sort : RangeSort} {scratch : List ℕ} {cou
       record { room = inv .room; ends = inv .ends; most = omega arith; is = rw (e, b) (front little row (rangeRecords sort (itemsFrom (rangeAt scratch) (p .next + i + 1) (i + 1) k)) (p .next + i) rs refl ∙ w) }
 
   pub ranges-end : (place : ℕ) → count ≤ i
-      → Puts little p place (rangeRecords sort (itemsFrom (rangeAt scratch) (p .next) 0 count)) 0 before rs (Read (spot place end (p .pool)))
+      → Puts little p place (rangeRecords sort (itemsFrom (rangeAt scratch) (p .next) 0 count)) 0 before rs
+      (Read (spot place end (p .pool)))
   unfolding itemsFrom
   ranges-end place h =
       let a : count - i ≡ 0 = omega arith in
@@ -203,7 +221,9 @@ module _ {little : Bool} {p : Spot} {sort : RangeSort} {scratch : List ℕ} {cou
 pub string-put : (s scratch : List ℕ) (i n end at start stop : ℕ) (little : Bool) (rs bs rs' bs' : List ℕ)
     (place size next r : ℕ) (e : Entry) → TextFits s scratch i n at → start ≡ firstOf scratch i
     → stop ≡ secondOf scratch i
-    → place ≡ pooledPlace start stop at → size ≡ stop - start → next ≡ linkBelow (n + 1) end → recordOf e ≡ make textKind 0 (place ∷ size ∷ 0 ∷ 0 ∷ next ∷ []) → rs' ≡ sets rs (recordSize * n) (encode little (recordOf e)) → PartPut s start stop at bs bs' r
+    → place ≡ pooledPlace start stop at → size ≡ stop - start → next ≡ linkBelow (n + 1) end
+    → recordOf e ≡ make textKind 0 (place ∷ size ∷ 0 ∷ 0 ∷ next ∷ [])
+    → rs' ≡ sets rs (recordSize * n) (encode little (recordOf e)) → PartPut s start stop at bs bs' r
     → TextPut (spanAt s scratch i) little n end at rs bs rs' bs' r
 string-put s scratch i n end at start stop little rs bs rs' bs' place size next r e fits a b pl si ne re w put =
     let f : PartFits s start stop at = rw (a, b) (fits .part) in
@@ -223,13 +243,17 @@ textsLeft s little scratch m i k pool rs = sets rs (recordSize * m) (encodes lit
 abbrev bytesLeft : List ℕ → List ℕ → ℕ → ℕ → ℕ → ℕ → List ℕ → List ℕ
 bytesLeft s scratch m i k pool bs = sets bs pool (textPool (itemsFrom (textAt s scratch) m i k))
 
-pub record InTexts (s : List ℕ) (little : Bool) (p : Spot) (scratch : List ℕ) (count end : ℕ) (rs₀ bs₀ : List ℕ) (i to : ℕ) (rs bs : List ℕ) : Type 0 where
+pub record InTexts (s : List ℕ) (little : Bool) (p : Spot) (scratch : List ℕ) (count end : ℕ) (rs₀ bs₀ : List ℕ)
+    (i to : ℕ) (rs bs : List ℕ) : Type 0 where
   pub room : TextsRoom s p scratch count
   pub ends : end ≡ p .next + count
   pub most : i ≤ count
-  pub sum : to + length (textPool (itemsFrom (textAt s scratch) (p .next + i) i (count - i))) ≡ p .pool + length (textPool (itemsFrom (textAt s scratch) (p .next) 0 count))
-  pub records : textsLeft s little scratch (p .next + i) i (count - i) to rs ≡ textsLeft s little scratch (p .next) 0 count (p .pool) rs₀
-  pub bytes : bytesLeft s scratch (p .next + i) i (count - i) to bs ≡ bytesLeft s scratch (p .next) 0 count (p .pool) bs₀
+  pub sum : to + length (textPool (itemsFrom (textAt s scratch) (p .next + i) i (count - i)))
+      ≡ p .pool + length (textPool (itemsFrom (textAt s scratch) (p .next) 0 count))
+  pub records : textsLeft s little scratch (p .next + i) i (count - i) to rs
+      ≡ textsLeft s little scratch (p .next) 0 count (p .pool) rs₀
+  pub bytes : bytesLeft s scratch (p .next + i) i (count - i) to bs
+      ≡ bytesLeft s scratch (p .next) 0 count (p .pool) bs₀
 
 pub texts-start : (s : List ℕ) (little : Bool) (p : Spot) (scratch : List ℕ) (count : ℕ) (rs bs : List ℕ)
     → TextsRoom s p scratch count → InTexts s little p scratch count (p .next + count) rs bs 0 (p .pool) rs bs
@@ -241,7 +265,9 @@ texts-start s little p scratch count rs bs h =
 module _ {s : List ℕ} {little : Bool} {p : Spot} {scratch : List ℕ} {count end : ℕ} {rs₀ bs₀ : List ℕ} {i to : ℕ}
     {rs bs : List ℕ} (inv : InTexts s little p scratch count end rs₀ bs₀ i to rs bs) where
   sum-step : i < count
-      → to + (length (spanAt s scratch i) + length (textPool (itemsFrom (textAt s scratch) (p .next + i + 1) (i + 1) (count - (i + 1))))) ≡ p .pool + length (textPool (itemsFrom (textAt s scratch) (p .next) 0 count))
+      → to + (length (spanAt s scratch i) + length
+      (textPool (itemsFrom (textAt s scratch) (p .next + i + 1) (i + 1) (count - (i + 1)))))
+      ≡ p .pool + length (textPool (itemsFrom (textAt s scratch) (p .next) 0 count))
   unfolding itemsFrom
   sum-step h = let a : count - i ≡ suc (count - (i + 1)) = omega arith in rw (a, length-append) at (inv .sum)
 

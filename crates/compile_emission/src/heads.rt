@@ -54,7 +54,9 @@ fn object_entry(
     requires { ⌜ RowRoom «code_start» «code_end» (pool + («type_end» - «type_start»)) ⌝ }
     ensures { λ r. ⌜ recordOf r
         ≡ make objectKind 0
-        (pooledPlace «type_start» «type_end» pool ∷ («type_end» - «type_start») ∷ pooledPlace «code_start» «code_end» (pool + («type_end» - «type_start»)) ∷ («code_end» - «code_start») ∷ first ∷ []) ⌝ }
+        (pooledPlace «type_start» «type_end» pool ∷ («type_end» - «type_start»)
+        ∷ pooledPlace «code_start» «code_end» (pool + («type_end» - «type_start»)) ∷ («code_end» - «code_start») ∷ first
+        ∷ []) ⌝ }
 {
     let type_size = type_end - type_start;
     let code_size = code_end - code_start;
@@ -164,7 +166,9 @@ fn put_attribute(
     requires { ⌜ (p .next < recordLimit) × (next ≤ recordLimit) ⌝ }
     ensures { λ _. ⌜ now (records .exit)
         ≡ sets (now (records .entry)) (recordSize * p .next)
-        (encode little (attributeRow flag (part (now (s .entry)) «name_start» «name_end») (p .pool) (linkBelow (p .next + 1) end) next)) ⌝ }
+        (encode little
+        (attributeRow flag (part (now (s .entry)) «name_start» «name_end») (p .pool)
+        (linkBelow (p .next + 1) end) next)) ⌝ }
 {
     let value = link_below(p.next + 1, end);
     let entry = attribute_entry(flag, name_start, name_end, p.pool, value, narrow(next));

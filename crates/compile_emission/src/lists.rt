@@ -72,7 +72,11 @@ fn put_range(
     requires { ⌜ (i < itemLimit) × (n < recordLimit) ⌝ }
     ensures { λ _. ⌜ now (records .exit)
         ≡ sets (now (records .entry)) (recordSize * n)
-        (encode little (make (rangeRow (rangeSortOf sort) .kind) 0 (rangeRow (rangeSortOf sort) .end (firstOf (now (scratch .entry)) i) ∷ rangeRow (rangeSortOf sort) .end (secondOf (now (scratch .entry)) i) ∷ 0 ∷ 0 ∷ linkBelow (n + 1) end ∷ []))) ⌝ }
+        (encode little
+        (make (rangeRow (rangeSortOf sort) .kind) 0
+        (rangeRow (rangeSortOf sort) .end (firstOf (now (scratch .entry)) i)
+        ∷ rangeRow (rangeSortOf sort) .end (secondOf (now (scratch .entry)) i) ∷ 0 ∷ 0 ∷ linkBelow (n + 1) end
+        ∷ []))) ⌝ }
 {
     let next = link_below(n + 1, end);
     let entry = range_entry(sort, scratch[2 * i], scratch[2 * i + 1], next);

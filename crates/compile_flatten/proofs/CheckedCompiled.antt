@@ -138,7 +138,8 @@ pair-right dates x g = rw (g .low, g .high, le-leb (x .low) (x .high) (g .order)
 module _ (m : Image) where
   range-good : (sort : RangeSort) (n e : ℕ) (x : Range) → ProperRange sort x
       → fieldRight m n (link (rangeRow sort .kind ∷ [])) e 0 ≡ true
-      → RecordGood m n (make (rangeRow sort .kind) 0 (rangeRow sort .end (x .low) ∷ rangeRow sort .end (x .high) ∷ 0 ∷ 0 ∷ e ∷ []))
+      → RecordGood m n
+      (make (rangeRow sort .kind) 0 (rangeRow sort .end (x .low) ∷ rangeRow sort .end (x .high) ∷ 0 ∷ 0 ∷ e ∷ []))
   unfolding obeys clean fieldRight
   range-good sort n e x g h = record {
     counted = refl;

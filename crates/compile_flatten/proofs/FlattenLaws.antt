@@ -56,7 +56,8 @@ mutual
 
 -- the tree of the record that stands at place n, where the first has number i
 tree-there : (pool : List ℕ) (i n : ℕ) (l rest : List Record) (r : Record) → drop n l ≡ r ∷ rest
-    → getD (trees i (cells pool i l)) n nothing ≡ treeOf (i + n) (cell pool (i + n) r) (drop (suc n) (trees i (cells pool i l)))
+    → getD (trees i (cells pool i l)) n nothing
+    ≡ treeOf (i + n) (cell pool (i + n) r) (drop (suc n) (trees i (cells pool i l)))
 tree-there pool i zero [] rest r e = absurd (let z : _≡_ {A = ℕ} 0 1 = cc in omega arith)
 tree-there pool i (suc n) [] rest r e = absurd (let z : _≡_ {A = ℕ} 0 1 = cc in omega arith)
 tree-there pool i zero (x ∷ xs) rest r e =
@@ -111,14 +112,17 @@ list-items list items same (x ∷ xs) = same (x ∷ xs)
 
 -- the end of a proper pair, written twice, is the end itself
 ends-back : (sort : RangeSort) (x : Range) → ProperRange sort x
-    → (rangeRow sort .end (rangeRow sort .end (x .low)) ≡ x .low) × (rangeRow sort .end (rangeRow sort .end (x .high)) ≡ x .high)
+    → (rangeRow sort .end (rangeRow sort .end (x .low)) ≡ x .low)
+    × (rangeRow sort .end (rangeRow sort .end (x .high)) ≡ x .high)
 ends-back integers x g = let a = g .order in let b = g .most in (complement-back (x .low) (omega arith), complement-back (x .high) b)
 ends-back dates x g = (refl, refl)
 
 -- the tree of an item's record
 range-tree : (sort : RangeSort) (pool : List ℕ) (n a b e : ℕ) (above : List Tree)
     → treeOf n (cell pool n (make (rangeRow sort .kind) 0 (a ∷ b ∷ 0 ∷ 0 ∷ e ∷ []))) above
-    ≡ ofLeaf (ranges sort (record { number = n; low = rangeRow sort .end a; high = rangeRow sort .end b } ∷ itemsIn rangesOf (reach above (e - n))))
+    ≡ ofLeaf (ranges sort
+    (record { number = n; low = rangeRow sort .end a; high = rangeRow sort .end b }
+    ∷ itemsIn rangesOf (reach above (e - n))))
 unfolding shapeOf
 range-tree integers pool n a b e above = refl
 range-tree dates pool n a b e above = refl

@@ -79,7 +79,8 @@ module _ (little : Bool) (m : Image) (f : ImageFits m) where
       (LaysIntegers.integer (placed-record s) (twos-written (x .low) (omega (arith, g .0 .most))) (twos-written (x .high) (g .0 .most)) more)
 
   dates-laid : (l : List Range) (n k p : ℕ) (ws : List ℕ) → NumberedRanges l n
-      → Placed m n (rangeRecords dates l) p ws → n + length l ≡ k → LaysDates (bytesOf little m) little n l (firstRange l) k
+      → Placed m n (rangeRecords dates l) p ws → n + length l ≡ k
+      → LaysDates (bytesOf little m) little n l (firstRange l) k
   dates-laid [] n k p ws i s e = let z : n ≡ k = omega arith in subst (LaysDates (bytesOf little m) little n [] 0) z LaysDates.noMore
   dates-laid (x ∷ xs) n k p ws i s e =
       let more = dates-laid xs (n + 1) k p ws (i .1) (past-record s) (omega arith) in
@@ -101,7 +102,8 @@ module _ (little : Bool) (m : Image) (f : ImageFits m) where
       (LaysStrings.string (placed-record s) (placed-name w (textPool xs) s) more)
 
   -- leaves by the rules
-  single-laid : (sort : SingleSort) (n p flag : ℕ) → Holds (bytesOf little m) n little (make (singleRow sort .kind) flag [])
+  single-laid : (sort : SingleSort) (n p flag : ℕ)
+      → Holds (bytesOf little m) n little (make (singleRow sort .kind) flag [])
       → LaysLeaf (bytesOf little m) little (count m) n p (single sort n flag) (n + 1) p
   single-laid booleans n p flag h = LaysLeaf.boolean h
   single-laid datePattern n p flag h = LaysLeaf.datePattern h
@@ -166,7 +168,8 @@ module _ (little : Bool) (m : Image) (f : ImageFits m) where
         subst (λ b. LaysAttributes (bytesOf little m) little (count m) n p (attribute (record { number = b; existence = a .existence; name = w }) v more) b k q) (sym (i .0))
         (LaysAttributes.attribute (placed-record s) (placed-name w (valuePool v ++ attributePool more) s) value rest)
 
-    value-laid : (v : Value) (n k p q : ℕ) → NumberedValue v n → ProperValue v → Placed m n (valueTable v p) p (valuePool v)
+    value-laid : (v : Value) (n k p q : ℕ) → NumberedValue v n → ProperValue v
+        → Placed m n (valueTable v p) p (valuePool v)
         → n + valueRecords v ≡ k → p + length (valuePool v) ≡ q
         → LaysValue (bytesOf little m) little (count m) n p v (valueLink v) k q
     value-laid any n k p q i g s e z =

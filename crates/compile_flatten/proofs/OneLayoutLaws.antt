@@ -34,7 +34,8 @@ name-stands LaysName.empty = refl
 name-stands (LaysName.filled h) = h
 
 -- what stands behind what stands at a place
-stands-append : (bs : List ℕ) (p : ℕ) (v w : List ℕ) → StandsAt bs p v → StandsAt bs (p + length v) w → StandsAt bs p (v ++ w)
+stands-append : (bs : List ℕ) (p : ℕ) (v w : List ℕ) → StandsAt bs p v → StandsAt bs (p + length v) w
+    → StandsAt bs p (v ++ w)
 stands-append bs p v w h k = rw (length-append, take-add (length v) (length w) (drop p bs), drop-drop (length v) p bs, h, k)
 
 module _ (bs : List ℕ) (little : Bool) (size : ℕ) where
@@ -59,11 +60,13 @@ module _ (bs : List ℕ) (little : Bool) (size : ℕ) where
   stored-none : (n p : ℕ) → Stored n p [] [] n p
   stored-none n p = record { records = tt; pool = refl; behind = omega arith; pooled = omega arith }
 
-  stored-record : {n p k q : ℕ} {r : Record} {rs : List Record} {ws : List ℕ} → Holds bs n little r → Stored (n + 1) p rs ws k q
+  stored-record : {n p k q : ℕ} {r : Record} {rs : List Record} {ws : List ℕ} → Holds bs n little r
+      → Stored (n + 1) p rs ws k q
       → Stored n p (r ∷ rs) ws k q
   stored-record h s = let e = s .behind in record { records = (h, s .records); pool = s .pool; behind = omega arith; pooled = s .pooled }
 
-  stored-name : {n p k q a : ℕ} {rs : List Record} {w ws : List ℕ} → LaysName bs size p w a → Stored n (p + length w) rs ws k q
+  stored-name : {n p k q a : ℕ} {rs : List Record} {w ws : List ℕ} → LaysName bs size p w a
+      → Stored n (p + length w) rs ws k q
       → Stored n p rs (w ++ ws) k q
   stored-name {p = p} {w = w} {ws} h s =
       let e = s .pooled in
@@ -165,7 +168,8 @@ module _ (bs : List ℕ) (little : Bool) (size : ℕ) where
       (ap₂ _++_ first (held-encodes (n + 1) rs (h .1) (omega arith) f))
 
 -- what is by the rules the table of a tree is the table that compiling gives
-pub compiled-only : (little : Bool) (o : Object) (bs : List ℕ) → IsCompiled little o bs → bs ≡ bytesOf little (imageOfTree o)
+pub compiled-only : (little : Bool) (o : Object) (bs : List ℕ) → IsCompiled little o bs
+    → bs ≡ bytesOf little (imageOfTree o)
 unfolding imageOfTree bytesOf
 compiled-only little o bs c =
     let m = imageOfTree o in

@@ -77,7 +77,8 @@ mutual
         → LaysName bs count p name a
         → LaysValue bs little count (n + 1) (p + length name) v c m q
         → LaysAttributes bs little count m q more d k r
-        → LaysAttributes bs little count n p (Constraints.attribute (record { number = n; existence = flag; name = name }) v more) n k r
+        → LaysAttributes bs little count n p
+        (Constraints.attribute (record { number = n; existence = flag; name = name }) v more) n k r
 
   -- a value, and the link to it
   pub data LaysValue (bs : List ℕ) (little : Bool) (count : ℕ) : (n p : ℕ) → Value → (link behind pool : ℕ)

@@ -50,7 +50,9 @@ use Rattle.dadl.proofs.EarlierNames.{Seen, seen-none, seen-more}
 
 -- a member's row put below the rows inside it, and then the rows behind it
 entry-tape : (tape : List ℕ) (n : ℕ) (w : Span) (c : PlacedContent) (more : Entries) →
-    sets (sets (sets tape (rowSize * (n + 1)) (contentTape c (n + 1))) (rowSize * n) (tapeRowOf w c (nextRow (n + 1 + contentRows c) more))) (rowSize * (n + 1 + contentRows c)) (entriesTape more (n + 1 + contentRows c))
+    sets (sets (sets tape (rowSize * (n + 1)) (contentTape c (n + 1))) (rowSize * n)
+    (tapeRowOf w c (nextRow (n + 1 + contentRows c) more))) (rowSize * (n + 1 + contentRows c))
+    (entriesTape more (n + 1 + contentRows c))
     ≡ sets tape (rowSize * n) (entriesTape (entry w c more) n)
 unfolding entriesTape
 entry-tape tape n w c more =
@@ -90,7 +92,9 @@ linked s down (suc fuel) n seen from =
 -- a member whose row and the rows inside it are written: what is left is the rest
 step : (tape : List ℕ) (n : ℕ) (w : Span) (c : PlacedContent) (k : Bool) (rest : Parse Entries)
     → Yields (Linked k (n + 1 + contentRows c)) rest →
-    entriesWritten (n + 1 + contentRows c) (sets (sets tape (rowSize * (n + 1)) (contentTape c (n + 1))) (rowSize * n) (tapeRowOf w c (cond k (n + 1 + contentRows c) 0))) (firstIn rest)
+    entriesWritten (n + 1 + contentRows c)
+    (sets (sets tape (rowSize * (n + 1)) (contentTape c (n + 1))) (rowSize * n)
+    (tapeRowOf w c (cond k (n + 1 + contentRows c) 0))) (firstIn rest)
     ≡ entriesWritten n tape (firstIn (andThen rest (λ ms r. parsed (entry w c ms) r)))
 unfolding entryRows Yields
 step tape n w c k (stopped x) h = refl
@@ -115,26 +119,30 @@ finish-fits s n row rows from tape sort next h e =
 
 pub finish-done : (s : List ℕ) (n : ℕ) (row : Row) (rows from : ℕ) (tape after : List ℕ) (t : Token) (next : ℕ)
     → TokenIs s from (dataTokenAt s from) t → next ≡ linkOf (t .sort) rows
-    → after ≡ sets tape (rowSize * n) (rowNumbers row next) → memberWrote (Member rows t) after ≡ finishedRows s n row rows from tape
+    → after ≡ sets tape (rowSize * n) (rowNumbers row next)
+    → memberWrote (Member rows t) after ≡ finishedRows s n row rows from tape
 finish-done s n row rows from tape after t next tok e f = rw (f, e, tok .is)
 
 -- ---- a member
 
 -- a leaf's row and a block's are those of the tree
 leaf-numbers : (t : Token) (holds place start end next : ℕ) → 0 < holds → holds ≤ 2
-    → rowNumbers (leafRow t holds place start end) next ≡ tapeRowOf (spanOf t) (leafOf holds place (span start end)) next
+    → rowNumbers (leafRow t holds place start end) next
+    ≡ tapeRowOf (spanOf t) (leafOf holds place (span start end)) next
 leaf-numbers t zero place start end next a b = absurd (omega arith)
 leaf-numbers t (suc zero) place start end next a b = refl
 leaf-numbers t (suc (suc zero)) place start end next a b = refl
 leaf-numbers t (suc (suc (suc k))) place start end next a b = absurd (omega arith)
 
 leaf-rows : (holds place start end : ℕ) (n : ℕ)
-    → (contentRows (leafOf holds place (span start end)) ≡ 0) × (contentTape (leafOf holds place (span start end)) n ≡ [])
+    → (contentRows (leafOf holds place (span start end)) ≡ 0)
+    × (contentTape (leafOf holds place (span start end)) n ≡ [])
 unfolding contentRows contentTape
 leaf-rows holds place start end n = by (eqb holds 1)
   where
     by : (b : Bool)
-        → (contentRows (cond b (string place (span start end)) (word place (span start end))) ≡ 0) × (contentTape (cond b (string place (span start end)) (word place (span start end))) n ≡ [])
+        → (contentRows (cond b (string place (span start end)) (word place (span start end))) ≡ 0)
+        × (contentTape (cond b (string place (span start end)) (word place (span start end))) n ≡ [])
     by true = (refl, refl)
     by false = (refl, refl)
 
@@ -146,7 +154,8 @@ type-places start (suc end) h = rw eqb·suc-zero (refl, refl)
 
 -- a block is its members, with its place and its type
 pub block-entries : (s : List ℕ) (levels place : ℕ) (type : Option Span) (from : ℕ)
-    → firstIn (blockFrom s levels place type from) ≡ Reading.readThen (entriesFrom s levels place from) (λ ms p. got (block place type ms) p)
+    → firstIn (blockFrom s levels place type from)
+    ≡ Reading.readThen (entriesFrom s levels place from) (λ ms p. got (block place type ms) p)
 unfolding blockFrom entriesFrom
 block-entries s zero place type from = refl
 block-entries s (suc levels) place type from = first-then (members s (blockFrom s levels) (length s + 1) [] from) _
@@ -257,7 +266,8 @@ module _ (first : ℕ) {s : List ℕ} {levels : ℕ} {t : Token} {n : ℕ} {befo
 
         block-written : (ms : Entries) → rows ≡ n + 1 + entryRows ms
             → after ≡ sets before (rowSize * (n + 1)) (entriesTape ms (n + 1))
-            → finishedRows s n (blockRow t place start end (rows - (n + 1))) rows behind after ≡ memberWritten s t n before (got (inside (block place (typeSpan start end) ms)) behind)
+            → finishedRows s n (blockRow t place start end (rows - (n + 1))) rows behind after
+            ≡ memberWritten s t n before (got (inside (block place (typeSpan start end) ms)) behind)
         unfolding contentRows blockRows contentTape blockTape
         block-written ms cnt tp =
             let p = content-past _ g in
@@ -307,7 +317,8 @@ module _ (place : ℕ) {s : List ℕ} {levels from n : ℕ} {before : List ℕ} 
 -- ---- the members of a block
 
 -- at the token t of a block's members, which stands from a place on
-pub record InMembers (s : List ℕ) (levels from n : ℕ) (before : List ℕ) (rows : ℕ) (t : Token) (tape : List ℕ) : Type 0 where
+pub record InMembers (s : List ℕ) (levels from n : ℕ) (before : List ℕ) (rows : ℕ) (t : Token)
+    (tape : List ℕ) : Type 0 where
   pub fuel : ℕ
   pub place : ℕ
   pub seen : List (List ℕ)
@@ -318,7 +329,8 @@ pub record InMembers (s : List ℕ) (levels from n : ℕ) (before : List ℕ) (r
   pub same : length tape ≡ length before
   pub few : 4 * rows + levels + 1 ≤ place + levelLimit
   pub names : t .sort ≡ name → Seen s tape n rows seen
-  pub is : entriesWritten rows tape (firstIn (members s (blockFrom s levels) fuel seen place)) ≡ entriesWritten n before (firstIn (members s (blockFrom s levels) (length s + 1) [] from))
+  pub is : entriesWritten rows tape (firstIn (members s (blockFrom s levels) fuel seen place))
+      ≡ entriesWritten n before (firstIn (members s (blockFrom s levels) (length s + 1) [] from))
 
 pub members-start : (s : List ℕ) (levels from n : ℕ) (tape : List ℕ) (t : Token) → RowsRoom s (levels + 1) from n tape
     → TokenIs s from (dataTokenAt s from) t → InMembers s levels from n tape n t tape
@@ -370,7 +382,9 @@ module _ (s : List ℕ) (down : Down) (seen : List (List ℕ)) (place : ℕ) (t 
   turn-fault (suc fuel) z k l = rw (← e, ne-eqb (t .sort) greater k, ne-eqb (t .sort) name l)
 
   turn-name : (fuel : ℕ) → 0 < fuel → t .sort ≡ name → members s down fuel seen place
-      ≡ andThen (nameFrom s seen t) (λ w p. andThen (contentFrom s down p) (λ x q. andThen (members s down (fuel - 1) (spelling s t ∷ seen) q) (λ ms r. parsed (entry w x ms) r)))
+      ≡ andThen (nameFrom s seen t)
+      (λ w p. andThen (contentFrom s down p)
+      (λ x q. andThen (members s down (fuel - 1) (spelling s t ∷ seen) q) (λ ms r. parsed (entry w x ms) r)))
   unfolding members
   turn-name zero z k = absurd (omega arith)
   turn-name (suc fuel) z k = rw (← e, k, sub-one)
@@ -411,7 +425,8 @@ after-refused (flawed x v) f go y e = cc
 after-refused (parsed w p) f go y e = then-refused (f p) _ y e
 
 -- what an answer says of the member that was read
-record IsMember (s : List ℕ) (t : Token) (n : ℕ) (before after : List ℕ) (rows : ℕ) (next : Token) (reading : Reading PlacedContent) : Type 0 where
+record IsMember (s : List ℕ) (t : Token) (n : ℕ) (before after : List ℕ) (rows : ℕ) (next : Token)
+    (reading : Reading PlacedContent) : Type 0 where
   pub c : PlacedContent
   pub q : ℕ
   pub is : reading ≡ got c q
@@ -501,7 +516,8 @@ kept-row tape after n rows row e j h = ap (λ (x : List ℕ). getD x j 0) e ∙ 
 module _ {s : List ℕ} {levels from n : ℕ} {before : List ℕ} {rows : ℕ} {t : Token} {tape : List ℕ}
     (inv : InMembers s levels from n before rows t tape) where
   pub members-close : t .sort ≡ greater
-      → RowsIs s from n before (firstIn (members s (blockFrom s levels) (length s + 1) [] from)) tape (Read rows (t .end))
+      → RowsIs s from n before (firstIn (members s (blockFrom s levels) (length s + 1) [] from)) tape
+      (Read rows (t .end))
   unfolding entryRows entriesTape
   members-close k = members-past s levels from n before tape (Read rows (t .end)) (inv .room .inside) (rw (turn-close s (blockFrom s levels) (inv .seen) (inv .place) t (inv .tok .is) (inv .fuel) (omega (arith, inv .enough, inv .within)) k, add-zero) at (inv .is))
 
@@ -528,12 +544,17 @@ module _ {s : List ℕ} {levels from n : ℕ} {before : List ℕ} {rows : ℕ} {
     pub member-earlier : Earlier s tape n rows
     member-earlier = inv .names k .rows
 
-    seen-same : memberReading s (earlierNames s tape n rows) t (blockFrom s levels) ≡ memberReading s (inv .seen) t (blockFrom s levels)
+    seen-same : memberReading s (earlierNames s tape n rows) t (blockFrom s levels)
+        ≡ memberReading s (inv .seen) t (blockFrom s levels)
     unfolding memberReading
     seen-same = ap (λ r. firstIn (andThen r (λ w p. contentFrom s (blockFrom s levels) p))) (name-same s (earlierNames s tape n rows) (inv .seen) t (inv .names k .same))
 
     turn : firstIn (members s (blockFrom s levels) (inv .fuel) (inv .seen) (inv .place))
-        ≡ firstIn (andThen (nameFrom s (inv .seen) t) (λ w p. andThen (contentFrom s (blockFrom s levels) p) (λ x q. andThen (members s (blockFrom s levels) (inv .fuel - 1) (spelling s t ∷ inv .seen) q) (λ ms r. parsed (entry w x ms) r))))
+        ≡ firstIn
+        (andThen (nameFrom s (inv .seen) t)
+        (λ w p. andThen (contentFrom s (blockFrom s levels) p)
+        (λ x q. andThen (members s (blockFrom s levels) (inv .fuel - 1) (spelling s t ∷ inv .seen) q)
+        (λ ms r. parsed (entry w x ms) r))))
     turn = ap firstIn (turn-name s (blockFrom s levels) (inv .seen) (inv .place) t (inv .tok .is) (inv .fuel) (omega (arith, inv .enough, inv .within)) k)
 
     module _ {after : List ℕ} {r : MemberRead} (d : MemberIs s levels t n rows tape after r) where
@@ -562,7 +583,8 @@ module _ {s : List ℕ} {levels from n : ℕ} {before : List ℕ} {rows : ℕ} {
         abbrev rest : Parse Entries
         rest = members s (blockFrom s levels) (inv .fuel - 1) (spelling s t ∷ inv .seen) (read .q)
 
-        left : entriesWritten next after (firstIn rest) ≡ entriesWritten n before (firstIn (members s (blockFrom s levels) (length s + 1) [] from))
+        left : entriesWritten next after (firstIn rest)
+            ≡ entriesWritten n before (firstIn (members s (blockFrom s levels) (length s + 1) [] from))
         unfolding memberReading
         left =
             let m = after-name t (nameFrom s (inv .seen) t) (contentFrom s (blockFrom s levels)) (λ w x q. andThen (members s (blockFrom s levels) (inv .fuel - 1) (spelling s t ∷ inv .seen) q) (λ ms r. parsed (entry w x ms) r)) (read .c) (read .q) (name-named s (inv .seen) t) (sym seen-same ∙ read .is) in

@@ -74,8 +74,12 @@ module _ (s : List ℕ) (place from : ℕ) (t : Token) (tok : TokenIs s from (da
 
   -- a leaf that was read up to its `>`
   leaf-done : (holds start end p : ℕ) → 0 < holds → holds ≤ isWord
-      → ((next : ℕ) → ContentRead s place (leafOf holds place (span start end)) next → (place + 2 ≤ next) × (next ≤ length s) × (start ≤ end) × (end ≤ length s))
-      → t .start < t .end → Reading.readThen (firstIn (expectData s greater p)) (λ u q. got (leafOf holds place (span start end)) q) ≡ firstIn (leafFrom s place t) → (r : ContentStart) → LeafEnds s holds place start end p r → ContentIs s place (leafBy s place t) r
+      → ((next : ℕ) → ContentRead s place (leafOf holds place (span start end)) next
+      → (place + 2 ≤ next) × (next ≤ length s) × (start ≤ end) × (end ≤ length s))
+      → t .start < t .end
+      → Reading.readThen (firstIn (expectData s greater p)) (λ u q. got (leafOf holds place (span start end)) q)
+      ≡ firstIn (leafFrom s place t) → (r : ContentStart) → LeafEnds s holds place start end p r
+      → ContentIs s place (leafBy s place t) r
   unfolding leafBy
   leaf-done holds start end p a b f m e (Faulty x) d = record { is = λ down. d .is down ∙ e; past = tt }
   leaf-done holds start end p a b f m e (Leaf k o x y next) d =
@@ -97,7 +101,8 @@ module _ (s : List ℕ) (place from : ℕ) (t : Token) (tok : TokenIs s from (da
     string-small l = simp (length-take, length-drop) (omega arith)
 
     string-short : t .end - 1 ≤ t .start + 1 + 255
-        → Reading.readThen (firstIn (expectData s greater (t .end))) (λ u q. got (string place (span (t .start + 1) (t .end - 1))) q) ≡ firstIn (leafFrom s place t)
+        → Reading.readThen (firstIn (expectData s greater (t .end)))
+        (λ u q. got (string place (span (t .start + 1) (t .end - 1))) q) ≡ firstIn (leafFrom s place t)
     unfolding leafFrom
     string-short l = rw (eq-eqb (t .sort) 11 k, le-ltb 255 (length (inner s t)) (string-small l)) (sym (first-then (expectData s greater (t .end)) _))
 
@@ -112,7 +117,8 @@ module _ (s : List ℕ) (place from : ℕ) (t : Token) (tok : TokenIs s from (da
     word-bad e = record { is = λ down. rw (k, ← is, e); past = tt }
 
     word-short : not g ≡ false
-        → Reading.readThen (firstIn (expectData s greater (t .end))) (λ u q. got (word place (span (t .start) (t .end))) q) ≡ firstIn (leafFrom s place t)
+        → Reading.readThen (firstIn (expectData s greater (t .end)))
+        (λ u q. got (word place (span (t .start) (t .end))) q) ≡ firstIn (leafFrom s place t)
     unfolding leafFrom
     word-short e = rw (k, ← is, e) (sym (first-then (expectData s greater (t .end)) _))
 

@@ -31,7 +31,8 @@ module _ (s : List ℕ) where
   expect-of sort from = taken-of-data (dataTokenAt s from) sort
 
   -- a token of the sort asked for, and what it ends
-  ends-of : {A : Type 0} (sort from : ℕ) (a : A) → FaultsOf OfDataText (andThen (expectData s sort from) (λ u p. parsed a p))
+  ends-of : {A : Type 0} (sort from : ℕ) (a : A)
+      → FaultsOf OfDataText (andThen (expectData s sort from) (λ u p. parsed a p))
   ends-of sort from a = faults-then OfDataText (expectData s sort from) _ (expect-of sort from) (λ u p. ofParsed)
 
   type-of : (from : ℕ) → FaultsOf OfDataText (typeFrom s from)

@@ -90,7 +90,8 @@ module _ (levels : ℕ) (tape : List ℕ) {s : List ℕ} (h : length s ≤ textL
         found = is-rows 0 tape after count behind (entriesFrom s levels place next) (rw q at (b .is))
 
         ended : (ms : Entries) → count ≡ entryRows ms → after ≡ sets tape 0 (entriesTape ms 0) → (x : Reading Token)
-            → dataWrote (endAnswer place start end count x) after ≡ dataWritten tape (Reading.readThen x (λ t z. got (block place (typeSpan start end) ms) z))
+            → dataWrote (endAnswer place start end count x) after
+            ≡ dataWritten tape (Reading.readThen x (λ t z. got (block place (typeSpan start end) ms) z))
         ended ms c v (refused x) = refl
         ended ms c v (got t z) =
             let p = past in

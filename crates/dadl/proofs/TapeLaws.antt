@@ -68,7 +68,8 @@ row-length w (inside (block p t ms)) next = refl
 
 -- a row's numbers 1, 2 and 8 are the name and the next row
 pub row-numbers : (w : Span) (c : PlacedContent) (next : ℕ)
-    → (rowNumber (tapeRowOf w c next) 1 ≡ w .start) × (rowNumber (tapeRowOf w c next) 2 ≡ w .end) × (rowNumber (tapeRowOf w c next) 8 ≡ next)
+    → (rowNumber (tapeRowOf w c next) 1 ≡ w .start) × (rowNumber (tapeRowOf w c next) 2 ≡ w .end)
+    × (rowNumber (tapeRowOf w c next) 8 ≡ next)
 row-numbers w (string p x) next = (refl, refl, refl)
 row-numbers w (word p x) next = (refl, refl, refl)
 row-numbers w (inside (block p t ms)) next = (refl, refl, refl)
@@ -99,7 +100,8 @@ number-at tape n i h = rw (getD-take, getD-drop)
 
 -- the members of a row, above those of the rows behind it
 members-there : (s : List ℕ) (i n count : ℕ) (tape : List ℕ) → n < count
-    → getD (membersOf s i (rowsOf count tape)) n Data.noMore ≡ membersBy s (i + n) (rowAt tape n) (drop (suc n) (membersOf s i (rowsOf count tape)))
+    → getD (membersOf s i (rowsOf count tape)) n Data.noMore
+    ≡ membersBy s (i + n) (rowAt tape n) (drop (suc n) (membersOf s i (rowsOf count tape)))
 members-there s i n zero tape h = absurd (omega arith)
 members-there s i zero (suc count) tape h = let e : i + 0 ≡ i = omega arith in rw e
 members-there s i (suc n) (suc count) tape h =
@@ -205,7 +207,8 @@ module _ (s : List ℕ) (count : ℕ) (tape : List ℕ) where
     -- members that stand from row n on are read back from there
     block-back : (b : Block) (w : Span) (next n : ℕ) → Ended w (inside b) → EachBlock b Ended
         → At tape (n + 1) (blockTape b (n + 1)) → n + 1 + blockRows b ≤ count
-        → contentIn s (tapeRowOf w (inside b) next) (linked s count tape (rowNumber (tapeRowOf w (inside b) next) 7) (n + 1)) ≡ Data.block (spelledBlock b s)
+        → contentIn s (tapeRowOf w (inside b) next)
+        (linked s count tape (rowNumber (tapeRowOf w (inside b) next) 7) (n + 1)) ≡ Data.block (spelledBlock b s)
     block-back (block p t ms) w next n e h a l = λ j. Data.block (datum p (type-back s t e j) (entries-back ms (n + 1) h a l j))
 
     pub entries-back : (ms : Entries) (n : ℕ) → EachEntry ms Ended → At tape n (entriesTape ms n)
@@ -226,7 +229,8 @@ module _ (s : List ℕ) (count : ℕ) (tape : List ℕ) where
 
     content-back : (c : PlacedContent) (w : Span) (next n : ℕ) → Ended w c → EachContent c Ended
         → At tape (n + 1) (contentTape c (n + 1)) → n + 1 + contentRows c ≤ count
-        → contentIn s (tapeRowOf w c next) (linked s count tape (rowNumber (tapeRowOf w c next) 7) (n + 1)) ≡ spelledContent c s
+        → contentIn s (tapeRowOf w c next) (linked s count tape (rowNumber (tapeRowOf w c next) 7) (n + 1))
+        ≡ spelledContent c s
     content-back (string p x) w next n e h a l = refl
     content-back (word p x) w next n e h a l = refl
     content-back (inside b) w next n e h a l = block-back b w next n e h a l

@@ -70,6 +70,7 @@ module _ (levels : ℕ) (s : List ℕ) (p : ℕ) (t : Option Span) (ms : Entries
 
   -- the text's datum is read back from it
   pub text-datum : (rest : List ℕ)
-      → datumOf levels s ≡ got (datum p (Option·map (spelledSpan s) t) (membersAt s (entryRows ms) (entriesTape ms 0 ++ rest) 0)) end
+      → datumOf levels s
+      ≡ got (datum p (Option·map (spelledSpan s) t) (membersAt s (entryRows ms) (entriesTape ms 0 ++ rest) 0)) end
   unfolding spelledBlock
   text-datum rest = rw (text-back rest) (datum-got levels s (block p t ms) end e)

@@ -99,7 +99,8 @@ module _ (s : List ℕ) where
   -- an expected token, and what follows it
   token-order : {A : Type 0} (P : A → ℕ → Type 0) (low sort from : ℕ) (go : Token → ℕ → Parse A) → low ≤ rank from 0
       → from ≤ length s
-      → (eqb (dataTokenAt s from .sort) sort ≡ true → InOrder s low P (go (dataTokenAt s from) (dataTokenAt s from .end)))
+      → (eqb (dataTokenAt s from .sort) sort ≡ true
+      → InOrder s low P (go (dataTokenAt s from) (dataTokenAt s from .end)))
       → InOrder s low P (andThen (expectData s sort from) go)
   unfolding expectData
   token-order P low sort from go l h k =
@@ -165,7 +166,8 @@ module _ (s : List ℕ) where
 
 -- how blocks from a place on are parsed
 module _ (s : List ℕ) (low : ℕ) (down : Down)
-    (below : (place : ℕ) (type : Option Span) (from : ℕ) → low ≤ place → place < from → from ≤ length s → TypeLies (length s) type → InOrder s (rank place 0) (BlockRead s from) (down place type from)) where
+    (below : (place : ℕ) (type : Option Span) (from : ℕ) → low ≤ place → place < from → from ≤ length s
+    → TypeLies (length s) type → InOrder s (rank place 0) (BlockRead s from) (down place type from)) where
   -- a `<` and a block
   less-order : (type : Option Span) (least from : ℕ) → low ≤ from → least ≤ from → from ≤ length s
       → TypeLies (length s) type

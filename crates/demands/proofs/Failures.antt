@@ -60,13 +60,15 @@ item-named (SaysLeaf.datePattern h) = (refl, record { kind = 6; named = h .kind;
 item-named (SaysLeaf.dateInterval (SaysDates.dateInterval h s)) = (refl, record { kind = 7; named = h .kind; item = IsItem.dateInterval })
 item-named (SaysLeaf.timePattern h) = (refl, record { kind = 8; named = h .kind; item = IsItem.timePattern })
 
-reason-item : {bs : List ℕ} {n r : ℕ} {l : Leaf} {c : Content} → LeafFails l c r → (i : Item bs n) → ReasonRow r (i .kind)
+reason-item : {bs : List ℕ} {n r : ℕ} {l : Leaf} {c : Content} → LeafFails l c r → (i : Item bs n)
+    → ReasonRow r (i .kind)
 reason-item FirstFailure.blockForLeaf i = ReasonRow.unsuited (item-kind (i .item))
 reason-item (FirstFailure.unreadable h) i = ReasonRow.unsuited (item-kind (i .item))
 reason-item (FirstFailure.notAdmitted h k) i = ReasonRow.notAdmitted (i .item)
 
 module _ {bs : List ℕ} {count pool root : ℕ} (t : IsTable bs count pool root) where
-  leaf-names : {n r : ℕ} {l : Leaf} {c : Content} → LeafFails l c r → SaysLeaf bs count n l → n < count → Names bs count r (leafNumber l)
+  leaf-names : {n r : ℕ} {l : Leaf} {c : Content} → LeafFails l c r → SaysLeaf bs count n l → n < count
+      → Names bs count r (leafNumber l)
   leaf-names {r = r} f s k =
       let x = item-named s in
       subst (Names bs count r) (sym (x .0)) (record { kind = x .1 .kind; inside = k; named = x .1 .named; row = reason-item f (x .1) })
@@ -86,27 +88,31 @@ module _ {bs : List ℕ} {count pool root : ℕ} (t : IsTable bs count pool root
   mutual
     unfolding shapeOf
 
-    object-names : (o : Object) {d : Datum} {r number q n : ℕ} → FirstFailure o d r number q → SaysObject bs count n o → n < count → Names bs count r number
+    object-names : (o : Object) {d : Datum} {r number q n : ℕ} → FirstFailure o d r number q → SaysObject bs count n o
+        → n < count → Names bs count r number
     object-names (Constraints.object head xs) (FirstFailure.typeDiffers e) (SaysObject.object h a b s) k =
         record { kind = 1; inside = k; named = h .kind; row = ReasonRow.typeDiffers }
     object-names (Constraints.object head xs) (FirstFailure.inside y f) (SaysObject.object h a b s) k =
         attributes-names xs f s (link-below t h (lit< tt) k 4 _ (lit< tt) refl)
 
-    attributes-names : (xs : Attributes) {p : ℕ} {ms : Members} {r number q n : ℕ} → AttributesFail xs p ms r number q → SaysAttributes bs count n xs
+    attributes-names : (xs : Attributes) {p : ℕ} {ms : Members} {r number q n : ℕ} → AttributesFail xs p ms r number q
+        → SaysAttributes bs count n xs
         → n < count → Names bs count r number
     attributes-names (Constraints.attribute head v more) (FirstFailure.now f) (SaysAttributes.attribute h a s rest) k =
         attribute-names (λ c r number q g. value-names v g s (link-below t h (lit< tt) k 2 _ (lit< tt) refl)) f (h .kind) k
     attributes-names (Constraints.attribute head v more) (FirstFailure.later y f) (SaysAttributes.attribute h a s rest) k =
         attributes-names more f rest (link-below t h (lit< tt) k 3 _ (lit< tt) refl)
 
-    value-names : (v : Value) {c : Content} {r number q n : ℕ} → ValueFails v c r number q → SaysValue bs count n v → n < count → Names bs count r number
+    value-names : (v : Value) {c : Content} {r number q n : ℕ} → ValueFails v c r number q → SaysValue bs count n v
+        → n < count → Names bs count r number
     value-names (Constraints.nested o) FirstFailure.stringForBlock (SaysValue.anObject s) k = object-unsuited s k
     value-names (Constraints.nested o) FirstFailure.wordForBlock (SaysValue.anObject s) k = object-unsuited s k
     value-names (Constraints.nested o) (FirstFailure.blockFails f) (SaysValue.anObject s) k = object-names o f s k
     value-names (Constraints.leaf l) (FirstFailure.leafFails f) (SaysValue.aLeaf s) k = leaf-names f s k
 
 pub failure-told : (table : List ℕ) (root : ℕ) (form : List ℕ) (reason number place : ℕ)
-    → judgeAnswer table root form ≡ gave (Verdicts.fails reason number place) → FailureTold table form reason number place
+    → judgeAnswer table root form ≡ gave (Verdicts.fails reason number place)
+    → FailureTold table form reason number place
 unfolding judgeAnswer
 failure-told table root form reason number place h = by (tableFault table) refl
   where
@@ -126,7 +132,8 @@ failure-told table root form reason number place h = by (tableFault table) refl
           opening = failure-opening levelLimit form b o reason number place d f;
         }
 
-    under : tableFault table ≡ none → (o : Option Object) → objectAt (imageOf table) root ≡ o → FailureTold table form reason number place
+    under : tableFault table ≡ none → (o : Option Object) → objectAt (imageOf table) root ≡ o
+        → FailureTold table form reason number place
     under e none f = absurd (not-gave (rw (e, f) at h))
     under e (some o) f = told o (says-there table root o e f)
 

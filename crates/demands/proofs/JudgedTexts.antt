@@ -37,8 +37,10 @@ module _ (o : Object) (form : List ℕ) where
 
   -- the text is refused, or its datum judged
   data Judging : Type 0 where
-    unread : (x : Refusal) → blockOf levelLimit form ≡ Reading.refused x → judgeText o form ≡ Outcomes.refused x → Judging
-    read : (b : Block) → DerivesData levelLimit form b → judgeText o form ≡ gave (judge o (spelledBlock b form)) → Judging
+    unread : (x : Refusal) → blockOf levelLimit form ≡ Reading.refused x → judgeText o form ≡ Outcomes.refused x
+        → Judging
+    read : (b : Block) → DerivesData levelLimit form b → judgeText o form ≡ gave (judge o (spelledBlock b form))
+        → Judging
 
   judging : Judging
   judging = by (blockOf levelLimit form) refl

@@ -154,14 +154,16 @@ demand3 text little out size e steps form =
     rw (x .written-is, x .is) (judge-carried (x .tree) (afterSteps steps c) p (list-carries (x .tree) steps c (start-carries text (x .tree) (x .end) (x .is) little)) form)
 
 -- the table of a text is the one that the rules lay out
-pub compiled-table : (text : List ℕ) (tree : Object) (little : Bool) → DerivesConstraint text tree → (bs : List ℕ) → (bs ≡ tableOf little tree) ↔ IsCompiled little tree bs
+pub compiled-table : (text : List ℕ) (tree : Object) (little : Bool) → DerivesConstraint text tree → (bs : List ℕ)
+    → (bs ≡ tableOf little tree) ↔ IsCompiled little tree bs
 compiled-table text tree little d bs =
     let (end, e) = Constrained.read-derives text tree .1 d in
     let k = compiled-is little tree (object-numbered tree 1 (pre-order text tree end e)) (tree-proper text tree end e) (records-fit text tree end e) (pool-fits text tree end e) in
     (λ h. subst (IsCompiled little tree) (sym h) k, λ h. compiled-only little tree bs h)
 
 -- it says the text's tree
-pub compiled-says : (text : List ℕ) (tree : Object) (little : Bool) → DerivesConstraint text tree → Says (tableOf little tree) 1 tree
+pub compiled-says : (text : List ℕ) (tree : Object) (little : Bool) → DerivesConstraint text tree
+    → Says (tableOf little tree) 1 tree
 compiled-says text tree little d =
     let x = Constrained.read-derives text tree .1 d in
     let h = start-carries text tree (x .0) (x .1) little in
@@ -169,7 +171,8 @@ compiled-says text tree little d =
     says-there (tableOf little tree) 1 tree (h .passes) (rw (t, moved-none tree))
 
 -- a verdict that is valid, with its record moved or not
-valid-moved : (s : ℕ) (a : Outcome Refusal Verdict) → (movedAnswer s a ≡ gave Verdicts.valid) ↔ (a ≡ gave Verdicts.valid)
+valid-moved : (s : ℕ) (a : Outcome Refusal Verdict)
+    → (movedAnswer s a ≡ gave Verdicts.valid) ↔ (a ≡ gave Verdicts.valid)
 valid-moved s (Outcomes.refused r) = (λ e. absurd (not-gave e), λ e. absurd (not-gave e))
 valid-moved s (gave Verdicts.valid) = (λ e. refl, λ e. refl)
 valid-moved s (gave (Verdicts.fails r n p)) = (λ e. absurd (fails-valid (same-given e)), λ e. absurd (fails-valid (same-given e)))
@@ -184,25 +187,30 @@ valid-moved s (gave (Verdicts.fails r n p)) = (λ e. absurd (fails-valid (same-g
 -- what two texts mean is valid exactly where the tree admits the datum
 meaning-valid : (text : List ℕ) (tree : Object) (end : ℕ) (form : List ℕ) → constraintOf text ≡ got tree end
     → (meaningOf text form ≡ gave Verdicts.valid)
-    ↔ ((tree : Object) × DerivesConstraint text tree × (b : Block) × DerivesData levelLimit form b × Admits tree (spelledBlock b form))
+    ↔ ((tree : Object) × DerivesConstraint text tree × (b : Block) × DerivesData levelLimit form b
+    × Admits tree (spelledBlock b form))
 unfolding meaningOf
 meaning-valid text tree end form e = (λ h. there (rw e at h), λ x. back (x .0) (x .1) (x .2) (x .3) (x .4))
   where
     there : judgeText tree form ≡ gave Verdicts.valid
-        → (tree : Object) × DerivesConstraint text tree × (b : Block) × DerivesData levelLimit form b × Admits tree (spelledBlock b form)
+        → (tree : Object) × DerivesConstraint text tree × (b : Block) × DerivesData levelLimit form b
+        × Admits tree (spelledBlock b form)
     there h = let (b, d, a) = text-verdict tree form Verdicts.valid (λ d. Admits tree d) (λ d. valid-admits tree d) .0 h in (tree, Constrained.read-derives text tree .0 (end, e), b, d, a)
 
-    back : (o : Object) → DerivesConstraint text o → (b : Block) → DerivesData levelLimit form b → Admits o (spelledBlock b form)
+    back : (o : Object) → DerivesConstraint text o → (b : Block) → DerivesData levelLimit form b
+        → Admits o (spelledBlock b form)
         → afterReading (constraintOf text) (λ o. judgeText o form) ≡ gave Verdicts.valid
     back o c b d a = let x = Constrained.read-derives text o .1 c in rw (x .1) (text-verdict o form Verdicts.valid (λ d. Admits o d) (λ d. valid-admits o d) .1 (b, d, a))
 
 -- a refusal stays, whatever is moved
-refused-moved : (s : ℕ) (a : Outcome Refusal Verdict) (r : Refusal) → movedAnswer s a ≡ Outcomes.refused r → a ≡ Outcomes.refused r
+refused-moved : (s : ℕ) (a : Outcome Refusal Verdict) (r : Refusal) → movedAnswer s a ≡ Outcomes.refused r
+    → a ≡ Outcomes.refused r
 refused-moved s (Outcomes.refused x) r e = e
 refused-moved s (gave v) r e = absurd (not-gave (sym e))
 
 -- what is carried behind the list, and what judging by it answers
-module _ (text : List ℕ) (little : Bool) (out : List ℕ) (size : ℕ) (e : compileAnswer text little out .answer ≡ gave size) (steps : List MergeStep) where
+module _ (text : List ℕ) (little : Bool) (out : List ℕ) (size : ℕ)
+    (e : compileAnswer text little out .answer ≡ gave size) (steps : List MergeStep) where
   x : Compiled text little out size
   x = compile-gives text little out size e
 
@@ -220,17 +228,20 @@ module _ (text : List ℕ) (little : Bool) (out : List ℕ) (size : ℕ) (e : co
       let i = k .inside in
       rw same (omega arith)
 
-  last-answer : (form : List ℕ) → judgeAnswer (last .table) (1 + last .sum) form ≡ movedAnswer (last .sum) (meaningOf text form)
+  last-answer : (form : List ℕ)
+      → judgeAnswer (last .table) (1 + last .sum) form ≡ movedAnswer (last .sum) (meaningOf text form)
   last-answer form = demand3 text little out size e steps form
 
   last-valid : (form : List ℕ) → (judgeAnswer (last .table) (1 + last .sum) form ≡ gave Verdicts.valid)
-      ↔ ((tree : Object) × DerivesConstraint text tree × (b : Block) × DerivesData levelLimit form b × Admits tree (spelledBlock b form))
+      ↔ ((tree : Object) × DerivesConstraint text tree × (b : Block) × DerivesData levelLimit form b
+      × Admits tree (spelledBlock b form))
   last-valid form =
       let v = valid-moved (last .sum) (meaningOf text form) in
       let m = meaning-valid text (x .tree) (x .end) form (x .is) in
       (λ h. m .0 (v .0 (sym (last-answer form) ∙ h)), λ z. last-answer form ∙ v .1 (m .1 z))
 
-  last-fails : (form : List ℕ) (reason number place : ℕ) → (tree : Object) → DerivesConstraint text tree → (b : Block) → DerivesData levelLimit form b
+  last-fails : (form : List ℕ) (reason number place : ℕ) → (tree : Object) → DerivesConstraint text tree → (b : Block)
+      → DerivesData levelLimit form b
       → FirstFailure tree (spelledBlock b form) reason number place
       → judgeAnswer (last .table) (1 + last .sum) form ≡ gave (Verdicts.fails reason (last .sum + number) place)
   unfolding meaningOf
@@ -240,7 +251,8 @@ module _ (text : List ℕ) (little : Bool) (out : List ℕ) (size : ℕ) (e : co
       let m : meaningOf text form ≡ gave (Verdicts.fails reason number place) = rw (y .1) k in
       last-answer form ∙ ap (movedAnswer (last .sum)) m
 
-  last-unread : (form : List ℕ) (r : Refusal) → judgeAnswer (last .table) (1 + last .sum) form ≡ Outcomes.refused r → Least r (DataFaults.faults levelLimit form)
+  last-unread : (form : List ℕ) (r : Refusal) → judgeAnswer (last .table) (1 + last .sum) form ≡ Outcomes.refused r
+      → Least r (DataFaults.faults levelLimit form)
   unfolding meaningOf
   last-unread form r h =
       let k = refused-moved (last .sum) (meaningOf text form) r (sym (last-answer form) ∙ h) in

@@ -127,7 +127,8 @@ module _ (text : List ℕ) (little : Bool) (out : List ℕ) where
       let y = ConstraintScanned.least-refused text x l in
       (y .0, rw (y .1), y .2)
 
-  long-refused : textLimit < length text → compileAnswer text little out .answer ≡ Outcomes.refused (refusal TextTooLong textLimit)
+  long-refused : textLimit < length text
+      → compileAnswer text little out .answer ≡ Outcomes.refused (refusal TextTooLong textLimit)
   unfolding compileAnswer constraintOf constraintText
   long-refused h = rw (lt-ltb textLimit (length text) h)
 
@@ -149,7 +150,8 @@ module _ (table : List ℕ) (root : ℕ) (form : List ℕ) (o : Object) (h : Say
       → (judgeAnswer table root form ≡ gave v) ↔ ((b : Block) × DerivesData levelLimit form b × P (spelledBlock b form))
   verdict-told v P f = let k = text-verdict o form v P f in (λ e. k .0 (sym answer-is ∙ e), λ x. answer-is ∙ k .1 x)
 
-  pub unread-least : (r : Refusal) → judgeAnswer table root form ≡ Outcomes.refused r → Least r (DataFaults.faults levelLimit form)
+  pub unread-least : (r : Refusal) → judgeAnswer table root form ≡ Outcomes.refused r
+      → Least r (DataFaults.faults levelLimit form)
   unread-least r e = text-unread o form r (sym answer-is ∙ e)
 
   long-unread : textLimit < length form → judgeAnswer table root form ≡ Outcomes.refused (refusal TextTooLong textLimit)
@@ -160,11 +162,13 @@ module _ (table : List ℕ) (root : ℕ) (form : List ℕ) (o : Object) (h : Say
   least-unread x l = let (r, e, a) = text-least o form x l in (r, answer-is ∙ e, a)
 
 pub fails-told : (table : List ℕ) (root : ℕ) (form : List ℕ) (o : Object) (reason number place : ℕ) → Says table root o
-    → (judgeAnswer table root form ≡ gave (Verdicts.fails reason number place)) ↔ ((b : Block) × DerivesData levelLimit form b × FirstFailure o (spelledBlock b form) reason number place)
+    → (judgeAnswer table root form ≡ gave (Verdicts.fails reason number place))
+    ↔ ((b : Block) × DerivesData levelLimit form b × FirstFailure o (spelledBlock b form) reason number place)
 fails-told table root form o r n p h = verdict-told table root form o h (Verdicts.fails r n p) (λ d. FirstFailure o d r n p) (λ d. fails-first o d r n p)
 
 -- what judging answers where there is no table, or no object of that number
-no-table : (table : List ℕ) (root : ℕ) (form : List ℕ) (r : Refusal) → NoTable table r → judgeAnswer table root form ≡ Outcomes.refused r
+no-table : (table : List ℕ) (root : ℕ) (form : List ℕ) (r : Refusal) → NoTable table r
+    → judgeAnswer table root form ≡ Outcomes.refused r
 unfolding judgeAnswer
 no-table table root form r h = let e = TableRuleLaws.no-table table r .1 h in rw e
 
@@ -198,7 +202,8 @@ module _ (table : List ℕ) (root : ℕ) (form : List ℕ) where
           never = elim [ ]
 
 -- the bytes of a name, and none with a refusal
-named-bytes : (bs : List ℕ) (n start size : ℕ) → Named bs n start size → sliceBytes bs (nameAnswer bs n) ≡ take size (drop start bs)
+named-bytes : (bs : List ℕ) (n start size : ℕ) → Named bs n start size
+    → sliceBytes bs (nameAnswer bs n) ≡ take size (drop start bs)
 named-bytes bs n start size h = let e = NamedLaws.name-given bs n start size .1 h in rw e
 
 unnamed-bytes : (bs : List ℕ) (n : ℕ) (r : Refusal) → NameRefuses bs n r → sliceBytes bs (nameAnswer bs n) ≡ []

@@ -53,7 +53,8 @@ compile-told : (text : List ℕ) (little : Bool) (out : List ℕ) (r : Refusal)
 unfolding numberOf
 compile-told text little out r h = by (refused-only text little out r h)
   where
-    by : Least r (ConstraintFaults.faults text) ⊎ TooShort text little out r → Told (InText text) r ⊎ Told (AtEnd text) r
+    by : Least r (ConstraintFaults.faults text) ⊎ TooShort text little out r
+        → Told (InText text) r ⊎ Told (AtEnd text) r
     by (inl l) = inl (text-told text r (ConstraintScanned.fault-lies text r (l .one)))
     by (inr x) = inr (subst (Told (AtEnd text)) (sym (x .told)) (record { sort = Numbers.textEnd; row = Numbers.tableTooLong; place = atEnd }))
 
@@ -77,7 +78,8 @@ name-told bs n r (noTable h) = inl (table-told bs r h)
 name-told bs n r (noName t h) = inr (record { sort = Numbers.asked; row = Numbers.noName; place = asAsked })
 
 judge-told : (table : List ℕ) (root : ℕ) (form : List ℕ) (r : Refusal)
-    → judgeAnswer table root form ≡ Outcomes.refused r → Told (InTable table) r ⊎ Told (AsAsked root) r ⊎ DataTold form r
+    → judgeAnswer table root form ≡ Outcomes.refused r
+    → Told (InTable table) r ⊎ Told (AsAsked root) r ⊎ DataTold form r
 unfolding numberOf judgeAnswer
 judge-told table root form r h = by (tableFault table) refl
   where

@@ -115,7 +115,8 @@ pub record Demand2 : Type 0 where
   -- 'Constraint text': "object: TYPE, optional [code], `matches {`, then `*` or one or more attributes, `}`. The text is one object". Accepted exactly where the productions derive a tree whose
   -- table the output has room for; they derive at most one.
   pub accepted : (text : List ℕ) (little : Bool) (out : List ℕ) (size : ℕ)
-      → (compileAnswer text little out .answer ≡ gave size) ↔ ((tree : Object) × DerivesConstraint text tree × (size ≡ length (tableOf little tree)) × (size ≤ length out))
+      → (compileAnswer text little out .answer ≡ gave size)
+      ↔ ((tree : Object) × DerivesConstraint text tree × (size ≡ length (tableOf little tree)) × (size ≤ length out))
   pub one-tree : (text : List ℕ) (a b : Object) → DerivesConstraint text a → DerivesConstraint text b → a ≡ b
   -- 'Table': "Compiling numbers records and fills the pool in text order"; 'Numbers of refusal': "on success only bytes past the table's end stay". What is written is the
   -- table of the tree, laid out by the rules; it says the tree.
@@ -162,7 +163,8 @@ pub record Demand2 : Type 0 where
   pub merged : (q : MergeRequest) (out : List ℕ) (m : MergeReport)
       → (mergeAnswer q out .answer ≡ gave m) ↔ ((z : Sizes) × Merges q (length out) z m)
   pub merge-written : (q : MergeRequest) (out : List ℕ) (z : Sizes) (m : MergeReport) → Merges q (length out) z m
-      → (joined : List ℕ) × IsMerged (q .first) (q .second) (q .little) z joined × (mergeAnswer q out .out ≡ joined ++ drop (length joined) out)
+      → (joined : List ℕ) × IsMerged (q .first) (q .second) (q .little) z joined
+      × (mergeAnswer q out .out ≡ joined ++ drop (length joined) out)
   pub one-joined : (first second : List ℕ) (little : Bool) (z : Sizes) (a b : List ℕ) → BothTables first second z
       → IsMerged first second little z a → IsMerged first second little z b → a ≡ b
   pub merge-refused : (q : MergeRequest) (out : List ℕ) (r : MergeRefusal)
@@ -171,11 +173,13 @@ pub record Demand2 : Type 0 where
   -- of 'Data text' derive a datum that the object admits.
   pub valid : (table : List ℕ) (root : ℕ) (form : List ℕ) (o : Object)
       → Says table root o
-      → (judgeAnswer table root form ≡ gave Verdicts.valid) ↔ ((b : Block) × DerivesData levelLimit form b × Admits o (spelledBlock b form))
+      → (judgeAnswer table root form ≡ gave Verdicts.valid)
+      ↔ ((b : Block) × DerivesData levelLimit form b × Admits o (spelledBlock b form))
   -- "Judging walks type first, then attributes in table order, each finished before the next; the first failure is told".
   pub fails : (table : List ℕ) (root : ℕ) (form : List ℕ) (o : Object) (reason number place : ℕ)
       → Says table root o
-      → (judgeAnswer table root form ≡ gave (Verdicts.fails reason number place)) ↔ ((b : Block) × DerivesData levelLimit form b × FirstFailure o (spelledBlock b form) reason number place)
+      → (judgeAnswer table root form ≡ gave (Verdicts.fails reason number place))
+      ↔ ((b : Block) × DerivesData levelLimit form b × FirstFailure o (spelledBlock b form) reason number place)
   pub one-datum : (form : List ℕ) (a b : Block) → DerivesData levelLimit form a → DerivesData levelLimit form b → a ≡ b
   -- "Judge: table, 14, then the whole data text (1 to 5, 9), then 20 to 24". A refusal of the data text is the least of its faults, and the least fault is told.
   pub readable : (form : List ℕ)
@@ -210,7 +214,8 @@ pub record AfterMerges (text : List ℕ) (little : Bool) (out : List ℕ) (size 
   pub is : end ≡ afterSteps steps (carried (take size (compileAnswer text little out .out)) 0)
   pub root-fits : 1 + end .sum < 2 ^ 32
   pub valid : (form : List ℕ) → (judgeAnswer (end .table) (1 + end .sum) form ≡ gave Verdicts.valid)
-      ↔ ((tree : Object) × DerivesConstraint text tree × (b : Block) × DerivesData levelLimit form b × Admits tree (spelledBlock b form))
+      ↔ ((tree : Object) × DerivesConstraint text tree × (b : Block) × DerivesData levelLimit form b
+      × Admits tree (spelledBlock b form))
   pub fails : (form : List ℕ) (reason number place : ℕ) → (tree : Object) → DerivesConstraint text tree → (b : Block)
       → DerivesData levelLimit form b
       → FirstFailure tree (spelledBlock b form) reason number place

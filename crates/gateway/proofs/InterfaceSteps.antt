@@ -118,7 +118,8 @@ pub merge-numbers : (m : Answered MergeRefusal MergeReport) (a : MergeResult) (b
     → answered (merges.answerOf a) bytes ≡ m → AnswerIs mergeTold m (mergeNumbers a) bytes
 merge-numbers m a bytes e = answer-told mergeTold m (merges.answerOf a) bytes e (mergeNumbers a) (merge-said a)
 
-pub judge-numbers : (a : JudgeResult) (f : Outcome Refusal Verdict) → judges.answerOf a ≡ f → judgeNumbers a ≡ judgeTold f
+pub judge-numbers : (a : JudgeResult) (f : Outcome Refusal Verdict) → judges.answerOf a ≡ f
+    → judgeNumbers a ≡ judgeTold f
 judge-numbers a f e = judge-said a ∙ ap judgeTold e
 
 pub name-numbers : (a : NameResult) (f : Outcome Refusal Slice) → tables.answerOf a ≡ f → nameNumbers a ≡ nameTold f

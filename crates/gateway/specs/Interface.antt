@@ -34,7 +34,8 @@ abbrev pub refusalTold : Refusal → Placed
 refusalTold r = placed (numberOf (r .cause)) (r .place)
 
 -- what a job says and the output are those of its answer
-pub record AnswerIs {E A S : Type 0} (tell : Outcome E A → S) (a : Answered E A) (said : S) (bytes : List ℕ) : Type 0 where
+pub record AnswerIs {E A S : Type 0} (tell : Outcome E A → S) (a : Answered E A) (said : S)
+    (bytes : List ℕ) : Type 0 where
   pub is : said ≡ tell (a .answer)
   pub out : bytes ≡ a .out
 

@@ -70,7 +70,8 @@ pub extern "C" fn dk_merge(
 ) -> u32
     ensures { λ r. ⌜ AnswerIs mergeTold
         (mergeAnswer (request (now (first .entry)) (now (second .entry)) little) (now (out .entry)))
-        (mergeSaid (placed r (now (place .exit))) (now («record_shift» .exit)) (now («pool_shift» .exit)) (now (which .exit)))
+        (mergeSaid (placed r (now (place .exit))) (now («record_shift» .exit)) (now («pool_shift» .exit))
+        (now (which .exit)))
         (now (out .exit)) ⌝ }
 {
     match table_merge::merge(first, second, little, out) {

@@ -148,7 +148,9 @@ module _ (records pool s : List ℕ) (root : RecordNumber) (t : TableGood record
       }
 
       pub text-judged : (v : Verdict) (a : Outcome Refusal Verdicts.Verdict)
-          → verdictIn v ≡ blockUnder (imageFrom records pool) s rows after (root .0) (record { place = place; «type_start» = start; «type_end» = end; first = 0; inside = rows })
+          → verdictIn v
+          ≡ blockUnder (imageFrom records pool) s rows after (root .0)
+          (record { place = place; «type_start» = start; «type_end» = end; first = 0; inside = rows })
           → a ≡ gave (verdictIn v)
           → a ≡ underRoot (root .0) s (objectAt (imageFrom records pool) (root .0))
       unfolding judgeValue
@@ -210,7 +212,8 @@ module _ (bs text : List ℕ) (root : RecordNumber) (t : tableFault bs ≡ none)
     parts-kind h = rw parts-are (sym ek ∙ h)
 
     pub parts-judged : (a : Outcome Refusal Verdicts.Verdict)
-        → a ≡ underRoot (root .0) text (objectAt (imageFrom (take (end - 0) (drop 0 bs)) (take (length bs - end) (drop end bs))) (root .0))
+        → a ≡ underRoot (root .0) text
+        (objectAt (imageFrom (take (end - 0) (drop 0 bs)) (take (length bs - end) (drop end bs))) (root .0))
         → a ≡ underRoot (root .0) text (objectAt (imageOf bs) (root .0))
     parts-judged a h = rw parts-are at h
 

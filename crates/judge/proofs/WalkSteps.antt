@@ -66,7 +66,8 @@ link-kind : (records pool : List ℕ) → TableGood records pool → (n k i j : 
 link-kind records pool t n k i j e l h = by-kind (kindAt (imageFrom records pool) (field (recordIn records n) i)) j [] (l h .kind) (λ y. y) (λ y. absurd (false≢true y))
 
 -- at attribute n of the walk from `first` on, by an object whose type suits
-pub record InAttributes (records pool s tape : List ℕ) (rows levels object : ℕ) (b : Block) (v : Visit) (start memo : List ℕ) (first n : ℕ) : Type 0 where
+pub record InAttributes (records pool s tape : List ℕ) (rows levels object : ℕ) (b : Block) (v : Visit)
+    (start memo : List ℕ) (first n : ℕ) : Type 0 where
   pub under : Under records pool s tape rows levels object b
   pub visit : VisitOf records b v
   pub known : MemoGood records pool s tape rows memo
@@ -123,7 +124,8 @@ module _ (records pool s tape : List ℕ) (rows levels : ℕ) (object : RecordNu
     module _ (r : Bool)
         (er : r ≡ typeSuits (nameOf pool (recordOf e)) (typeOn s (b .«type_start») (b .«type_end»))) where
       block-is :
-          cond r (judgeAttributes (attributesIn (treeAt (imageFrom records pool) (e .e))) (b .place) (membersOn s rows tape b))
+          cond r (judgeAttributes (attributesIn (treeAt (imageFrom records pool) (e .e))) (b .place)
+          (membersOn s rows tape b))
           (fails 21 (object .0) (b .place)) ≡ blockUnder (imageFrom records pool) s rows tape (object .0) b
       unfolding judgeValue judge
       block-is = rw (object-tree records pool (u .walk .checked) (object .0) (u .kind), ← q, er)
@@ -221,7 +223,8 @@ module _ (records pool s tape : List ℕ) (rows levels object : ℕ) (b : Block)
 
     -- one that fails is told
     first-fails : (x : Verdict) (f : Failure) → x ≡ Fails f
-        → verdictIn x ≡ judgeFirst (attributesIn (treeAt (imageFrom records pool) n)) (b .place) (membersOn s rows tape b)
+        → verdictIn x
+        ≡ judgeFirst (attributesIn (treeAt (imageFrom records pool) n)) (b .place) (membersOn s rows tape b)
         → verdictIn (Fails f) ≡ blockUnder (imageFrom records pool) s rows tape object b
     unfolding judgeAttributes
     first-fails v f ev ef =

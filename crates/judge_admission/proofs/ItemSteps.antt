@@ -92,12 +92,16 @@ module _ {records : List ℕ} {kind : ℕ} {has : List ℕ → Bool} {first : �
       items-lies = i .here (omega arith) .lies
 
       -- the first of the items that are left
-      pub items-now : (fuel : ℕ) × (length records ≤ suc n + fuel) × (has (n ∷ recordItems records fuel (field (recordIn records n) 4)) ≡ has (recordItems records (length records) first))
+      pub items-now : (fuel : ℕ) × (length records ≤ suc n + fuel)
+          × (has (n ∷ recordItems records fuel (field (recordIn records n) 4))
+          ≡ has (recordItems records (length records) first))
       items-now = by (i .fuel) (i .enough (omega arith)) (i .is)
         where
           by : (fuel : ℕ) → length records ≤ n + fuel
               → has (recordItems records fuel n) ≡ has (recordItems records (length records) first)
-              → (fuel : ℕ) × (length records ≤ suc n + fuel) × (has (n ∷ recordItems records fuel (field (recordIn records n) 4)) ≡ has (recordItems records (length records) first))
+              → (fuel : ℕ) × (length records ≤ suc n + fuel)
+              × (has (n ∷ recordItems records fuel (field (recordIn records n) 4))
+              ≡ has (recordItems records (length records) first))
           by zero l e = absurd (let k = items-lies in omega arith)
           by (suc fuel) l e = (fuel, omega arith, ap has (sym (items-some records fuel n h)) ∙ e)
 
@@ -274,7 +278,8 @@ module _ (records pool w : List ℕ) (n : ℕ) where
   unfolding stringUnder
   string-other k h = by (shapeOf k) (kind-shape k)
     where
-      by : (s : Shape) → (isKnown s ≡ true → k ≡ kindOf s) → unsuited ≡ findingUnder (leafOfShape records pool n s) true w
+      by : (s : Shape) → (isKnown s ≡ true → k ≡ kindOf s)
+          → unsuited ≡ findingUnder (leafOfShape records pool n s) true w
       by tableHeader e = refl
       by object e = refl
       by attribute e = refl
@@ -286,7 +291,8 @@ module _ (records pool w : List ℕ) (n : ℕ) where
       → unsuited ≡ findingUnder (leafOfShape records pool n (shapeOf k)) false w
   word-none k h3 h4 h5 h6 h7 h8 = by (shapeOf k) (kind-shape k)
     where
-      by : (s : Shape) → (isKnown s ≡ true → k ≡ kindOf s) → unsuited ≡ findingUnder (leafOfShape records pool n s) false w
+      by : (s : Shape) → (isKnown s ≡ true → k ≡ kindOf s)
+          → unsuited ≡ findingUnder (leafOfShape records pool n s) false w
       by tableHeader e = refl
       by object e = refl
       by attribute e = refl
@@ -300,7 +306,8 @@ module _ (records pool w : List ℕ) (n : ℕ) where
 -- what each kind answers, its entry read
 module _ (records pool w : List ℕ) (first : ℕ) (e : Entry) (q : recordOf e ≡ recordIn records first) (s : Bool) where
   -- the leaf is that of the entry's shape
-  shape-read : (x : Shape) (f : Finding) → shapeOf (e .kind) ≡ x → f ≡ findingUnder (leafOfShape records pool first x) s w
+  shape-read : (x : Shape) (f : Finding) → shapeOf (e .kind) ≡ x
+      → f ≡ findingUnder (leafOfShape records pool first x) s w
       → f ≡ findingUnder (recordLeaf records pool first) s w
   shape-read x f h g = g ∙ ap (λ y. findingUnder (leafOfShape records pool first y) s w) (sym h ∙ ap (λ r. shapeOf (r .kind)) q)
 

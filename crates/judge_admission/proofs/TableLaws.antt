@@ -185,8 +185,11 @@ module _ (records pool : List ℕ) (t : TableGood records pool) where
   list-link-below n k e z h = link-there n k e (list-some k z) 4 (k ∷ []) (lit< tt) (list-link k (recordIn records n .fields) z) h .below
 
   -- a list of items, by what each record stands for
-  module _ {A : Type 0} (list : Tree → List A) (make : ℕ → A) (k : ℕ) (z : isListed (shapeOf k) ≡ true) (none : list nothing ≡ [])
-      (one : (n : ℕ) → kindAt (imageFrom records pool) n ≡ k → list (treeAt (imageFrom records pool) n) ≡ make n ∷ list (treeAt (imageFrom records pool) (field (recordIn records n) 4))) where
+  module _ {A : Type 0} (list : Tree → List A) (make : ℕ → A) (k : ℕ) (z : isListed (shapeOf k) ≡ true)
+      (none : list nothing ≡ [])
+      (one : (n : ℕ) → kindAt (imageFrom records pool) n ≡ k
+      → list (treeAt (imageFrom records pool) n)
+      ≡ make n ∷ list (treeAt (imageFrom records pool) (field (recordIn records n) 4))) where
     list-there : (fuel n : ℕ) → (0 < n → kindAt (imageFrom records pool) n ≡ k)
         → (0 < n → count (imageFrom records pool) ≤ n + fuel)
         → list (treeAt (imageFrom records pool) n) ≡ map make (recordItems records fuel n)
@@ -217,13 +220,16 @@ module _ (records pool : List ℕ) (t : TableGood records pool) where
 
     -- a leaf of such a list, by its tree: the first item, and those behind it
     module _ (leaf : List A → Leaf)
-        (whole : (n : ℕ) → leafOfShape records pool n (shapeOf k) ≡ some (leaf (map make (recordItems records (length records) n))))
+        (whole : (n : ℕ)
+        → leafOfShape records pool n (shapeOf k) ≡ some (leaf (map make (recordItems records (length records) n))))
         (n : ℕ) (e : kindAt (imageFrom records pool) n ≡ k) where
-      pub list-leaf : recordLeaf records pool n ≡ some (leaf (make n ∷ list (treeAt (imageFrom records pool) (field (recordIn records n) 4))))
+      pub list-leaf : recordLeaf records pool n
+          ≡ some (leaf (make n ∷ list (treeAt (imageFrom records pool) (field (recordIn records n) 4))))
       list-leaf = ap (λ j. leafOfShape records pool n (shapeOf j)) (kind-there n k e (list-some k z)) ∙ whole n ∙ ap (λ l. some (leaf l)) (sym (list-first n e) ∙ one n e)
 
       pub list-rest : 0 < field (recordIn records n) 4
-          → recordLeaf records pool (field (recordIn records n) 4) ≡ some (leaf (list (treeAt (imageFrom records pool) (field (recordIn records n) 4))))
+          → recordLeaf records pool (field (recordIn records n) 4)
+          ≡ some (leaf (list (treeAt (imageFrom records pool) (field (recordIn records n) 4))))
       list-rest h =
           let x = field (recordIn records n) 4 in
           let u : kindAt (imageFrom records pool) x ≡ k = by-kind (kindAt (imageFrom records pool) x) k [] (link-there n k e (list-some k z) 4 (k ∷ []) (lit< tt) (list-link k (recordIn records n .fields) z) h .kind) (λ y. y) (λ y. absurd (false≢true y)) in
@@ -244,7 +250,9 @@ module _ (records pool : List ℕ) (t : TableGood records pool) where
         record { number = n; type = nameOf pool r; code = take (field r 3) (drop (field r 2) pool) }
 
     pub object-tree : kindAt (imageFrom records pool) n ≡ 1
-        → treeAt (imageFrom records pool) n ≡ ofObject (Constraints.object objectHead (attributesIn (treeAt (imageFrom records pool) (field (recordIn records n) 4))))
+        → treeAt (imageFrom records pool) n
+        ≡ ofObject
+        (Constraints.object objectHead (attributesIn (treeAt (imageFrom records pool) (field (recordIn records n) 4))))
     unfolding shapeOf
     object-tree e = tree-shaped n 1 e (omega arith) object refl ∙ rw pool-there
 
@@ -253,17 +261,23 @@ module _ (records pool : List ℕ) (t : TableGood records pool) where
 
     pub attribute-tree : kindAt (imageFrom records pool) n ≡ 2
         → treeAt (imageFrom records pool) n
-        ≡ ofAttributes (Constraints.attribute attributeHead (valueIn (treeAt (imageFrom records pool) (field (recordIn records n) 2))) (attributesIn (treeAt (imageFrom records pool) (field (recordIn records n) 3))))
+        ≡ ofAttributes
+        (Constraints.attribute attributeHead (valueIn (treeAt (imageFrom records pool) (field (recordIn records n) 2)))
+        (attributesIn (treeAt (imageFrom records pool) (field (recordIn records n) 3))))
     unfolding shapeOf
     attribute-tree e = tree-shaped n 2 e (omega arith) attribute refl ∙ rw pool-there
 
   -- those of lists
   ranges-tree : (sort : RangeSort) (n : ℕ) → kindAt (imageFrom records pool) n ≡ rangeRow sort .kind
-      → treeAt (imageFrom records pool) n ≡ ofLeaf (ranges sort (rangeIn sort records n ∷ itemsIn rangesOf (treeAt (imageFrom records pool) (field (recordIn records n) 4))))
+      → treeAt (imageFrom records pool) n
+      ≡ ofLeaf (ranges sort
+      (rangeIn sort records n ∷ itemsIn rangesOf (treeAt (imageFrom records pool) (field (recordIn records n) 4))))
   ranges-tree sort n e = tree-shaped n (rangeRow sort .kind) e (list-some _ (range-listed sort)) (range sort) (shape-kind (range sort))
 
   texts-tree : (n : ℕ) → kindAt (imageFrom records pool) n ≡ textKind
-      → treeAt (imageFrom records pool) n ≡ ofLeaf (texts (textIn records pool n ∷ itemsIn textsOf (treeAt (imageFrom records pool) (field (recordIn records n) 4))))
+      → treeAt (imageFrom records pool) n
+      ≡ ofLeaf (texts
+      (textIn records pool n ∷ itemsIn textsOf (treeAt (imageFrom records pool) (field (recordIn records n) 4))))
   texts-tree n e = tree-shaped n textKind e (omega arith) text (shape-kind text) ∙ rw pool-there
 
   -- the leaves of lists, by their trees, and the leaves behind their first items

@@ -249,7 +249,8 @@ pub fn admit(
 ) -> Admission
     requires { ⌜ ItemsGood (now records) (now pool) (first .0) ⌝ }
     ensures { λ r. ⌜ findingOf r
-        ≡ findingUnder (recordLeaf (now (records .entry)) (now (pool .entry)) (first .0)) «is_string» (now (value .entry)) ⌝ }
+        ≡ findingUnder (recordLeaf (now (records .entry)) (now (pool .entry)) (first .0)) «is_string»
+        (now (value .entry)) ⌝ }
 {
     let e = entry_at(records, first);
     let kind = e.kind;

@@ -73,7 +73,9 @@ value-known records pool s tape row first r k h = ap (verdictOf first (rowNumber
 module _ (s : List ℕ) (rows : ℕ) (tape : List ℕ) (n start end : ℕ) (g : TapeGood (length s) rows tape)
     (l : LeafRow rows tape n) (es : start ≡ rowNumber (rowAt tape n) 6) (ee : end ≡ rowNumber (rowAt tape n) 7) where
   pub value-told : (records pool : List ℕ) (first holds place : ℕ) (a : Admission) (v : Verdict)
-      → holds ≡ rowNumber (rowAt tape n) 0 → findingOf a ≡ findingUnder (recordLeaf records pool first) (eqb holds 1) (take (end - start) (drop start s)) → place ≡ rowNumber (rowAt tape n) 3 → v ≡ verdictOf first place (findingOf a)
+      → holds ≡ rowNumber (rowAt tape n) 0
+      → findingOf a ≡ findingUnder (recordLeaf records pool first) (eqb holds 1) (take (end - start) (drop start s))
+      → place ≡ rowNumber (rowAt tape n) 3 → v ≡ verdictOf first place (findingOf a)
       → v ≡ leafVerdict records pool s first (rowAt tape n)
   value-told records pool first holds place a v eh ea ep ev =
       let row = rowAt tape n in
@@ -87,7 +89,8 @@ module _ (s : List ℕ) (rows : ℕ) (tape : List ℕ) (n : ℕ) where
 
   -- a leaf under an object
   leaf-under-object : (number·object : ℕ) (inside : Data.Datum → Verdict) → (rowNumber (rowAt tape n) 0 ≡ 0 → ⊥)
-      → judgeContent number·object inside (contentOn s rows tape n) ≡ fails 20 number·object (rowNumber (rowAt tape n) 3)
+      → judgeContent number·object inside (contentOn s rows tape n)
+      ≡ fails 20 number·object (rowNumber (rowAt tape n) 3)
   leaf-under-object m inside h =
       rw (ne-eqb (rowNumber (rowAt tape n) 0) 0 h)
       (by-cond (λ c. judgeContent m inside c ≡ fails 20 m (rowNumber (rowAt tape n) 3)) (eqb (rowNumber (rowAt tape n) 0) isString) (λ _. refl) (λ _. refl))
@@ -102,7 +105,12 @@ module _ (s : List ℕ) (rows : ℕ) (tape : List ℕ) (n : ℕ) where
       rw (ne-eqb (rowNumber row 0) 0 h, ef, ← el) (by (eqb (rowNumber row 0) isString))
     where
       by : (b : Bool)
-          → judgeLeaf l (cond b (string (rowNumber (rowAt tape n) 3) (part s (rowNumber (rowAt tape n) 6) (rowNumber (rowAt tape n) 7))) (word (rowNumber (rowAt tape n) 3) (part s (rowNumber (rowAt tape n) 6) (rowNumber (rowAt tape n) 7)))) ≡ verdictOf (leafNumber l) (rowNumber (rowAt tape n) 3) (findingUnder (some l) b (part s (rowNumber (rowAt tape n) 6) (rowNumber (rowAt tape n) 7)))
+          → judgeLeaf l
+          (cond b (string (rowNumber (rowAt tape n) 3)
+          (part s (rowNumber (rowAt tape n) 6) (rowNumber (rowAt tape n) 7)))
+          (word (rowNumber (rowAt tape n) 3) (part s (rowNumber (rowAt tape n) 6) (rowNumber (rowAt tape n) 7))))
+          ≡ verdictOf (leafNumber l) (rowNumber (rowAt tape n) 3)
+          (findingUnder (some l) b (part s (rowNumber (rowAt tape n) 6) (rowNumber (rowAt tape n) 7)))
       by true = refl
       by false = refl
 
@@ -236,7 +244,8 @@ module _ (records pool s tape : List ℕ) (rows : ℕ) (n : RecordNumber) (e : E
 
     first-is : judgeMember (record { number = n .0; existence = e .flag; name = nameOf pool (recordOf e) }) (b .place)
         (foundOn s rows tape (foundRow r))
-        (λ x. judgeValue (valueIn (treeAt (imageFrom records pool) (e .c))) x) ≡ judgeFirst (attributesIn (treeAt (imageFrom records pool) (n .0)))
+        (λ x. judgeValue (valueIn (treeAt (imageFrom records pool) (e .c))) x)
+        ≡ judgeFirst (attributesIn (treeAt (imageFrom records pool) (n .0)))
         (b .place) (membersOn s rows tape b)
     first-is = rw (attribute-tree records pool (w .checked) (n .0) (a .kind), ← (a .is), f .is, en)
 

@@ -122,7 +122,8 @@ abbrev numbered : ℕ → Range → Range
 numbered n x = record { number = n; low = x .low; high = x .high }
 
 module _ (x : Range) (xs : List Range) (w : List ℕ) where
-  ranges-alone : (sort : RangeSort) (n : ℕ) (t : Bool) → findingUnder (some (ranges sort (numbered n x ∷ []))) t w ≡ admitted
+  ranges-alone : (sort : RangeSort) (n : ℕ) (t : Bool)
+      → findingUnder (some (ranges sort (numbered n x ∷ []))) t w ≡ admitted
       → findingUnder (some (ranges sort (x ∷ xs))) t w ≡ admitted
   unfolding wordUnder stringUnder inSome
   ranges-alone sort n true h = h
@@ -137,13 +138,15 @@ module _ (x : Range) (xs : List Range) (w : List ℕ) where
   ranges-more dates false h = try-grow (dateOf w) _ _ (λ d. and-grow (eqb (d .parts) 3) _ _ (or-more (inRange (d .day) x) (inSome (d .day) xs))) h
 
 module _ (x : Text) (xs : List Text) (w : List ℕ) where
-  texts-alone : (n : ℕ) (t : Bool) → findingUnder (some (texts (record { number = n; text = x .text } ∷ []))) t w ≡ admitted
+  texts-alone : (n : ℕ) (t : Bool)
+      → findingUnder (some (texts (record { number = n; text = x .text } ∷ []))) t w ≡ admitted
       → findingUnder (some (texts (x ∷ xs))) t w ≡ admitted
   unfolding wordUnder stringUnder isSome
   texts-alone n true h = found-of (same w (x .text) || isSome w xs) (or-alone (same w (x .text)) (isSome w xs) (found-true (same w (x .text) || false) h))
   texts-alone n false h = h
 
-  texts-more : (t : Bool) → findingUnder (some (texts xs)) t w ≡ admitted → findingUnder (some (texts (x ∷ xs))) t w ≡ admitted
+  texts-more : (t : Bool) → findingUnder (some (texts xs)) t w ≡ admitted
+      → findingUnder (some (texts (x ∷ xs))) t w ≡ admitted
   unfolding wordUnder stringUnder isSome
   texts-more true h = found-of (same w (x .text) || isSome w xs) (or-more (same w (x .text)) (isSome w xs) (found-true (isSome w xs) h))
   texts-more false h = h
@@ -261,7 +264,8 @@ module _ (records pool memo : List ℕ) (base : ℕ) (s : Bool) (w : List ℕ) (
 
 -- marking all items, from the last record on down
 items-next : (records pool : List ℕ) (base : ℕ) (s : Bool) (w memo : List ℕ) (n : ℕ) → 0 < n
-    → markItems records pool base s w (n - 1) (markItem records pool base s w n memo) ≡ markItems records pool base s w n memo
+    → markItems records pool base s w (n - 1) (markItem records pool base s w n memo)
+    ≡ markItems records pool base s w n memo
 unfolding markItems
 items-next records pool base s w memo zero h = absurd (omega arith)
 items-next records pool base s w memo (suc n) h = let e : suc n - 1 ≡ n = omega arith in rw e
@@ -270,7 +274,8 @@ pub record InListing (records pool start : List ℕ) (base : ℕ) (s : Bool) (w 
   pub marked : ItemsMarked records pool start base s w memo
   pub most : n ≤ recordCount records
   pub same : length memo ≡ length start
-  pub is : markItems records pool base s w (n - 1) memo ≡ markItems records pool base s w (recordCount records - 1) start
+  pub is : markItems records pool base s w (n - 1) memo
+      ≡ markItems records pool base s w (recordCount records - 1) start
 
 pub listing-start : (records pool memo : List ℕ) (base : ℕ) (s : Bool) (w : List ℕ) → Listing records pool memo base s w
     → (n : ℕ) → n ≡ recordCount records → InListing records pool memo base s w memo n
@@ -330,7 +335,8 @@ module _ (records pool s tape memo : List ℕ) (rows row base : ℕ) (k : Walk r
   pub row-near : base ≤ 8_388_608
   row-near = rw eb (rows-near records pool s tape rows row k l)
 
-  pub row-listing : (after : List ℕ) → Marks memo base after → (start end holds : ℕ) → start ≡ rowNumber (rowAt tape row) 6
+  pub row-listing : (after : List ℕ) → Marks memo base after → (start end holds : ℕ)
+      → start ≡ rowNumber (rowAt tape row) 6
       → end ≡ rowNumber (rowAt tape row) 7 → holds ≡ rowNumber (rowAt tape row) 0
       → Listing records pool after base (eqb holds 1) (take (end - start) (drop start s))
   row-listing after m start end holds es ee eh =
@@ -341,9 +347,11 @@ module _ (records pool s tape memo : List ℕ) (rows row base : ℕ) (k : Walk r
         admits = λ n p b t. rw (eh, es, ee) (h .leaves row n (l .leaf) p b (rw (← eb) t));
       }
 
-  pub row-marked : (after : List ℕ) → Marks memo base after → (start end holds : ℕ) → start ≡ rowNumber (rowAt tape row) 6
+  pub row-marked : (after : List ℕ) → Marks memo base after → (start end holds : ℕ)
+      → start ≡ rowNumber (rowAt tape row) 6
       → end ≡ rowNumber (rowAt tape row) 7 → holds ≡ rowNumber (rowAt tape row) 0
-      → (last : List ℕ) → ItemsMarked records pool after base (eqb holds 1) (take (end - start) (drop start s)) last → MemoGood records pool s tape rows last
+      → (last : List ℕ) → ItemsMarked records pool after base (eqb holds 1) (take (end - start) (drop start s)) last
+      → MemoGood records pool s tape rows last
   row-marked after m start end holds es ee eh last i =
       memo-listed records pool s tape rows after last (memo-entered records pool s tape rows memo after g row base eb m) row base eb (l .leaf) (take (end - start) (drop start s)) (eqb holds 1) (rw (es, ee)) (rw eh) i
 
@@ -355,7 +363,9 @@ module _ (records pool s tape memo : List ℕ) (rows row base : ℕ) (k : Walk r
   pub leaf-first : (r : Bool) → r ≡ marked memo base → r ≡ false → (after : List ℕ) → after ≡ markBit memo base
       → (start end holds : ℕ) → start ≡ rowNumber (rowAt tape row) 6 → end ≡ rowNumber (rowAt tape row) 7
       → holds ≡ rowNumber (rowAt tape row) 0
-      → (last : List ℕ) → last ≡ markItems records pool base (eqb holds 1) (take (end - start) (drop start s)) (recordCount records - 1) after → last ≡ enterLeaf records pool s tape row memo
+      → (last : List ℕ)
+      → last ≡ markItems records pool base (eqb holds 1) (take (end - start) (drop start s))
+      (recordCount records - 1) after → last ≡ enterLeaf records pool s tape row memo
   unfolding enterLeaf
   leaf-first r e h after ea start end holds es ee eh last el = rw (← eb, ← e, h, ← ea, ← es, ← ee, ← eh) el
 

@@ -53,13 +53,15 @@ module _ (s tape : List ℕ) (rows first inside : ℕ) (name : List ℕ) (n : �
   either here fuel next = cond here (some n) (cond (eqb next 0) none (rowFrom s tape name fuel next))
 
   now-or-later : (fuel : ℕ) × (rows ≤ suc n + fuel)
-      × (either (same name (part s (rowNumber (rowAt tape n) 1) (rowNumber (rowAt tape n) 2))) fuel (rowNumber (rowAt tape n) 8) ≡ memberRow s tape rows first inside name)
+      × (either (same name (part s (rowNumber (rowAt tape n) 1) (rowNumber (rowAt tape n) 2))) fuel
+      (rowNumber (rowAt tape n) 8) ≡ memberRow s tape rows first inside name)
   unfolding rowFrom
   now-or-later = by (i .fuel) (i .enough) (i .is)
     where
       by : (fuel : ℕ) → rows ≤ n + fuel → rowFrom s tape name fuel n ≡ memberRow s tape rows first inside name
           → (fuel : ℕ) × (rows ≤ suc n + fuel)
-          × (either (same name (part s (rowNumber (rowAt tape n) 1) (rowNumber (rowAt tape n) 2))) fuel (rowNumber (rowAt tape n) 8) ≡ memberRow s tape rows first inside name)
+          × (either (same name (part s (rowNumber (rowAt tape n) 1) (rowNumber (rowAt tape n) 2))) fuel
+          (rowNumber (rowAt tape n) 8) ≡ memberRow s tape rows first inside name)
       by zero l e = absurd (let t = i .there in omega arith)
       by (suc fuel) l e = (fuel, omega arith, e)
 
@@ -78,7 +80,8 @@ module _ (s tape : List ℕ) (rows first inside : ℕ) (name : List ℕ) (n : �
     rows-found h = ap (λ b. either b (now-or-later .0) (rowNumber (rowAt tape n) 8)) (sym h ∙ er ∙ ap (same name) (ew ∙ name-at)) ∙ now-or-later .2
 
     module _ (h : r ≡ false) (next : ℕ) (en : next ≡ rowNumber (rowAt tape n) 8) where
-      later : cond (eqb next 0) none (rowFrom s tape name (now-or-later .0) next) ≡ memberRow s tape rows first inside name
+      later : cond (eqb next 0) none (rowFrom s tape name (now-or-later .0) next)
+          ≡ memberRow s tape rows first inside name
       later = ap₂ (λ b k. either b (now-or-later .0) k) (sym h ∙ er ∙ ap (same name) (ew ∙ name-at)) en ∙ now-or-later .2
 
       pub rows-end : next ≡ 0 → foundRow Nothing ≡ memberRow s tape rows first inside name
@@ -134,7 +137,8 @@ module _ (s : List ℕ) (rows : ℕ) (tape name : List ℕ) (g : TapeGood (lengt
       by (eqb inside 0) refl
     where
       by : (z : Bool) → eqb inside 0 ≡ z
-          → FoundIs s rows tape (cond z Data.noMore (membersAt s rows tape first)) name (cond z none (rowFrom s tape name rows first))
+          → FoundIs s rows tape (cond z Data.noMore (membersAt s rows tape first)) name
+          (cond z none (rowFrom s tape name rows first))
       by true e = record { is = refl; there = tt }
       by false e = row-holds rows first (b .there (let q = eqb-false inside 0 e in omega arith)) (omega arith)
 

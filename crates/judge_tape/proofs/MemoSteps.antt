@@ -201,7 +201,8 @@ along-end records memo v zero n h = refl
 along-end records memo v (suc fuel) n h = rw h
 
 along-next : (records memo : List ℕ) (v : Visit) (fuel n : ℕ) → 0 < fuel → admittedIn memo v n ≡ false
-    → markAlong records v (fuel - 1) (field (recordIn records n) 3) (markBit memo (v .base + n)) ≡ markAlong records v fuel n memo
+    → markAlong records v (fuel - 1) (field (recordIn records n) 3) (markBit memo (v .base + n))
+    ≡ markAlong records v fuel n memo
 unfolding markAlong
 along-next records memo v zero n p h = absurd (omega arith)
 along-next records memo v (suc fuel) n p h = let s : suc fuel - 1 ≡ fuel = omega arith in rw (h, s)

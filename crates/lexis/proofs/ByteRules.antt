@@ -218,7 +218,8 @@ past-end test at (b ∷ w) rest a n =
     rw (and-left (test b) (all test w) a, past-end test (at + 1) w rest (and-right (test b) (all test w) a) n) (omega arith)
 
 -- it does not end before them
-pub past-least : (test : ℕ → Bool) (at : ℕ) (w rest : List ℕ) → all test w ≡ true → at + length w ≤ past test at (w ++ rest)
+pub past-least : (test : ℕ → Bool) (at : ℕ) (w rest : List ℕ) → all test w ≡ true
+    → at + length w ≤ past test at (w ++ rest)
 unfolding past all
 past-least test at [] rest a = let h = past-between test at rest in omega arith
 past-least test at (b ∷ w) rest a =

@@ -106,7 +106,8 @@ one-behind x y (noType n) (aType k) = absurd (n k)
 one-behind x y (noType n) (noType m) = refl
 
 -- a run from its first byte on
-run-here : (s : List ℕ) (at : ℕ) → at < length s → runByte (byteAt s at) ≡ true → RunAt s at (past runByte at (drop at s))
+run-here : (s : List ℕ) (at : ℕ) → at < length s → runByte (byteAt s at) ≡ true
+    → RunAt s at (past runByte at (drop at s))
 run-here s at l e =
     let b = run-between s at (omega arith) runByte in
     record {
@@ -132,7 +133,8 @@ module _ (sorted : List ℕ → ℕ → ℕ) (Class : List ℕ → ℕ → Type 
     run-class {end} r = rw (part-first s at end (r .some) (r .inside)) (class (byteAt s at) (part s (at + 1) end) _ .0 refl)
 
     -- a run is the token of its class
-    run-token : {end sort : ℕ} → RunAt s at end → Class (part s at end) sort → dataTokenOn sorted s at ≡ token sort at end
+    run-token : {end sort : ℕ} → RunAt s at end → Class (part s at end) sort
+        → dataTokenOn sorted s at ≡ token sort at end
     unfolding dataTokenOn all
     run-token {end} {sort} r c =
         let b = byteAt s at in

@@ -46,7 +46,8 @@ past-on f g more at [] = rw drop-nil
 past-on f g more at (b ∷ bs) = by-byte (past-on f g more (at + 1) bs) (f b) refl
   where
     by-byte : past g (past f (at + 1) bs) (drop (past f (at + 1) bs - (at + 1)) bs) ≡ past g (at + 1) bs
-        → (k : Bool) → f b ≡ k → past g (past f at (b ∷ bs)) (drop (past f at (b ∷ bs) - at) (b ∷ bs)) ≡ past g at (b ∷ bs)
+        → (k : Bool) → f b ≡ k
+        → past g (past f at (b ∷ bs)) (drop (past f at (b ∷ bs) - at) (b ∷ bs)) ≡ past g at (b ∷ bs)
     by-byte ih true e =
         let l = past-between f (at + 1) bs .least in
         let n : past f (at + 1) bs - at ≡ suc (past f (at + 1) bs - (at + 1)) = omega arith in
@@ -106,7 +107,9 @@ run-words at (b ∷ bs) = by-byte (run-words (at + 1) bs) (wordByte b) refl (run
   where
     by-byte : eqb (past wordByte (at + 1) bs)
         (past runByte (at + 1) bs) ≡ all wordByte (take (past runByte (at + 1) bs - (at + 1)) bs)
-        → (k : Bool) → wordByte b ≡ k → (r : Bool) → runByte b ≡ r → eqb (past wordByte at (b ∷ bs)) (past runByte at (b ∷ bs)) ≡ all wordByte (take (past runByte at (b ∷ bs) - at) (b ∷ bs))
+        → (k : Bool) → wordByte b ≡ k → (r : Bool) → runByte b ≡ r
+        → eqb (past wordByte at (b ∷ bs)) (past runByte at (b ∷ bs))
+        ≡ all wordByte (take (past runByte at (b ∷ bs) - at) (b ∷ bs))
     by-byte ih true e r f =
         let l = past-between runByte (at + 1) bs .least in
         let n : past runByte (at + 1) bs - at ≡ suc (past runByte (at + 1) bs - (at + 1)) = omega arith in

@@ -18,8 +18,11 @@ pub byte-sorts-apart : (blank ∷ digit ∷ small ∷ capital ∷ mark ∷ other
 byte-sorts-apart = refl
 
 pub token-sorts-apart :
-    (textEnd ∷ unreadable ∷ typeName ∷ name ∷ matches ∷ existence ∷ trueWord ∷ falseWord ∷ code ∷ integer ∷ date ∷ string ∷ openBrace ∷ closeBrace ∷ comma ∷ star ∷ bar ∷ dots ∷ less ∷ greater ∷ atMost ∷ atLeast ∷ plusMinus ∷ equals ∷ openRound ∷ closeRound ∷ wordRun ∷ datePattern ∷ timePattern ∷ [])
-    ≡ (0 ∷ 1 ∷ 2 ∷ 3 ∷ 4 ∷ 5 ∷ 6 ∷ 7 ∷ 8 ∷ 9 ∷ 10 ∷ 11 ∷ 12 ∷ 13 ∷ 14 ∷ 15 ∷ 16 ∷ 17 ∷ 18 ∷ 19 ∷ 20 ∷ 21 ∷ 22 ∷ 23 ∷ 24 ∷ 25 ∷ 26 ∷ 30 ∷ 40 ∷ [])
+    (textEnd ∷ unreadable ∷ typeName ∷ name ∷ matches ∷ existence ∷ trueWord ∷ falseWord ∷ code ∷ integer ∷ date
+    ∷ string ∷ openBrace ∷ closeBrace ∷ comma ∷ star ∷ bar ∷ dots ∷ less ∷ greater ∷ atMost ∷ atLeast ∷ plusMinus
+    ∷ equals ∷ openRound ∷ closeRound ∷ wordRun ∷ datePattern ∷ timePattern ∷ [])
+    ≡ (0 ∷ 1 ∷ 2 ∷ 3 ∷ 4 ∷ 5 ∷ 6 ∷ 7 ∷ 8 ∷ 9 ∷ 10 ∷ 11 ∷ 12 ∷ 13 ∷ 14 ∷ 15 ∷ 16 ∷ 17 ∷ 18 ∷ 19 ∷ 20 ∷ 21 ∷ 22 ∷ 23 ∷ 24
+    ∷ 25 ∷ 26 ∷ 30 ∷ 40 ∷ [])
 token-sorts-apart = refl
 
 abbrev pub agree : Bool → Bool → Bool

@@ -70,7 +70,8 @@ digits-grouped : {w : List ℕ} → Digits w → grouped false w ≡ true
 unfolding grouped
 digits-grouped (Digits.digits {b = b} {w = w} d a) = rw (is-digit b .1 d) (all-grouped w (is-all Digit (is digit) is-digit w .1 a))
 
-grouped-on : (some : Bool) (w v : List ℕ) → grouped some w ≡ true → grouped false v ≡ true → grouped some (w ++ (byte "." ∷ v)) ≡ true
+grouped-on : (some : Bool) (w v : List ℕ) → grouped some w ≡ true → grouped false v ≡ true
+    → grouped some (w ++ (byte "." ∷ v)) ≡ true
 unfolding grouped sortOf
 grouped-on some [] v g k = rw g k
 grouped-on some (b ∷ w) v g k =
@@ -139,7 +140,8 @@ pub record CodeSplit (some : Bool) (at : ℕ) (bs : List ℕ) : Type 0 where
   pub end : codeEnd some at bs ≡ at + length run + 1
   pub pass : grouped some run ≡ true
 
-code-more : (some : Bool) (at b : ℕ) (bs : List ℕ) → (is digit b || eqb b (byte ".") && some) ≡ true → CodeSplit (is digit b) (at + 1) bs
+code-more : (some : Bool) (at b : ℕ) (bs : List ℕ) → (is digit b || eqb b (byte ".") && some) ≡ true
+    → CodeSplit (is digit b) (at + 1) bs
     → CodeSplit some at (b ∷ bs)
 unfolding codeEnd grouped
 code-more some at b bs e m =

@@ -145,4 +145,5 @@ module _ (s : List ℕ) (from b : ℕ) (q : b ≡ byteAt s from) (h : from ≤ l
       let n = starts-here s from (digit-plain _ y) (digit-dash _ y) in
       let o = run-ends runByte s end (p .high) (rw (← u, ← v) (not-true r w)) in
       let g = o .is ∙ run-on (is digit) runByte digit-run s from end p in
-      data-told s from (token 26 from end) h (rw (n, lt-leb (length s) from l, digit-run _ y, eqb-true (sortOf (byteAt s from)) digit y, ← g))
+      data-told s from (token 26 from end) h
+      (rw (n, lt-leb (length s) from l, digit-run _ y, eqb-true (sortOf (byteAt s from)) digit y, ← g))

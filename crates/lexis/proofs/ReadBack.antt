@@ -44,7 +44,8 @@ every test (l ∷ ls) = test l && every test ls
 -- where all spellings of a list break at c, none of them begins bytes of words behind which stands neither a byte of words nor c
 spelled-not : (c : ℕ) (w rest : List ℕ) → all wordByte w ≡ true → wordByte (byteAt rest 0) ≡ false
     → eqb (byteAt rest 0) c ≡ false
-    → (ls : List Literal) (at : ℕ) (t : Token) → every (λ l. breaks wordByte c (l .spelling)) ls ≡ true → spelled ls at (w ++ rest) t ≡ t
+    → (ls : List Literal) (at : ℕ) (t : Token) → every (λ l. breaks wordByte c (l .spelling)) ls ≡ true
+    → spelled ls at (w ++ rest) t ≡ t
 unfolding spelled every
 spelled-not c w rest a e n [] at t k = refl
 spelled-not c w rest a e n (l ∷ ls) at t k =
@@ -58,7 +59,9 @@ module _ (s : List ℕ) (at b : ℕ) (ws rest : List ℕ) (h : drop at s ≡ (b 
   -- they are a word of the list, or else of the sort given, and none of the patterns, which all break at c
   word-read : (c sort : ℕ) (patterns ls : List Literal) → every (λ l. breaks wordByte c (l .spelling)) patterns ≡ true
       → wordByte b ≡ true
-      → eqb (byteAt rest 0) c ≡ false → spelled patterns at (drop at s) (word s ls sort at) ≡ token (wordSort ls (b ∷ ws) sort) at (at + length (b ∷ ws))
+      → eqb (byteAt rest 0) c ≡ false
+      → spelled patterns at (drop at s) (word s ls sort at)
+      ≡ token (wordSort ls (b ∷ ws) sort) at (at + length (b ∷ ws))
   unfolding all
   word-read c sort patterns ls k f n =
       let w = b ∷ ws in
@@ -81,7 +84,8 @@ module _ (s : List ℕ) (at b : ℕ) (ws rest : List ℕ) (h : drop at s ≡ (b 
 -- digits behind which stands neither a digit nor `-` are an integer
 pub integer-read : (s : List ℕ) (at b : ℕ) (ws rest : List ℕ) → drop at s ≡ (b ∷ ws) ++ rest
     → all (is digit) (b ∷ ws) ≡ true
-    → is digit (byteAt rest 0) ≡ false → eqb (byteAt rest 0) (byte "-") ≡ false → tokenOn s at ≡ token integer at (at + length (b ∷ ws))
+    → is digit (byteAt rest 0) ≡ false → eqb (byteAt rest 0) (byte "-") ≡ false
+    → tokenOn s at ≡ token integer at (at + length (b ∷ ws))
 unfolding all breaks sortOf
 integer-read s at b ws rest h a e n =
     on-sort s at b (ws ++ rest) h digit (eqb-true _ _ (and-left (is digit b) (all (is digit) ws) a))

@@ -38,7 +38,8 @@ opened b (c ∷ bs) h =
     (bs, λ i. p i ∷ q i ∷ bs)
 
 -- a comment that a byte goes on in goes on behind that byte
-comment-on : {s : List ℕ} {from over b : ℕ} → CommentTo s from over → StandsAt s from (b ∷ []) → ¬ LineEnd b → CommentTo s (from + 1) over
+comment-on : {s : List ℕ} {from over b : ℕ} → CommentTo s from over → StandsAt s from (b ∷ []) → ¬ LineEnd b
+    → CommentTo s (from + 1) over
 comment-on {s} {from} {b = b} (CommentTo.textEnds l) h n =
     let k = first-inside s from b _ (stands-split s from (b ∷ []) h) in
     absurd (omega arith)
@@ -68,7 +69,8 @@ nothing-at s from c = Separates.nothing no-blank no-comment
     no-comment g = false-true (rw (stands-split s from (bytes "--") g) at c)
 
 -- the walk passes blanks and comments, and stops where neither starts
-passed : (bs : List ℕ) (inside : Bool) (s : List ℕ) (from : ℕ) → drop from s ≡ bs → Passed inside s from (skip inside from bs)
+passed : (bs : List ℕ) (inside : Bool) (s : List ℕ) (from : ℕ) → drop from s ≡ bs
+    → Passed inside s from (skip inside from bs)
 unfolding skip clear
 passed [] true s from h =
     let l = length-drop from s in

@@ -23,7 +23,8 @@ use Rattle.lexis.proofs.TestLaws.{false-true}
 use Rattle.lexis.proofs.ByteRules.{is-string-byte, is-all, past-splits}
 
 -- what stands at a place and is spelled so
-pub spelled-at : (Spelled : ℕ → List ℕ → Type 0) (s : List ℕ) (at sort : ℕ) (w rest : List ℕ) → at ≤ length s → drop at s ≡ w ++ rest
+pub spelled-at : (Spelled : ℕ → List ℕ → Type 0) (s : List ℕ) (at sort : ℕ) (w rest : List ℕ) → at ≤ length s
+    → drop at s ≡ w ++ rest
     → Spelled sort w → SpelledAt Spelled s at sort (at + length w)
 spelled-at Spelled s at sort w rest l h x =
     let n = length-drop at s in
@@ -47,8 +48,10 @@ starts-whole (x ∷ w) (b ∷ bs) h =
     λ i. sym p i ∷ q i
 
 -- what holds of each literal of a list that stands at a place, and of another token, holds of the token spelled there
-pub spelled-cases : (Spelled : ℕ → List ℕ → Type 0) (s : List ℕ) (at : ℕ) → at ≤ length s → (ls : List Literal) → Each Spelled ls
-    → (t : Token) (P : Token → Type 0) → ((sort end : ℕ) → SpelledAt Spelled s at sort end → P (token sort at end)) → P t
+pub spelled-cases : (Spelled : ℕ → List ℕ → Type 0) (s : List ℕ) (at : ℕ) → at ≤ length s → (ls : List Literal)
+    → Each Spelled ls
+    → (t : Token) (P : Token → Type 0) → ((sort end : ℕ) → SpelledAt Spelled s at sort end → P (token sort at end))
+    → P t
     → P (spelled ls at (drop at s) t)
 unfolding spelled
 spelled-cases Spelled s at l [] x t P f g = g
@@ -58,7 +61,8 @@ spelled-cases Spelled s at l (y ∷ ls) x t P f g =
     (λ e. spelled-cases Spelled s at l ls (x .1) t P f g)
 
 -- the first byte of a part that has one
-pub part-first : (s : List ℕ) (at end : ℕ) → at < end → end ≤ length s → part s at end ≡ byteAt s at ∷ part s (at + 1) end
+pub part-first : (s : List ℕ) (at end : ℕ) → at < end → end ≤ length s
+    → part s at end ≡ byteAt s at ∷ part s (at + 1) end
 part-first s at end h k =
     let n : end - at ≡ suc (end - (at + 1)) = omega arith in
     let l : at < length s = omega arith in

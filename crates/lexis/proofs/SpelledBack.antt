@@ -138,7 +138,8 @@ literals-read next = split (eqb next (byte "=")) (λ e. rw e) (λ e. rw e)
 -- every spelling of the list reads back as its own sort, whatever follows, but for `=` behind `<` and `>`
 pub literal-read : (s : List ℕ) (at : ℕ) (rest : List ℕ) (i : ℕ) → i < length literals
     → drop at s ≡ literalAt i .spelling ++ rest
-    → free (literalAt i .sort) (byteAt rest 0) ≡ true → tokenOn s at ≡ token (literalAt i .sort) at (at + length (literalAt i .spelling))
+    → free (literalAt i .sort) (byteAt rest 0) ≡ true
+    → tokenOn s at ≡ token (literalAt i .sort) at (at + length (literalAt i .spelling))
 unfolding literal-reads
 literal-read s at rest i l h f =
     let k = every-at (literal-reads (byteAt rest 0)) literals i (literalOf 0 []) l (literals-read (byteAt rest 0)) in

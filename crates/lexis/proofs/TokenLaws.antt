@@ -55,7 +55,8 @@ module _ (s : List ℕ) (at : ℕ) where
       omega arith
 
   -- what is read is the next token
-  read-next : {from : ℕ} {t : Token} → Separates s from at → at < length s → tokenOn s at ≡ t → Reads s at t → NextIs s from t
+  read-next : {from : ℕ} {t : Token} → Separates s from at → at < length s → tokenOn s at ≡ t → Reads s at t
+      → NextIs s from t
   read-next g l e Reads.nothing = NextIs.none g l (no-sort e (omega arith))
   read-next g l e (Reads.something p) = NextIs.longest g (record { one = p; longest = no-longer e })
 
@@ -65,7 +66,8 @@ module _ (s : List ℕ) (at : ℕ) where
   none-read (Reads.something {sort = sort} {end = end} p) n = absurd (n sort end p)
 
   -- the longest that is spelled is what is read
-  longest-read : {sort end : ℕ} {t : Token} → tokenOn s at ≡ t → Reads s at t → LongestAt Spells s at sort end → t ≡ token sort at end
+  longest-read : {sort end : ℕ} {t : Token} → tokenOn s at ≡ t → Reads s at t → LongestAt Spells s at sort end
+      → t ≡ token sort at end
   longest-read {sort} {end} e Reads.nothing g = absurd (no-sort e (omega arith) sort end (g .one))
   longest-read {sort} {end} e (Reads.something {sort = x} {end = y} p) g =
       let l = no-longer e sort end (g .one) in

@@ -35,7 +35,8 @@ exactly : {at end sort : ℕ} {t : Token} → t ≡ token sort at end → unread
 exactly e l = rw e (record { readable = l; far = omega arith; alike = λ q. refl })
 
 -- bytes that pass a test, and begin as a spelling that has a byte which fails it, are fewer
-fewer : (test : ℕ → Bool) (spelling w rest : List ℕ) → startsWith spelling (w ++ rest) ≡ true → all test w ≡ true → all test spelling ≡ false
+fewer : (test : ℕ → Bool) (spelling w rest : List ℕ) → startsWith spelling (w ++ rest) ≡ true → all test w ≡ true
+    → all test spelling ≡ false
     → length w < length spelling
 unfolding startsWith all
 fewer test [] w rest h a n = absurd (false-true (sym n))
@@ -55,7 +56,8 @@ abbrev readables : List Literal → Bool
 readables ls = every (λ l. leb 2 (l .sort)) ls
 
 -- a word can be read, where its list and the sort given can
-word-readable : (ls : List Literal) (w : List ℕ) (given : ℕ) → readables ls ≡ true → unreadable < given → unreadable < wordSort ls w given
+word-readable : (ls : List Literal) (w : List ℕ) (given : ℕ) → readables ls ≡ true → unreadable < given
+    → unreadable < wordSort ls w given
 unfolding every wordSort
 word-readable [] w given k l = l
 word-readable (x ∷ xs) w given k l =
@@ -86,19 +88,23 @@ module _ (s : List ℕ) (at : ℕ) (w rest : List ℕ) (h : drop at s ≡ w ++ r
       let f : at + length w ≤ end = rw h (past-least wordByte at w rest a) in
       record { readable = word-readable ls (part s at end) given k l; far = f; alike = alike }
     where
-      alike : past wordByte at (drop at s) ≡ at + length w → wordSort ls (part s at (past wordByte at (drop at s))) given ≡ sort
+      alike : past wordByte at (drop at s) ≡ at + length w
+          → wordSort ls (part s at (past wordByte at (drop at s))) given ≡ sort
       alike q = rw (q, part-read s at w rest h) e
 
 -- a capital or a small letter and bytes of words
-module _ (s : List ℕ) (at b : ℕ) (ws rest : List ℕ) (h : drop at s ≡ (b ∷ ws) ++ rest) (a : all wordByte ws ≡ true) (sort : ℕ) where
-  capital-reaches : is capital b ≡ true → wordSort booleans (b ∷ ws) typeName ≡ sort → Reaches (at + length (b ∷ ws)) sort (tokenOn s at)
+module _ (s : List ℕ) (at b : ℕ) (ws rest : List ℕ) (h : drop at s ≡ (b ∷ ws) ++ rest) (a : all wordByte ws ≡ true)
+    (sort : ℕ) where
+  capital-reaches : is capital b ≡ true → wordSort booleans (b ∷ ws) typeName ≡ sort
+      → Reaches (at + length (b ∷ ws)) sort (tokenOn s at)
   unfolding all every wordByte sortOf
   capital-reaches c e =
       let g = and-both (wordByte b) (all wordByte ws) (capital-word b c) a in
       rw (on-sort s at b (ws ++ rest) h capital (eqb-true _ _ c))
       (spelled-reaches s at (b ∷ ws) rest h g sort timePatternSpellings _ refl (word-reaches s at (b ∷ ws) rest h g sort typeName booleans refl (lit< tt) e))
 
-  small-reaches : is small b ≡ true → wordSort keywords (b ∷ ws) name ≡ sort → Reaches (at + length (b ∷ ws)) sort (tokenOn s at)
+  small-reaches : is small b ≡ true → wordSort keywords (b ∷ ws) name ≡ sort
+      → Reaches (at + length (b ∷ ws)) sort (tokenOn s at)
   unfolding all every wordByte sortOf
   small-reaches c e =
       let g = and-both (wordByte b) (all wordByte ws) (small-word b c) a in
@@ -166,7 +172,8 @@ literal-reaches s at rest i k h =
 
 -- a mark that `=` makes a longer one
 open-reaches : (s : List ℕ) (at c sort longer : ℕ) → unreadable < sort → unreadable < longer
-    → ((rest : List ℕ) → drop at s ≡ (c ∷ []) ++ rest → eqb (byteAt rest 0) (byte "=") ≡ false → tokenOn s at ≡ token sort at (at + 1))
+    → ((rest : List ℕ) → drop at s ≡ (c ∷ []) ++ rest → eqb (byteAt rest 0) (byte "=") ≡ false
+    → tokenOn s at ≡ token sort at (at + 1))
     → ((rest : List ℕ) → drop at s ≡ (c ∷ byte "=" ∷ []) ++ rest → tokenOn s at ≡ token longer at (at + 2))
     → (rest : List ℕ) → drop at s ≡ (c ∷ []) ++ rest → Reaches (at + 1) sort (tokenOn s at)
 open-reaches s at c sort longer k l f g [] h = exactly (f [] h refl) k
@@ -185,13 +192,15 @@ unfolding wordSort
 name-sort w n m = rw (ne-same (bytes "matches") w (λ e. n (sym e)), ne-same (bytes "existence") w (λ e. m (sym e)))
 
 -- a TYPE, and a NAME
-type-reaches : {w : List ℕ} → CapitalWord w → w ≢ bytes "True" → w ≢ bytes "False" → (s : List ℕ) (at : ℕ) (rest : List ℕ)
+type-reaches : {w : List ℕ} → CapitalWord w → w ≢ bytes "True" → w ≢ bytes "False"
+    → (s : List ℕ) (at : ℕ) (rest : List ℕ)
     → drop at s ≡ w ++ rest
     → Reaches (at + length w) typeName (tokenOn s at)
 type-reaches (CapitalWord.capitalWord {b = b} {w = w} c a) n m s at rest h =
     capital-reaches s at b w rest h (is-all _ _ is-word-byte w .1 a) typeName (is-capital b .1 c) (type-sort (b ∷ w) n m)
 
-name-reaches : {w : List ℕ} → SmallWord w → w ≢ bytes "matches" → w ≢ bytes "existence" → (s : List ℕ) (at : ℕ) (rest : List ℕ)
+name-reaches : {w : List ℕ} → SmallWord w → w ≢ bytes "matches" → w ≢ bytes "existence"
+    → (s : List ℕ) (at : ℕ) (rest : List ℕ)
     → drop at s ≡ w ++ rest
     → Reaches (at + length w) name (tokenOn s at)
 name-reaches (SmallWord.smallWord {b = b} {w = w} c a) n m s at rest h =

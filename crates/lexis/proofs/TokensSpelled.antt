@@ -81,7 +81,8 @@ record RunFrom (test : ℕ → Bool) (s : List ℕ) (at b : ℕ) : Type 0 where
   end : past test at (drop at s) ≡ at + length (b ∷ run)
   pass : all test run ≡ true
 
-run-from : (test : ℕ → Bool) (s : List ℕ) (at b : ℕ) (bs : List ℕ) → drop at s ≡ b ∷ bs → test b ≡ true → RunFrom test s at b
+run-from : (test : ℕ → Bool) (s : List ℕ) (at b : ℕ) (bs : List ℕ) → drop at s ≡ b ∷ bs → test b ≡ true
+    → RunFrom test s at b
 unfolding past
 run-from test s at b bs h e =
     let m = past-splits test (at + 1) bs in
@@ -89,12 +90,14 @@ run-from test s at b bs h e =
 
 module _ (s : List ℕ) (at : ℕ) (inside : at < length s) where
   -- bytes at the place that spell a token
-  reads-split : {sort : ℕ} {w : List ℕ} (rest : List ℕ) (end : ℕ) → Spells sort w → drop at s ≡ w ++ rest → end ≡ at + length w
+  reads-split : {sort : ℕ} {w : List ℕ} (rest : List ℕ) (end : ℕ) → Spells sort w → drop at s ≡ w ++ rest
+      → end ≡ at + length w
       → Reads s at (token sort at end)
   reads-split {sort} {w} rest end p h e = rw e (Reads.something (spelled-at Spells s at sort w rest (omega arith) h p))
 
   -- a list of spellings, a word, digits, `-` and digits or a mark, a string, a code, and what else starts with no sort of byte but `other`
-  list-reads : (ls : List Literal) (t : Token) → Each Spells ls → Reads s at t → Reads s at (spelled ls at (drop at s) t)
+  list-reads : (ls : List Literal) (t : Token) → Each Spells ls → Reads s at t
+      → Reads s at (spelled ls at (drop at s) t)
   list-reads ls t p r = spelled-cases Spells s at (omega arith) ls p t (Reads s at) (λ sort end q. Reads.something q) r
 
   word-reads : (b : ℕ) (bs : List ℕ) → drop at s ≡ b ∷ bs → (ls : List Literal) (given : ℕ) → wordByte b ≡ true

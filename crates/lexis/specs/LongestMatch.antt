@@ -31,9 +31,11 @@ pub data CommentTo (s : List ℕ) : (from to : ℕ) → Type 0 where
 
 -- blanks and comments from one place up to another, where neither starts
 pub data Separates (s : List ℕ) : (from to : ℕ) → Type 0 where
-  nothing : {from : ℕ} → ((b : ℕ) → StandsAt s from (b ∷ []) → ¬ Blank b) → ¬ StandsAt s from (bytes "--") → Separates s from from
+  nothing : {from : ℕ} → ((b : ℕ) → StandsAt s from (b ∷ []) → ¬ Blank b) → ¬ StandsAt s from (bytes "--")
+      → Separates s from from
   blank : {from to b : ℕ} → StandsAt s from (b ∷ []) → Blank b → Separates s (from + 1) to → Separates s from to
-  comment : {from over to : ℕ} → StandsAt s from (bytes "--") → CommentTo s (from + 2) over → Separates s over to → Separates s from to
+  comment : {from over to : ℕ} → StandsAt s from (bytes "--") → CommentTo s (from + 2) over → Separates s over to
+      → Separates s from to
 
 -- the bytes from one place of the text up to another spell a token
 pub record SpelledAt (Spelled : (sort : ℕ) → List ℕ → Type 0) (s : List ℕ) (at sort end : ℕ) : Type 0 where

@@ -251,7 +251,8 @@ ordered-read s P Q sound low (refused x) go h k = h
 ordered-read s P Q sound low (got b p) go h k = k b p h
 
 -- a value that ends in the text, behind a place, and of which a property holds where no fault was noted
-pub record Passes {A : Type 0} (s : List ℕ) (from : ℕ) (P : A → ℕ → Type 0) (sound : Bool) (l : ℕ) (a : A) (p : ℕ) : Type 0 where
+pub record Passes {A : Type 0} (s : List ℕ) (from : ℕ) (P : A → ℕ → Type 0) (sound : Bool) (l : ℕ) (a : A)
+    (p : ℕ) : Type 0 where
   pub bound : l ≤ rank p 0
   pub least : from + 1 ≤ p
   pub most : p ≤ length s

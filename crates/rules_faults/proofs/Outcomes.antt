@@ -67,7 +67,8 @@ module _ {A : Type 0} (s : List ℕ) (P : Bool → ℕ → A → ℕ → Type 0)
   long-outcome true w h = record { one = List·Memᴰ·head refl; least = λ y m. Precedes.first refl }
   long-outcome false w h = outcome true 0 w h
 
-  long-lies : (long : Bool) → (long ≡ true → textLimit < length s) → (w : Parse A) → Ordered s P true 0 w → (x : Refusal)
+  long-lies : (long : Bool) → (long ≡ true → textLimit < length s) → (w : Parse A) → Ordered s P true 0 w
+      → (x : Refusal)
       → List·Memᴰ x (faultsIn (noting long TextTooLong textLimit w)) → Lies s x
   long-lies true l w h x (List·Memᴰ·head e) = inl (e, l refl)
   long-lies true l w h x (List·Memᴰ·tail m) = inr (each true 0 w h x m)

@@ -452,7 +452,8 @@ nested-value s levels c from o p t e h =
     record { is = rw (value-is s levels c from, other t star, other t typeName, e); low = omega (arith, y .least); high = y .most }
 
 -- an attribute that is read, with the place behind it
-record AttributeGot (s : List ℕ) (levels : ℕ) (seen : List (List ℕ)) (c from : ℕ) (a : AttributeHead) (v : Value) (p : ℕ) : Type 0 where
+record AttributeGot (s : List ℕ) (levels : ℕ) (seen : List (List ℕ)) (c from : ℕ) (a : AttributeHead) (v : Value)
+    (p : ℕ) : Type 0 where
   is : attributeFrom s levels seen c from ≡ got (record { existence = a .existence; name = a .name; value = v }) p
   number : c ≡ a .number
   low : from < p
@@ -462,7 +463,8 @@ attribute-got : (s : List ℕ) (levels : ℕ) (seen : List (List ℕ)) (c from :
     → DerivesAttribute s c from a v p
     → ¬ List·Memᴰ (a .name) seen
     → from ≤ length s
-    → ((d f q : ℕ) (z : Token) → DerivesValue s d f v q → NextToken s q closeBrace z → f ≤ length s → ValueGot s levels d f v q)
+    → ((d f q : ℕ) (z : Token) → DerivesValue s d f v q → NextToken s q closeBrace z → f ≤ length s
+    → ValueGot s levels d f v q)
     → AttributeGot s levels seen c from a v p
 attribute-got s levels seen c from a v p (anAttribute {p = q} {q = r} {t = t} {b = b} {z = z} n f d o x y) m h go =
     let i = next-found n h in
@@ -514,7 +516,8 @@ no-attribute = elim [ ]
 -- what stands between an object's braces, given its attributes
 body-got : (s : List ℕ) (levels : ℕ) (c from : ℕ) (xs : Attributes) (p : ℕ)
     → DerivesBody s c from xs p
-    → ((q : ℕ) (z : Token) → DerivesAttributes s c from xs q → NextToken s q closeBrace z → attributes s levels (length s + 1) [] c from ≡ got xs (z .end))
+    → ((q : ℕ) (z : Token) → DerivesAttributes s c from xs q → NextToken s q closeBrace z
+    → attributes s levels (length s + 1) [] c from ≡ got xs (z .end))
     → body s levels c from ≡ got xs p
 body-got s levels c from xs p (anyMembers (next n e) z) go = rw (token-read n, other e star, expect-got z)
 body-got s levels c from xs p (ConstraintGrammar.members {p = q} {z = z} ds n) go = rw (other (starts-name ds) star) (go q z ds n)

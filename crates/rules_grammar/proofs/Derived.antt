@@ -189,7 +189,8 @@ unfolding namesOf memberLevels
 one-more n (nameGiven l m e) (contentGiven d k) (membersGiven ds g a b) = membersGiven (oneMore n l e d ds) g (newName m a) (omega arith)
 
 module _ (s : List ℕ) (levels : ℕ)
-    (below : (place : ℕ) (type : Option Span) (from : ℕ) → Yields (BlockGiven s levels place type from) (blockFrom s levels place type from)) where
+    (below : (place : ℕ) (type : Option Span) (from : ℕ)
+    → Yields (BlockGiven s levels place type from) (blockFrom s levels place type from)) where
   -- a block behind its type
   typed-gives : (from : ℕ) → NextDataToken s from openRound (dataTokenAt s from)
       → Yields (DatumGiven s levels from) (typed s (blockFrom s levels) (dataTokenAt s from .end))

@@ -56,7 +56,8 @@ mutual
 
   data MemberPlaces (Such : ℕ → Type 0) : Members → Type 0 where
     inNone : MemberPlaces Such noMore
-    inMember : {w : List ℕ} {c : Content} {ms : Members} → ContentPlaces Such c → MemberPlaces Such ms → MemberPlaces Such (member w c ms)
+    inMember : {w : List ℕ} {c : Content} {ms : Members} → ContentPlaces Such c → MemberPlaces Such ms
+        → MemberPlaces Such (member w c ms)
 
   data ContentPlaces (Such : ℕ → Type 0) : Content → Type 0 where
     inString : {p : ℕ} {w : List ℕ} → Such p → ContentPlaces Such (Data.string p w)
@@ -68,7 +69,8 @@ module _ (s : List ℕ) where
   abbrev Opening : ℕ → Type 0
   Opening p = StandsAt s p (bytes "<")
 
-  leaf-places : {place from end : ℕ} {c : PlacedContent} → Opening place → DerivesDataLeaf s place from c end → ContentPlaces Opening (spelledContent c s)
+  leaf-places : {place from end : ℕ} {c : PlacedContent} → Opening place → DerivesDataLeaf s place from c end
+      → ContentPlaces Opening (spelledContent c s)
   unfolding spelledContent
   leaf-places h (DataGrammar.aString t k) = inString h
   leaf-places h (DataGrammar.aWord t k) = inWord h
@@ -80,11 +82,13 @@ module _ (s : List ℕ) where
     datum-places (Placed.block p t ms) (DataGrammar.untyped l d g n) = inDatum (less-stands s l) (member-places ms d)
     datum-places (Placed.block p t ms) (DataGrammar.typed o u k c l d g n) = inDatum (less-stands s l) (member-places ms d)
 
-    member-places : (ms : Entries) {from end : ℕ} → DerivesMembers s from ms end → MemberPlaces Opening (spelledEntries ms s)
+    member-places : (ms : Entries) {from end : ℕ} → DerivesMembers s from ms end
+        → MemberPlaces Opening (spelledEntries ms s)
     member-places Placed.noMore DataGrammar.noMember = inNone
     member-places (Placed.entry w c more) (DataGrammar.oneMore n k e d ms) = inMember (content-places c d) (member-places more ms)
 
-    content-places : (c : PlacedContent) {from end : ℕ} → DerivesContent s from c end → ContentPlaces Opening (spelledContent c s)
+    content-places : (c : PlacedContent) {from end : ℕ} → DerivesContent s from c end
+        → ContentPlaces Opening (spelledContent c s)
     content-places (Placed.inside b) (DataGrammar.aDatum d) = inBlock (datum-places b d)
     content-places (Placed.inside b) (DataGrammar.aLeaf l d g) = leaf-places (less-stands s l) d
     content-places (Placed.string p x) (DataGrammar.aLeaf l d g) = leaf-places (less-stands s l) d
@@ -97,7 +101,8 @@ module _ (Such : ℕ → Type 0) where
   content-place (inWord h) = h
   content-place (inBlock (inDatum h ms)) = h
 
-  member-content : {w : List ℕ} {c : Content} {ms : Members} → MemberOf w c ms → MemberPlaces Such ms → ContentPlaces Such c
+  member-content : {w : List ℕ} {c : Content} {ms : Members} → MemberOf w c ms → MemberPlaces Such ms
+      → ContentPlaces Such c
   member-content Admits.here (inMember h hs) = h
   member-content (Admits.behind n m) (inMember h hs) = member-content m hs
 
@@ -114,7 +119,8 @@ module _ (Such : ℕ → Type 0) where
     failure-place (Constraints.object h xs) (FirstFailure.typeDiffers n) (inDatum x ms) = x
     failure-place (Constraints.object h xs) (FirstFailure.inside t f) (inDatum x ms) = attributes-place xs f x ms
 
-    attributes-place : (xs : Attributes) {p : ℕ} {ms : Members} {r k q : ℕ} → AttributesFail xs p ms r k q → Such p → MemberPlaces Such ms → Such q
+    attributes-place : (xs : Attributes) {p : ℕ} {ms : Members} {r k q : ℕ} → AttributesFail xs p ms r k q → Such p
+        → MemberPlaces Such ms → Such q
     attributes-place (Constraints.attribute a v more) (FirstFailure.now f) x ms = attribute-place (λ c r k q g y. value-place v g y) f x ms
     attributes-place (Constraints.attribute a v more) (FirstFailure.later y f) x ms = attributes-place more f x ms
 
@@ -124,6 +130,7 @@ module _ (Such : ℕ → Type 0) where
     value-place (Constraints.nested o) (FirstFailure.blockFails f) (inBlock ms) = failure-place o f ms
     value-place (Constraints.leaf l) (FirstFailure.leafFails f) ms = content-place ms
 
-pub failure-opening : (levels : ℕ) (s : List ℕ) (b : Block) (o : Object) (r k q : ℕ) → DerivesData levels s b → FirstFailure o (spelledBlock b s) r k q
+pub failure-opening : (levels : ℕ) (s : List ℕ) (b : Block) (o : Object) (r k q : ℕ) → DerivesData levels s b
+    → FirstFailure o (spelledBlock b s) r k q
     → StandsAt s q (bytes "<")
 failure-opening levels s b o r k q (DataGrammar.wholeText n d e l) f = failure-place (Opening s) o f (datum-places s b d)

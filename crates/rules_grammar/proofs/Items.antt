@@ -329,7 +329,8 @@ module _ (s : List ℕ) where
       more : {i : Interval} {q r : ℕ} {c : Token} {l : Ranges} → n ≢ recordLimit → ItemGiven s kind from i q
           → ((y : Pair) → List·Memᴰ y seen → ¬ Meet (i .pair) y) → NextToken s q comma c
           → RangesGiven s left (i .kind) (n + 1) (i .pair ∷ seen) (c .end) l r
-          → RangesGiven s (suc left) kind n seen from (record { kind = l .kind; items = range n (i .pair) ∷ l .items }) r
+          → RangesGiven s (suc left) kind n seen from
+          (record { kind = l .kind; items = range n (i .pair) ∷ l .items }) r
       more {i} {q} a (itemGiven j d) b m (rangesGiven f g h k) =
           rangesGiven (first-kind j f) (moreItems a (subst (λ u. DerivesItem s u from (i .pair) q) (one-kind (suits-kind j) f) d) m g) (omega arith) (newItem b k)
 

@@ -40,7 +40,8 @@ date-long {s} (LeafGrammar.next n e) = by n e
     by (NextIs.longest p x) f = date-ten (rw f at (x .one .spelled))
 
 -- in data text
-pub next-data : {s : List ℕ} {from sort : ℕ} → dataTokenAt s from .sort ≡ sort → NextDataToken s from sort (dataTokenAt s from)
+pub next-data : {s : List ℕ} {from sort : ℕ} → dataTokenAt s from .sort ≡ sort
+    → NextDataToken s from sort (dataTokenAt s from)
 next-data {s} {from} e = DataGrammar.next (data-token-is s from _ .0 refl) e
 
 pub data-read : {s : List ℕ} {from : ℕ} {t : Token} → NextDataIs Classed s from t → dataTokenAt s from ≡ t

@@ -33,7 +33,8 @@ pub data DerivesBounds (s : List ℕ) (from : ℕ) : ℕ → ℕ → Type 0 wher
       → SpelledInteger s (d .end) (bytes "0") u → DerivesBounds s from 0 (u .end)
   noughtToOne : {t d u : Token} → SpelledInteger s from (bytes "0") t → NextToken s (t .end) dots d
       → SpelledInteger s (d .end) (bytes "1") u → DerivesBounds s from 1 (u .end)
-  oneToOne : {t d u : Token} → SpelledInteger s from (bytes "1") t → NextToken s (t .end) dots d → SpelledInteger s (d .end) (bytes "1") u
+  oneToOne : {t d u : Token} → SpelledInteger s from (bytes "1") t → NextToken s (t .end) dots d
+      → SpelledInteger s (d .end) (bytes "1") u
       → DerivesBounds s from 2 (u .end)
 
 -- no existence means 1..1

@@ -25,7 +25,9 @@ use Rattle.table.proofs.UseLaws.{Passed, each-passed, uses-counted, use
 
 module _ {m : Image} {n : ℕ} {r : Record} (g : RecordGood m n r) where
   -- a good record passes the tests of its kind and its flag, of its fields and of all of them
-  pub good-tests : Passed (flagRight (r .kind) (r .flag) ∷ fieldsRight m n (usesOf r) (r .fields) ∷ rowOf (r .kind) .across m n (r .fields) ∷ [])
+  pub good-tests : Passed
+      (flagRight (r .kind) (r .flag) ∷ fieldsRight m n (usesOf r) (r .fields) ∷ rowOf (r .kind) .across m n (r .fields)
+      ∷ [])
   unfolding obeys
   good-tests = each-passed (flagRight (r .kind) (r .flag)) (fieldsRight m n (usesOf r) (r .fields) ∷ rowOf (r .kind) .across m n (r .fields) ∷ []) (g .obeyed)
 

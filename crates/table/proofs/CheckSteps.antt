@@ -75,12 +75,14 @@ counts-open bs h c q e g =
 -- a record: its mark and its rules
 module _ (bs : List ℕ) (n at : ℕ) (k : Bool) (ea : at ≡ recordSize * n) (e : k ≡ isMarked (drop at bs)) where
   pub record-unmarked : k ≡ false
-      → k ≡ recordRight (imageOf bs) n (take recordSize (drop (recordSize * n) bs)) (decode (take recordSize (drop (recordSize * n) bs)))
+      → k ≡ recordRight (imageOf bs) n (take recordSize (drop (recordSize * n) bs))
+      (decode (take recordSize (drop (recordSize * n) bs)))
   record-unmarked h = rw (← ea, marked-in bs at, ← e, h)
 
   pub record-ruled : (x : Entry) (r : Bool) → k ≡ true → recordOf x ≡ decode (take recordSize (drop at bs))
       → r ≡ (obeys (imageOf bs) n (recordOf x) && clean (recordOf x))
-      → r ≡ recordRight (imageOf bs) n (take recordSize (drop (recordSize * n) bs)) (decode (take recordSize (drop (recordSize * n) bs)))
+      → r ≡ recordRight (imageOf bs) n (take recordSize (drop (recordSize * n) bs))
+      (decode (take recordSize (drop (recordSize * n) bs)))
   record-ruled x r h q g = rw (← ea, marked-in bs at, ← e, h, ← q) g
 
 -- the records from number n on are at fault as all are
@@ -104,12 +106,14 @@ module _ (bs : List ℕ) (f : Frame) (n : ℕ) (i : Reached bs f n) where
       ap brokenRecord (rw z at (i .is))
 
   module _ (r : Bool) (h : n < f .count)
-      (e : r ≡ recordRight (imageOf bs) n (take recordSize (drop (recordSize * n) bs)) (decode (take recordSize (drop (recordSize * n) bs)))) where
+      (e : r ≡ recordRight (imageOf bs) n (take recordSize (drop (recordSize * n) bs))
+      (decode (take recordSize (drop (recordSize * n) bs)))) where
     one-more : f .count - n ≡ suc (f .count - (n + 1))
     one-more = omega arith
 
     pub reach-fault : not r ≡ true
-        → faultOf (Refused (refusal BrokenRecord n)) ≡ brokenRecord (broken (imageOf bs) 1 (imageOf bs .records) (drop recordSize bs))
+        → faultOf (Refused (refusal BrokenRecord n))
+        ≡ brokenRecord (broken (imageOf bs) 1 (imageOf bs .records) (drop recordSize bs))
     unfolding broken
     reach-fault g = ap brokenRecord (rw (one-more, ← e, not-true r g) at (i .is))
 

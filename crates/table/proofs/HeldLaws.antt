@@ -14,7 +14,8 @@ use Rattle.table.proofs.OrderLaws.{Bytes, lowest-value}
 use Rattle.table.proofs.HoldsLaws.{holds-is, holds-marked, holds-order, holds-room}
 
 -- a mark, four bytes and numbers are written back as they were read
-mark-back : (little : Bool) (x y : ℕ) → x < 256 → y < 256 → get little (x ∷ y ∷ []) ≡ mark → put little 2 mark ≡ x ∷ y ∷ []
+mark-back : (little : Bool) (x y : ℕ) → x < 256 → y < 256 → get little (x ∷ y ∷ []) ≡ mark
+    → put little 2 mark ≡ x ∷ y ∷ []
 mark-back true x y h k e = let a : x ≡ 0xAD = omega arith in let b : y ≡ 0xC0 = omega arith in rw (a, b)
 mark-back false x y h k e = let a : x ≡ 0xC0 = omega arith in let b : y ≡ 0xAD = omega arith in rw (a, b)
 
@@ -23,7 +24,8 @@ number-back : (little : Bool) (w x y z : ℕ) → Bytes (w ∷ x ∷ y ∷ z ∷
 number-back true w x y z h = lowest-value (w ∷ x ∷ y ∷ z ∷ []) h
 number-back false w x y z h = ap reverse (lowest-value (z ∷ y ∷ x ∷ w ∷ []) (h .1 .1 .1 .0, (h .1 .1 .0, (h .1 .0, (h .0, tt)))))
 
-numbers-back : (little : Bool) (n : ℕ) (xs : List ℕ) → length xs ≡ numberSize * n → Bytes xs → putAll little (numbers little n xs) ≡ xs
+numbers-back : (little : Bool) (n : ℕ) (xs : List ℕ) → length xs ≡ numberSize * n → Bytes xs
+    → putAll little (numbers little n xs) ≡ xs
 numbers-back little zero [] e h = refl
 numbers-back little zero (x ∷ xs) e h = absurd (omega arith)
 numbers-back little (suc n) [] e h = absurd (omega arith)
@@ -42,7 +44,8 @@ marked-get bs h = by (isLittle bs) refl
     by false e = eqb-true (get false (take 2 bs)) mark (rw e at h)
 
 -- a record is written back as it was read
-encode-decode : (bs : List ℕ) → length bs ≡ recordSize → Bytes bs → isMarked bs ≡ true → encode (isLittle bs) (decode bs) ≡ bs
+encode-decode : (bs : List ℕ) → length bs ≡ recordSize → Bytes bs → isMarked bs ≡ true
+    → encode (isLittle bs) (decode bs) ≡ bs
 unfolding encode decode
 encode-decode [] e h k = absurd (omega arith)
 encode-decode (a ∷ []) e h k = absurd (omega arith)

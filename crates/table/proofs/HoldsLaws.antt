@@ -119,7 +119,8 @@ mark-is bs place little (littleEndian {x} {y} h e) =
     rw (mark-bytes bs place x y h, eq-eqb (get true (x ∷ y ∷ [])) mark (omega arith)) (refl, refl)
 
 -- two bytes that are the mark in one of the orders, by the test of the little-endian one
-mark-by : (bs : List ℕ) (place x y : ℕ) (b : Bool) → StandsAt bs place (x ∷ y ∷ []) → eqb (get true (x ∷ y ∷ [])) mark ≡ b
+mark-by : (bs : List ℕ) (place x y : ℕ) (b : Bool) → StandsAt bs place (x ∷ y ∷ [])
+    → eqb (get true (x ∷ y ∷ [])) mark ≡ b
     → (b || eqb (get false (x ∷ y ∷ [])) mark) ≡ true → MarkAt bs place b
 mark-by bs place x y true w e h = let k = eqb-true (get true (x ∷ y ∷ [])) mark e in littleEndian w (omega arith)
 mark-by bs place x y false w e h = let k = eqb-true (get false (x ∷ y ∷ [])) mark h in bigEndian w (omega arith)
@@ -140,7 +141,8 @@ unfolding decode
 decode-flag bs at = getD-take recordSize (drop at bs) 3 0 (omega arith) ∙ getD-drop at bs 3 0
 
 decode-fields : (bs : List ℕ) (at : ℕ)
-    → decode (take recordSize (drop at bs)) .fields ≡ numbers (isLittle (take recordSize (drop at bs))) fieldCount (drop (at + 4) bs)
+    → decode (take recordSize (drop at bs)) .fields
+    ≡ numbers (isLittle (take recordSize (drop at bs))) fieldCount (drop (at + 4) bs)
 unfolding decode
 decode-fields bs at =
     let little = isLittle (take recordSize (drop at bs)) in

@@ -32,13 +32,16 @@ uses-none k xs h = none-uses (shapeOf k) xs (plain-shape k h)
 -- the tests of each kind's fields, in the order taken
 module _ (m : Image) (n : ℕ) (e : Entry) (r : Bool) where
   pub object-is : e .kind ≡ 1
-      → r ≡ (fieldRight m n (place 1 63) (e .a) (e .b) && (fieldRight m n (place 0 31) (e .c) (e .d) && fieldRight m n (link (2 ∷ [])) (e .e) 0))
+      → r ≡ (fieldRight m n (place 1 63) (e .a) (e .b)
+      && (fieldRight m n (place 0 31) (e .c) (e .d) && fieldRight m n (link (2 ∷ [])) (e .e) 0))
       → r ≡ fieldsKept m n (recordOf e)
   unfolding fieldsKept clean shapeOf fieldRight
   object-is h q = rw h (simp and-true q)
 
   pub attribute-is : e .kind ≡ 2
-      → r ≡ (fieldRight m n (place 1 63) (e .a) (e .b) && (fieldRight m n (link (objectKind ∷ items)) (e .c) 0 && (fieldRight m n (link (2 ∷ [])) (e .d) 0 && eqb (e .e) 0)))
+      → r ≡ (fieldRight m n (place 1 63) (e .a) (e .b)
+      && (fieldRight m n (link (objectKind ∷ items)) (e .c) 0
+      && (fieldRight m n (link (2 ∷ [])) (e .d) 0 && eqb (e .e) 0)))
       → r ≡ fieldsKept m n (recordOf e)
   unfolding fieldsKept clean shapeOf fieldRight
   attribute-is h q = rw h (simp (and-true, and-assoc) (simp and-assoc at q))

@@ -45,10 +45,12 @@ module _ {bs : List ℕ} {count pool root : ℕ} (t : IsTable bs count pool root
     held-slice = rw (record-held t h k l .1, table-count t)
 
     -- so the part handed out is its name, or it has none
-    held-part : NamePart bs count n (recordSize * count + field r 0) (field r 1) → Part bs count n (nameSlice (imageOf bs) n)
+    held-part : NamePart bs count n (recordSize * count + field r 0) (field r 1)
+        → Part bs count n (nameSlice (imageOf bs) n)
     held-part p = subst (Part bs count n) (sym held-slice) p
 
-    held-none : {P : Type 0} → among (r .kind) (objectKind ∷ attributeKind ∷ textKind ∷ []) ≡ false → holdsName (imageOf bs) n ≡ true → P
+    held-none : {P : Type 0} → among (r .kind) (objectKind ∷ attributeKind ∷ textKind ∷ []) ≡ false
+        → holdsName (imageOf bs) n ≡ true → P
     held-none e f = absurd (false≢true (sym e ∙ sym held-name ∙ f))
 
   part-there : {n : ℕ} → IsRecord bs count pool n → n < count → holdsName (imageOf bs) n ≡ true
@@ -80,7 +82,8 @@ module _ {bs : List ℕ} {count pool root : ℕ} (t : IsTable bs count pool root
   named-only (stringOf h) l = (held-name h (lit< tt) l, held-slice h (lit< tt) l)
 
 -- a name is given exactly where the rules give it
-pub name-given : (bs : List ℕ) (n start size : ℕ) → (nameAnswer bs n ≡ gave (record { start = start; length = size })) ↔ Named bs n start size
+pub name-given : (bs : List ℕ) (n start size : ℕ)
+    → (nameAnswer bs n ≡ gave (record { start = start; length = size })) ↔ Named bs n start size
 unfolding nameAnswer
 name-given bs n start size = (
   λ e.
@@ -121,7 +124,8 @@ refused-there bs n r none f e =
     (λ h g. absurd (not-gave (sym g)))
     e
 
-refused-only : {bs : List ℕ} {n : ℕ} {r : Refusal} → NameRefuses bs n r → orFault (tableFault bs) (nameOutcome (imageOf bs) n) ≡ refused r
+refused-only : {bs : List ℕ} {n : ℕ} {r : Refusal} → NameRefuses bs n r
+    → orFault (tableFault bs) (nameOutcome (imageOf bs) n) ≡ refused r
 refused-only {bs} (noTable {r = r} h) = rw (no-table bs r .1 h)
 refused-only {bs} {n} (noName t h) = rw (table-checked t) (no-part n t h (holdsName (imageOf bs) n) refl)
 

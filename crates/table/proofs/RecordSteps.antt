@@ -34,14 +34,17 @@ module _ (bs : List ℕ) (at : ℕ) where
   marked-in = ap (λ x. eqb (get true x) mark || eqb (get false x) mark) (take-take 2 recordSize (drop at bs) (omega arith))
 
   number-in : (little : Bool) (j : ℕ) → j + numberSize ≤ recordSize
-      → get little (take numberSize (drop j (take recordSize (drop at bs)))) ≡ get little (take numberSize (drop (at + j) bs))
+      → get little (take numberSize (drop j (take recordSize (drop at bs))))
+      ≡ get little (take numberSize (drop (at + j) bs))
   number-in little j h = ap (get little) (part-in numberSize j recordSize (drop at bs) h ∙ ap (take numberSize) (drop-drop j at bs))
 
   -- the record that is read is the one that the bytes decode to
   read-is : (little : Bool) (a b c d e : ℕ) → little ≡ isLittle (drop at bs)
-      → a ≡ get little (take 4 (drop (at + 4) bs)) → b ≡ get little (take 4 (drop (at + 8) bs)) → c ≡ get little (take 4 (drop (at + 12) bs))
+      → a ≡ get little (take 4 (drop (at + 4) bs)) → b ≡ get little (take 4 (drop (at + 8) bs))
+      → c ≡ get little (take 4 (drop (at + 12) bs))
       → d ≡ get little (take 4 (drop (at + 16) bs)) → e ≡ get little (take 4 (drop (at + 20) bs))
-      → recordOf (record { kind = getD bs (at + 2) 0; flag = getD bs (at + 3) 0; a = a; b = b; c = c; d = d; e = e }) ≡ decode (take recordSize (drop at bs))
+      → recordOf (record { kind = getD bs (at + 2) 0; flag = getD bs (at + 3) 0; a = a; b = b; c = c; d = d; e = e })
+      ≡ decode (take recordSize (drop at bs))
   unfolding decode
   read-is little a b c d e l ea eb ec ed ee =
       rw (ea, eb, ec, ed, ee, l)
@@ -51,9 +54,12 @@ module _ (bs : List ℕ) (at : ℕ) where
 
   -- its numbers are read lowest first, and then put in the record's own order
   pub read-ordered : (little : Bool) (a b c d e : ℕ) (t : Entry) → little ≡ isLittle (drop at bs)
-      → a ≡ get true (take 4 (drop (at + 4) bs)) → b ≡ get true (take 4 (drop (at + 8) bs)) → c ≡ get true (take 4 (drop (at + 12) bs))
+      → a ≡ get true (take 4 (drop (at + 4) bs)) → b ≡ get true (take 4 (drop (at + 8) bs))
+      → c ≡ get true (take 4 (drop (at + 12) bs))
       → d ≡ get true (take 4 (drop (at + 16) bs)) → e ≡ get true (take 4 (drop (at + 20) bs))
-      → recordOf t ≡ orderedAs little (recordOf (record { kind = getD bs (at + 2) 0; flag = getD bs (at + 3) 0; a = a; b = b; c = c; d = d; e = e }))
+      → recordOf t
+      ≡ orderedAs little
+      (recordOf (record { kind = getD bs (at + 2) 0; flag = getD bs (at + 3) 0; a = a; b = b; c = c; d = d; e = e }))
       → at + recordSize ≤ length bs → ((i : ℕ) → getD bs i 0 < 256) → recordOf t ≡ decode (take recordSize (drop at bs))
   read-ordered little a b c d e t l ea eb ec ed ee et h g =
       let n : (j : ℕ) (x : ℕ) → j + 4 ≤ recordSize → x ≡ get true (take 4 (drop (at + j) bs)) → ordered little x ≡ get little (take 4 (drop (at + j) bs)) = λ j x k q. ap (ordered little) q ∙ number-ordered bs (at + j) little (omega arith) g in
@@ -69,7 +75,8 @@ module _ (r : Entry) (little : Bool) where
   pub ordered-swapped : (a b c d e : ℕ) → little ≡ false → a ≡ get false (put true 4 (r .a))
       → b ≡ get false (put true 4 (r .b)) → c ≡ get false (put true 4 (r .c)) → d ≡ get false (put true 4 (r .d))
       → e ≡ get false (put true 4 (r .e))
-      → recordOf (record { kind = r .kind; flag = r .flag; a = a; b = b; c = c; d = d; e = e }) ≡ orderedAs little (recordOf r)
+      → recordOf (record { kind = r .kind; flag = r .flag; a = a; b = b; c = c; d = d; e = e })
+      ≡ orderedAs little (recordOf r)
   ordered-swapped a b c d e l ea eb ec ed ee = rw (l, ea, eb, ec, ed, ee)
 
 -- the mark read in either order

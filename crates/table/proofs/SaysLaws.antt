@@ -156,10 +156,12 @@ module _ {bs : List ℕ} {count pool root : ℕ} (t : IsTable bs count pool root
         by-link (imageOf bs) n ks (field r i) (field r (suc i)) (rw u at f) (λ z. omega arith) (λ y. omega arith)
 
   -- the bytes that a place and a length name, in the pool and behind the records
-  name-behind : (place size : ℕ) → take size (drop place (imageOf bs .pool)) ≡ take size (drop (recordSize * count + place) bs)
+  name-behind : (place size : ℕ)
+      → take size (drop place (imageOf bs .pool)) ≡ take size (drop (recordSize * count + place) bs)
   name-behind place size = rw (pool-is, drop-drop)
 
-  name-only : {place size : ℕ} {w : List ℕ} → NameIs bs count place size w → take size (drop place (imageOf bs .pool)) ≡ w
+  name-only : {place size : ℕ} {w : List ℕ} → NameIs bs count place size w
+      → take size (drop place (imageOf bs .pool)) ≡ w
   name-only {place} (nameIs {w} h) = name-behind place (ListN.length w) ∙ h
 
   name-there : {least most place size : ℕ} → PoolPair pool least most place size
@@ -175,12 +177,14 @@ module _ {bs : List ℕ} {count pool root : ℕ} (t : IsTable bs count pool root
   range-only : (sort : RangeSort) {n a b e : ℕ} {little : Bool} (l : List Range)
       → Holds bs n little (make (rangeRow sort .kind) 0 (a ∷ b ∷ 0 ∷ 0 ∷ e ∷ [])) → n < count
       → (e < count → treeAt (imageOf bs) e ≡ rangesTree sort l)
-      → treeAt (imageOf bs) n ≡ ofLeaf (ranges sort (record { number = n; low = rangeRow sort .end a; high = rangeRow sort .end b } ∷ l))
+      → treeAt (imageOf bs) n
+      ≡ ofLeaf (ranges sort (record { number = n; low = rangeRow sort .end a; high = rangeRow sort .end b } ∷ l))
   unfolding shapeOf
   range-only integers l h k more = node-held h (lit< tt) k ∙ rw (more (link-below h (lit< tt) k 4 _ (lit< tt) refl), ranges-back)
   range-only dates l h k more = node-held h (lit< tt) k ∙ rw (more (link-below h (lit< tt) k 4 _ (lit< tt) refl), ranges-back)
 
-  integers-only : {n : ℕ} {l : List Range} → SaysIntegers bs n l → n < count → treeAt (imageOf bs) n ≡ rangesTree integers l
+  integers-only : {n : ℕ} {l : List Range} → SaysIntegers bs n l → n < count
+      → treeAt (imageOf bs) n ≡ rangesTree integers l
   unfolding treeAt
   integers-only SaysIntegers.noMore k = refl
   integers-only (SaysIntegers.integer {l = l} h a b more) k = rw (twos-is a .1, twos-is b .1) (range-only integers l h k (λ i. integers-only more i))
@@ -213,7 +217,8 @@ module _ {bs : List ℕ} {count pool root : ℕ} (t : IsTable bs count pool root
     object-only (Constraints.object head xs) (SaysObject.object h a b s) k =
         node-held h (lit< tt) k ∙ rw (name-only a, name-only b, attributes-only xs s (link-below h (lit< tt) k 4 _ (lit< tt) refl))
 
-    attributes-only : (xs : Attributes) {n : ℕ} → SaysAttributes bs count n xs → n < count → attributesIn (treeAt (imageOf bs) n) ≡ xs
+    attributes-only : (xs : Attributes) {n : ℕ} → SaysAttributes bs count n xs → n < count
+        → attributesIn (treeAt (imageOf bs) n) ≡ xs
     attributes-only Constraints.noMore SaysAttributes.noMore k = refl
     attributes-only (Constraints.attribute head v more) (SaysAttributes.attribute h a s r) k =
         rw (
@@ -239,13 +244,15 @@ module _ {bs : List ℕ} {count pool root : ℕ} (t : IsTable bs count pool root
 
   -- where each record behind n says its tree, so does what a link of n leads to
   module _ (n : ℕ) (above : (x : ℕ) → n < x → x < count → SaysTree bs count x (treeAt (imageOf bs) x)) where
-    attributes-there : {x : ℕ} → Link bs count n (Only 2) x → SaysAttributes bs count x (attributesIn (treeAt (imageOf bs) x))
+    attributes-there : {x : ℕ} → Link bs count n (Only 2) x
+        → SaysAttributes bs count x (attributesIn (treeAt (imageOf bs) x))
     unfolding treeAt shapeOf
     attributes-there Link.nowhere = SaysAttributes.noMore
     attributes-there (Link.leads {x} a b h only) = let e = node-kind h (omega arith) b in rw e (rw e at (above x a b))
 
     leaf-there : {x kind : ℕ} {l : Leaf} → KindAt bs x kind → n < x → x < count
-        → nodeBy (shapeOf kind) (imageOf bs) x (recordIn bs x) ≡ ofLeaf l → (treeAt (imageOf bs) x ≡ ofLeaf l) × SaysLeaf bs count x l
+        → nodeBy (shapeOf kind) (imageOf bs) x (recordIn bs x) ≡ ofLeaf l
+        → (treeAt (imageOf bs) x ≡ ofLeaf l) × SaysLeaf bs count x l
     leaf-there {x} h a b q = let e = node-kind h (omega arith) b ∙ q in (e, rw e at (above x a b))
 
     leaf-value : {x : ℕ} {l : Leaf} → (treeAt (imageOf bs) x ≡ ofLeaf l) × SaysLeaf bs count x l
@@ -273,7 +280,8 @@ module _ {bs : List ℕ} {count pool root : ℕ} (t : IsTable bs count pool root
     dates-there Link.nowhere = SaysDates.noMore
     dates-there (Link.leads a b h only) = let p = leaf-there h a b refl in rw (p .0) (dates-in (p .1))
 
-    strings-there : {x : ℕ} → Link bs count n (Only 5) x → SaysStrings bs count x (itemsIn textsOf (treeAt (imageOf bs) x))
+    strings-there : {x : ℕ} → Link bs count n (Only 5) x
+        → SaysStrings bs count x (itemsIn textsOf (treeAt (imageOf bs) x))
     unfolding treeAt shapeOf
     strings-there Link.nowhere = SaysStrings.noMore
     strings-there (Link.leads a b h only) = let p = leaf-there h a b refl in rw (p .0) (strings-in (p .1))
@@ -320,7 +328,8 @@ module _ {bs : List ℕ} {count pool root : ℕ} (t : IsTable bs count pool root
   object-kind n k h = let e = kind-is bs n 1 h in (_, node-kind h (kind-behind n (omega arith)) k)
 
 -- what the check passes and the trees hold, the records say
-pub says-there : (bs : List ℕ) (n : ℕ) (o : Object) → tableFault bs ≡ none → objectAt (imageOf bs) n ≡ some o → Says bs n o
+pub says-there : (bs : List ℕ) (n : ℕ) (o : Object) → tableFault bs ≡ none → objectAt (imageOf bs) n ≡ some o
+    → Says bs n o
 says-there bs n o e q =
     let p = passes bs .0 e in
     object-said (p .3) n o (object-tree (treeAt (imageOf bs) n) o q)

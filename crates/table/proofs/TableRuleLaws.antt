@@ -120,7 +120,8 @@ module _ (bs : List ℕ) (count pool root : ℕ) (f : IsFrame bs count pool root
       }
 
 -- the test of the frame and its rules are one
-pub framed-frame : (bs : List ℕ) → (framed bs ≡ true) ↔ IsFrame bs (field (header bs) 0) (field (header bs) 1) (field (header bs) 2)
+pub framed-frame : (bs : List ℕ)
+    → (framed bs ≡ true) ↔ IsFrame bs (field (header bs) 0) (field (header bs) 1) (field (header bs) 2)
 framed-frame bs = (λ e. framed-has bs (framed-is bs e), λ f. is-framed bs (has-framed bs _ _ _ f))
 
 module _ (bs : List ℕ) (count pool root n : ℕ) (f : IsFrame bs count pool root) where
@@ -189,14 +190,16 @@ module _ (bs : List ℕ) (count pool root n : ℕ) (f : IsFrame bs count pool ro
   module _ (little : Bool) (h : Holds bs n little (recordIn bs n)) where
     -- the record read, made of its parts, is held
     held : {k g a b c d e : ℕ} → recordIn bs n .kind ≡ k → recordIn bs n .flag ≡ g → field (recordIn bs n) 0 ≡ a
-        → field (recordIn bs n) 1 ≡ b → field (recordIn bs n) 2 ≡ c → field (recordIn bs n) 3 ≡ d → field (recordIn bs n) 4 ≡ e
+        → field (recordIn bs n) 1 ≡ b → field (recordIn bs n) 2 ≡ c → field (recordIn bs n) 3 ≡ d
+        → field (recordIn bs n) 4 ≡ e
         → Holds bs n little (make k g (a ∷ b ∷ c ∷ d ∷ e ∷ []))
     held p q u v w x y =
         subst (Holds bs n little) (made (recordIn bs n) (h .counted) ∙ (λ i. make (p i) (q i) (u i ∷ v i ∷ w i ∷ x i ∷ y i ∷ []))) h
 
     -- a field not named is 0
     nought : {s : Shape} → Kept (imageOf bs) n (recordIn bs n) s → (i : ℕ) → i < fieldCount
-        → isNought (getD (rowFor s .uses (recordIn bs n .fields)) i unnamed) (field (recordIn bs n) i) ≡ eqb (field (recordIn bs n) i) 0
+        → isNought (getD (rowFor s .uses (recordIn bs n .fields)) i unnamed) (field (recordIn bs n) i)
+        ≡ eqb (field (recordIn bs n) i) 0
         → field (recordIn bs n) i ≡ 0
     nought k i l e = eqb-true (field (recordIn bs n) i) 0 (sym e ∙ k .rest i l)
 
@@ -238,7 +241,8 @@ right bs n = recordRight (imageOf bs) n (take recordSize (drop (recordSize * n) 
 
 -- a record passes its tests exactly where it obeys the rules of its kind
 pub record-rule : (bs : List ℕ) (count pool root n : ℕ) → IsFrame bs count pool root → 1 ≤ n → n < count
-    → (recordRight (imageOf bs) n (take recordSize (drop (recordSize * n) bs)) (recordIn bs n) ≡ true) ↔ IsRecord bs count pool n
+    → (recordRight (imageOf bs) n (take recordSize (drop (recordSize * n) bs)) (recordIn bs n) ≡ true)
+    ↔ IsRecord bs count pool n
 record-rule bs count pool root n f l h = (there, record-right bs count pool root n f)
   where
     there : right bs n ≡ true → IsRecord bs count pool n
@@ -308,7 +312,8 @@ told bs =
     (λ e. NoTable.unframed (λ count pool root f. false≢true (sym e ∙ is-framed bs (has-framed bs count pool root f))))
 
 -- frames of the same bytes have one count, and the same records obey the rules under them
-module _ {bs : List ℕ} {count pool root count' pool' root' : ℕ} (f : IsFrame bs count pool root) (g : IsFrame bs count' pool' root') where
+module _ {bs : List ℕ} {count pool root count' pool' root' : ℕ} (f : IsFrame bs count pool root)
+    (g : IsFrame bs count' pool' root') where
   same-count : count ≡ count'
   same-count = frame-is bs count pool root f .0 ∙ sym (frame-is bs count' pool' root' g .0)
 
@@ -331,10 +336,12 @@ one-reason (NoTable.broken {n = n} f a b h l) (NoTable.broken {n = m} g c d k o)
     (λ u. absurd (k (same-record f g (l m c u))))
 
 -- bytes pass the check exactly where they are a table
-pub passes : (bs : List ℕ) → (tableFault bs ≡ none) ↔ ((count : ℕ) × (pool : ℕ) × (root : ℕ) × IsTable bs count pool root)
+pub passes : (bs : List ℕ)
+    → (tableFault bs ≡ none) ↔ ((count : ℕ) × (pool : ℕ) × (root : ℕ) × IsTable bs count pool root)
 passes bs = (λ e. subst (Told bs) e (told bs), λ t. by t (tableFault bs) (told bs))
   where
-    by : ((count : ℕ) × (pool : ℕ) × (root : ℕ) × IsTable bs count pool root) → (o : Option Refusal) → Told bs o → o ≡ none
+    by : ((count : ℕ) × (pool : ℕ) × (root : ℕ) × IsTable bs count pool root) → (o : Option Refusal) → Told bs o
+        → o ≡ none
     by t none u = refl
     by t (some r) u = absurd (not-both (t .3) u)
 

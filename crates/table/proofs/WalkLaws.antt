@@ -86,7 +86,8 @@ nodeOf m n r = nodeBy (shapeOf (r .kind)) m n r
 module _ (m : Image) (k : ℕ) (r : Record) (g : RecordGood m (suc k) r) (s : Shape) (e : shapeOf (r .kind) ≡ s) where
   -- a field as it is meant, where the record's shape is known
   part-there : (i : ℕ) → i < fieldCount
-      → partAt (cell (m .pool) (suc k) r) i ≡ partOf (m .pool) (suc k) (getD (rowFor s .uses (r .fields)) i unnamed) (field r i) (field r (suc i))
+      → partAt (cell (m .pool) (suc k) r) i
+      ≡ partOf (m .pool) (suc k) (getD (rowFor s .uses (r .fields)) i unnamed) (field r i) (field r (suc i))
   part-there i h =
       parts-there (m .pool) (suc k) (usesOf r) (r .fields) i (omega (arith, uses-counted (shapeOf (r .kind)) (r .fields))) (omega (arith, g .counted))
       ∙ ap (λ x. partOf (m .pool) (suc k) (getD (rowFor x .uses (r .fields)) i unnamed) (field r i) (field r (suc i))) e

@@ -17,7 +17,8 @@ use Rattle.table.proofs.OrderSteps.{put-ordered}
 -- the mark, byte by byte, with the kind and the flag
 pub head-put : (s : List ℕ) (at : ℕ) (little : Bool) (kind flag a b : ℕ) → a ≡ cond little 0xAD 0xC0
     → b ≡ cond (not little) 0xAD 0xC0
-    → set (set (set (set s at a) (at + 1) b) (at + 2) kind) (at + 3) flag ≡ sets s at (put little 2 mark ++ (kind ∷ flag ∷ []))
+    → set (set (set (set s at a) (at + 1) b) (at + 2) kind) (at + 3) flag
+    ≡ sets s at (put little 2 mark ++ (kind ∷ flag ∷ []))
 head-put s at true kind flag a b p q = rw (p, q) (simp towards-suc)
 head-put s at false kind flag a b p q = rw (p, q) (simp towards-suc)
 
@@ -29,7 +30,8 @@ number-put s a b xs at k little n p l q = rw (q, p) (sets-behind xs (put little 
 -- the head and the numbers make up the record
 record-put : (s s0 s1 s2 s3 s4 s5 : List ℕ) (at : ℕ) (little : Bool) (r : Entry)
     → s0 ≡ sets s at (put little 2 mark ++ (r .kind ∷ r .flag ∷ []))
-    → s1 ≡ sets s0 (at + 4) (put little 4 (r .a)) → s2 ≡ sets s1 (at + 8) (put little 4 (r .b)) → s3 ≡ sets s2 (at + 12) (put little 4 (r .c))
+    → s1 ≡ sets s0 (at + 4) (put little 4 (r .a)) → s2 ≡ sets s1 (at + 8) (put little 4 (r .b))
+    → s3 ≡ sets s2 (at + 12) (put little 4 (r .c))
     → s4 ≡ sets s3 (at + 16) (put little 4 (r .d)) → s5 ≡ sets s4 (at + 20) (put little 4 (r .e))
     → s5 ≡ sets s at (encode little (recordOf r))
 unfolding encode
@@ -50,7 +52,8 @@ record-put s s0 s1 s2 s3 s4 s5 at little r e0 e1 e2 e3 e4 e5 =
 pub record-ordered : (s s0 s1 s2 s3 s4 s5 : List ℕ) (at : ℕ) (little : Bool) (r t : Entry)
     → recordOf t ≡ orderedAs little (recordOf r)
     → s0 ≡ sets s at (put little 2 mark ++ (r .kind ∷ r .flag ∷ []))
-    → s1 ≡ sets s0 (at + 4) (put true 4 (t .a)) → s2 ≡ sets s1 (at + 8) (put true 4 (t .b)) → s3 ≡ sets s2 (at + 12) (put true 4 (t .c))
+    → s1 ≡ sets s0 (at + 4) (put true 4 (t .a)) → s2 ≡ sets s1 (at + 8) (put true 4 (t .b))
+    → s3 ≡ sets s2 (at + 12) (put true 4 (t .c))
     → s4 ≡ sets s3 (at + 16) (put true 4 (t .d)) → s5 ≡ sets s4 (at + 20) (put true 4 (t .e))
     → s5 ≡ sets s at (encode little (recordOf r))
 record-ordered s s0 s1 s2 s3 s4 s5 at little r t o e0 e1 e2 e3 e4 e5 =

@@ -43,7 +43,8 @@ fit-at (r ∷ rs) d f zero l = f .0
 fit-at (r ∷ rs) d f (suc n) l = fit-at rs d (f .1) n (omega arith)
 
 -- a record that is written is of the order asked
-order-part : (little : Bool) (r : Record) (more : List ℕ) → isLittle (take recordSize (encode little r ++ more)) ≡ little
+order-part : (little : Bool) (r : Record) (more : List ℕ)
+    → isLittle (take recordSize (encode little r ++ more)) ≡ little
 unfolding encode
 order-part true r more = refl
 order-part false r more = refl
@@ -65,7 +66,8 @@ written-holds little m f d n l =
     subst (λ x. Holds bs n x r) o (subst (λ x. Holds bs n (isLittle (take recordSize (drop (recordSize * n) bs))) x) q h)
 
 -- behind the records stands the pool
-pub pool-byte : (little : Bool) (m : Image) → ImageFits m → (k : ℕ) → getD (bytesOf little m) (recordSize * count m + k) 0 ≡ getD (m .pool) k 0
+pub pool-byte : (little : Bool) (m : Image) → ImageFits m → (k : ℕ)
+    → getD (bytesOf little m) (recordSize * count m + k) 0 ≡ getD (m .pool) k 0
 pool-byte little m f k =
     sym (getD-drop (recordSize * count m) (bytesOf little m) k 0) ∙ ap (λ l. getD l k 0) (pool-behind little m (fit-counted (m .records) (f .records)))
 

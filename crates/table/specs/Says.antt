@@ -73,7 +73,8 @@ mutual
         → NameIs bs count a b name
         → SaysValue bs count c v
         → SaysAttributes bs count d more
-        → SaysAttributes bs count n (Constraints.attribute (record { number = n; existence = flag; name = name }) v more)
+        → SaysAttributes bs count n
+        (Constraints.attribute (record { number = n; existence = flag; name = name }) v more)
 
   pub data SaysValue (bs : List ℕ) (count : ℕ) : ℕ → Value → Type 0 where
     anything : SaysValue bs count 0 Constraints.any

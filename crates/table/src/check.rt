@@ -85,7 +85,8 @@ fn check_records(table: &[u8], frame: Frame) -> CheckAnswer
     requires { ⌜ Opened (now table) frame ⌝ }
     ensures { λ r. ⌜ faultOf r
         ≡ brokenRecord
-        (broken (imageOf (now (table .entry))) 1 (imageOf (now (table .entry)) .records) (drop recordSize (now (table .entry)))) ⌝ }
+        (broken (imageOf (now (table .entry))) 1 (imageOf (now (table .entry)) .records)
+        (drop recordSize (now (table .entry)))) ⌝ }
 {
     let count = frame.count;
     let mut n: u32 = 1;

@@ -28,7 +28,8 @@ module _ (bs : List ℕ) (n : ℕ) (s : Shifts) (from : ℕ) (e : Entry) (at : f
 
   pub record-copied : (little : Bool) (out x : List ℕ) (m : Entry) (k to : ℕ) → recordOf m ≡ moved s (recordOf e)
       → k ≡ s .records + n → to ≡ recordSize * k
-      → x ≡ sets out to (encode little (recordOf m)) → x ≡ sets out (recordSize * (s .records + n)) (encode little (moved s (recordIn bs n)))
+      → x ≡ sets out to (encode little (recordOf m))
+      → x ≡ sets out (recordSize * (s .records + n)) (encode little (moved s (recordIn bs n)))
   record-copied little out x m k to p q t w =
       (rw (t, q) at w) ∙ ap (λ r. sets out (recordSize * (s .records + n)) (encode little r)) (p ∙ ap (moved s) entry-is)
 
@@ -37,7 +38,8 @@ abbrev pub left : List ℕ → ℕ → Shifts → Bool → ℕ → List ℕ → 
 left bs count s little n out = sets out (recordSize * (s .records + n)) (encodes little (map (moved s) (decodes (count - n) (drop (recordSize * n) bs))))
 
 -- the records below n are written: with those that are left the output is what it is to be
-pub record InCopy (bs : List ℕ) (count : ℕ) (s : Shifts) (little : Bool) (was : List ℕ) (n : ℕ) (out : List ℕ) : Type 0 where
+pub record InCopy (bs : List ℕ) (count : ℕ) (s : Shifts) (little : Bool) (was : List ℕ) (n : ℕ)
+    (out : List ℕ) : Type 0 where
   pub copying : Copying bs count s was
   pub least : 1 ≤ n
   pub same : length out ≡ length was
@@ -56,7 +58,9 @@ module _ {bs : List ℕ} {count : ℕ} {s : Shifts} {little : Bool} {was : List 
 
   -- one record less is left
   one-less : n < count
-      → left bs count s little n out ≡ left bs count s little (n + 1) (sets out (recordSize * (s .records + n)) (encode little (moved s (recordIn bs n))))
+      → left bs count s little n out
+      ≡ left bs count s little (n + 1)
+      (sets out (recordSize * (s .records + n)) (encode little (moved s (recordIn bs n))))
   one-less l =
       let r = moved s (recordIn bs n) in
       let k = count - (n + 1) in

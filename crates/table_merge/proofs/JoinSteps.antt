@@ -24,7 +24,9 @@ use Rattle.lexis.proofs.Stores.{sets-behind}
 -- the header, with the root that was read
 pub header-written : (bs out x : List ℕ) (little : Bool) (count pool : ℕ) (h m : Entry)
     → recordOf h ≡ decode (take recordSize bs) → m ≡ plainEntry 0 0
-    → x ≡ sets out 0 (encode little (recordOf (record { kind = m .kind; flag = m .flag; a = count; b = pool; c = h .c; d = m .d; e = m .e })))
+    → x ≡ sets out 0
+    (encode little
+    (recordOf (record { kind = m .kind; flag = m .flag; a = count; b = pool; c = h .c; d = m .d; e = m .e })))
     → x ≡ sets out 0 (encode little (headerWith count pool (field (header bs) 2)))
 header-written bs out x little count pool h m e g w =
     w ∙ λ i. sets out 0 (encode little (record { kind = g i .kind; flag = g i .flag; fields = count ∷ pool ∷ field (e i) 2 ∷ g i .d ∷ g i .e ∷ [] }))
@@ -109,10 +111,15 @@ module _ {first second : List ℕ} {x y : Frame} (j : Joinable first second x y)
 
   -- the header, the first table's records and the second's
   pub records-written : (little : Bool) (out o1 o2 o3 : List ℕ)
-      → o1 ≡ sets out 0 (encode little (headerWith (x .count - 1 + y .count) (x .pool + y .pool) (field (header first) 2)))
-      → o2 ≡ sets o1 recordSize (encodes little (map (moved (shifts 0 0)) (decodes (x .count - 1) (drop recordSize first))))
-      → o3 ≡ sets o2 (recordSize * (x .count - 1 + 1)) (encodes little (map (moved (shifts (x .count - 1) (x .pool))) (decodes (y .count - 1) (drop recordSize second))))
-      → o3 ≡ sets out 0 (encode little (headerOf (merged (imageOf first) (imageOf second))) ++ encodes little (merged (imageOf first) (imageOf second) .records))
+      → o1 ≡ sets out 0
+      (encode little (headerWith (x .count - 1 + y .count) (x .pool + y .pool) (field (header first) 2)))
+      → o2 ≡ sets o1 recordSize
+      (encodes little (map (moved (shifts 0 0)) (decodes (x .count - 1) (drop recordSize first))))
+      → o3 ≡ sets o2 (recordSize * (x .count - 1 + 1))
+      (encodes little (map (moved (shifts (x .count - 1) (x .pool))) (decodes (y .count - 1) (drop recordSize second))))
+      → o3 ≡ sets out 0
+      (encode little (headerOf (merged (imageOf first) (imageOf second)))
+      ++ encodes little (merged (imageOf first) (imageOf second) .records))
   unfolding merged
   records-written little out o1 o2 o3 e1 e2 e3 =
       let X = imageOf first in
@@ -134,7 +141,8 @@ module _ {first second : List ℕ} {x y : Frame} (j : Joinable first second x y)
   -- the pools, one behind the other
   pub pools-written : (out o1 o2 : List ℕ) (f1 t1 f2 t2 : ℕ) → f1 ≡ recordSize * x .count + 0
       → t1 ≡ recordSize * (x .count - 1 + y .count) + 0 → o1 ≡ sets out t1 (drop f1 first)
-      → f2 ≡ recordSize * y .count + 0 → t2 ≡ recordSize * (x .count - 1 + y .count) + x .pool → o2 ≡ sets o1 t2 (drop f2 second)
+      → f2 ≡ recordSize * y .count + 0 → t2 ≡ recordSize * (x .count - 1 + y .count) + x .pool
+      → o2 ≡ sets o1 t2 (drop f2 second)
       → o2 ≡ sets out (recordSize * (x .count - 1 + y .count)) (merged (imageOf first) (imageOf second) .pool)
   unfolding merged
   pools-written out o1 o2 f1 t1 f2 t2 a b e1 c d e2 =
@@ -150,7 +158,9 @@ module _ {first second : List ℕ} {x y : Frame} (j : Joinable first second x y)
 
   -- records and pool make up the table
   pub joined-written : (little : Bool) (out o1 o2 : List ℕ)
-      → o1 ≡ sets out 0 (encode little (headerOf (merged (imageOf first) (imageOf second))) ++ encodes little (merged (imageOf first) (imageOf second) .records))
+      → o1 ≡ sets out 0
+      (encode little (headerOf (merged (imageOf first) (imageOf second)))
+      ++ encodes little (merged (imageOf first) (imageOf second) .records))
       → o2 ≡ sets o1 (recordSize * (x .count - 1 + y .count)) (merged (imageOf first) (imageOf second) .pool)
       → o2 ≡ sets out 0 (bytesOf little (merged (imageOf first) (imageOf second)))
   unfolding bytesOf

@@ -58,12 +58,14 @@ table-reads {bs} {size} {pool} {root} t =
     }
 
 -- the records and the pool of a merge
-kept-record : (x y : Image) (d : Record) (n : ℕ) → n < length (x .records) → getD (merged x y .records) n d ≡ getD (x .records) n d
+kept-record : (x y : Image) (d : Record) (n : ℕ) → n < length (x .records)
+    → getD (merged x y .records) n d ≡ getD (x .records) n d
 unfolding merged
 kept-record x y d n l = List·getD-append (x .records) _ d n l
 
 moved-record : (x y : Image) (d : Record) (n : ℕ)
-    → getD (merged x y .records) (length (x .records) + n) (moved (shiftsBy x) d) ≡ moved (shiftsBy x) (getD (y .records) n d)
+    → getD (merged x y .records) (length (x .records) + n) (moved (shiftsBy x) d)
+    ≡ moved (shiftsBy x) (getD (y .records) n d)
 unfolding merged
 moved-record x y d n = getD-append-add (x .records) _ n _ ∙ List·getD-map (moved (shiftsBy x)) (y .records) n d
 
@@ -130,7 +132,8 @@ module _ {first second : List ℕ} {z : Sizes} (t : BothTables first second z) w
           rw e at (written-holds little (merged x y) joined-fits r (suc n) (omega (arith, count-merged x y)))
 
       moved-holds : (n : ℕ) (order : Bool) (r : Record) → 1 ≤ n → n < z .count₂ → Holds second n order r
-          → Holds (joinedOf first second little) (n + (z .count₁ - 1)) little (moved (shifts (z .count₁ - 1) (z .pool₁)) r)
+          → Holds (joinedOf first second little) (n + (z .count₁ - 1)) little
+          (moved (shifts (z .count₁ - 1) (z .pool₁)) r)
       moved-holds zero order r low below h = absurd (omega arith)
       moved-holds (suc n) order r low below h =
           let x = imageOf first in

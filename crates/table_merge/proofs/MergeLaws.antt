@@ -108,7 +108,8 @@ step-moved s i (suc x) = rw eqb·suc-zero (omega arith)
 module _ (x : Image) (Q : List ℕ) where
   -- a field of the second table, moved, means what it meant
   part-moved : (i : ℕ) (u : Use) (f next was : ℕ) → Same u next was
-      → partOf (x .pool ++ Q) (ListN.length (x .records) + i) u (movedField (shiftsBy x) u f was) next ≡ partOf Q i u f was
+      → partOf (x .pool ++ Q) (ListN.length (x .records) + i) u (movedField (shiftsBy x) u f was) next
+      ≡ partOf Q i u f was
   part-moved i unnamed f next was h = refl
   part-moved i (place least most) f next was h = rw (h refl) (ap name (name-moved (x .pool) Q f was))
   part-moved i length f next was h = refl

@@ -69,7 +69,8 @@ module _ (q : MergeRequest) (room : ℕ) where
       (λ large. denied (MergeRefuses.pool t few large)))
       (λ many. denied (MergeRefuses.records t many))
 
-  judged-second : {count pool root : ℕ} → IsTable (q .first) count pool root → (f : Option Refusal) → tableFault (q .second) ≡ f → Judged q room
+  judged-second : {count pool root : ℕ} → IsTable (q .first) count pool root → (f : Option Refusal)
+      → tableFault (q .second) ≡ f → Judged q room
   judged-second {count} {pool} {root} t none e =
       let v = passes (q .second) .0 e in
       judged-both (record { count₁ = count; pool₁ = pool; root₁ = root; count₂ = v .0; pool₂ = v .1; root₂ = v .2 }) (record { first = t; second = v .3 })
@@ -93,11 +94,13 @@ module _ (q : MergeRequest) (out : List ℕ) where
   denied-refused h = ap (λ o. write o out .answer) (refuses-so q (length out) h)
 
   -- and nothing else
-  gave-done : (m : MergeReport) → Judged q (length out) → mergeAnswer q out .answer ≡ gave m → (z : Sizes) × Merges q (length out) z m
+  gave-done : (m : MergeReport) → Judged q (length out) → mergeAnswer q out .answer ≡ gave m
+      → (z : Sizes) × Merges q (length out) z m
   gave-done m (done {z} h) e = (z, subst (Merges q (length out) z) (same-given (sym (done-gave h) ∙ e)) h)
   gave-done m (denied h) e = absurd (not-gave (sym (denied-refused h) ∙ e))
 
-  refused-denied : (r : MergeRefusal) → Judged q (length out) → mergeAnswer q out .answer ≡ refused r → MergeRefuses q (length out) r
+  refused-denied : (r : MergeRefusal) → Judged q (length out) → mergeAnswer q out .answer ≡ refused r
+      → MergeRefuses q (length out) r
   refused-denied r (done h) e = absurd (not-gave (sym e ∙ done-gave h))
   refused-denied r (denied h) e = subst (MergeRefuses q (length out)) (same-refusal (sym (denied-refused h) ∙ e)) h
 
@@ -113,7 +116,8 @@ merge-refused q out r = (refused-denied q out r (judged q out), denied-refused q
 
 -- and where it is done, the table that they describe stands in front of the output
 pub merge-written : (q : MergeRequest) (out : List ℕ) (z : Sizes) (m : MergeReport) → Merges q (length out) z m
-    → (joined : List ℕ) × IsMerged (q .first) (q .second) (q .little) z joined × (mergeAnswer q out .out ≡ joined ++ drop (length joined) out)
+    → (joined : List ℕ) × IsMerged (q .first) (q .second) (q .little) z joined
+    × (mergeAnswer q out .out ≡ joined ++ drop (length joined) out)
 unfolding mergeAnswer
 merge-written q out z m h = (
   joinedOf (q .first) (q .second) (q .little),

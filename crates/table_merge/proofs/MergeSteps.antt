@@ -64,7 +64,8 @@ module _ (first second : List ℕ) (x y : Frame) (little : Bool) (out : List ℕ
 
       pub join-done : (o : List ℕ) (l : ℕ) → l ≡ joinedLength x y → l ≤ length out
           → o ≡ sets out 0 (bytesOf little (merged (imageOf first) (imageOf second)))
-          → answered (gave (report l (shifts (x .count - 1) (x .pool)))) o ≡ write (join (imageOf first) (imageOf second) little (length out)) out
+          → answered (gave (report l (shifts (x .count - 1) (x .pool)))) o
+          ≡ write (join (imageOf first) (imageOf second) little (length out)) out
       unfolding join
       join-done o l t h w =
           let bs = bytesOf little (merged (imageOf first) (imageOf second)) in

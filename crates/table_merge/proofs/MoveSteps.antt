@@ -30,20 +30,24 @@ module _ (t x y : ℕ) where
 module _ (records pool : ℕ) (r : Entry) where
   pub object-moved : (a c e : ℕ) → a ≡ movedPlace pool (r .a) (r .b) → c ≡ movedPlace pool (r .c) (r .d)
       → e ≡ movedLink records (r .e)
-      → recordOf (record { kind = r .kind; flag = r .flag; a = a; b = r .b; c = c; d = r .d; e = e }) ≡ movedAs (shifts records pool) object (recordOf r)
+      → recordOf (record { kind = r .kind; flag = r .flag; a = a; b = r .b; c = c; d = r .d; e = e })
+      ≡ movedAs (shifts records pool) object (recordOf r)
   object-moved a c e p q t = rw (p, q, t)
 
   pub attribute-moved : (a c d : ℕ) → a ≡ movedPlace pool (r .a) (r .b) → c ≡ movedLink records (r .c)
       → d ≡ movedLink records (r .d)
-      → recordOf (record { kind = r .kind; flag = r .flag; a = a; b = r .b; c = c; d = d; e = r .e }) ≡ movedAs (shifts records pool) attribute (recordOf r)
+      → recordOf (record { kind = r .kind; flag = r .flag; a = a; b = r .b; c = c; d = d; e = r .e })
+      ≡ movedAs (shifts records pool) attribute (recordOf r)
   attribute-moved a c d p q t = rw (p, q, t)
 
   pub item-moved : (e : ℕ) → e ≡ movedLink records (r .e)
-      → recordOf (record { kind = r .kind; flag = r .flag; a = r .a; b = r .b; c = r .c; d = r .d; e = e }) ≡ movedAs (shifts records 0) (range integers) (recordOf r)
+      → recordOf (record { kind = r .kind; flag = r .flag; a = r .a; b = r .b; c = r .c; d = r .d; e = e })
+      ≡ movedAs (shifts records 0) (range integers) (recordOf r)
   item-moved e t = rw t
 
   pub string-moved : (a e : ℕ) → a ≡ movedPlace pool (r .a) (r .b) → e ≡ movedLink records (r .e)
-      → recordOf (record { kind = r .kind; flag = r .flag; a = a; b = r .b; c = r .c; d = r .d; e = e }) ≡ movedAs (shifts records pool) text (recordOf r)
+      → recordOf (record { kind = r .kind; flag = r .flag; a = a; b = r .b; c = r .c; d = r .d; e = e })
+      ≡ movedAs (shifts records pool) text (recordOf r)
   string-moved a e p t = rw (p, t)
 
 module _ (s : Shifts) (r : Entry) where

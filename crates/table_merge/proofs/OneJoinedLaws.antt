@@ -17,7 +17,8 @@ use Rattle.table_merge.specs.MergeRules.{Sizes, countOf, poolOf, BothTab
 use Rattle.table_merge.proofs.MoveRuleLaws.{moves-is, record-held}
 
 -- records that are the same one by one are the same together
-same-front : (c : ℕ) (a b : List ℕ) → ((n : ℕ) → n < c → take recordSize (drop (recordSize * n) a) ≡ take recordSize (drop (recordSize * n) b))
+same-front : (c : ℕ) (a b : List ℕ)
+    → ((n : ℕ) → n < c → take recordSize (drop (recordSize * n) a) ≡ take recordSize (drop (recordSize * n) b))
     → take (recordSize * c) a ≡ take (recordSize * c) b
 same-front zero a b f = refl
 same-front (suc c) a b f =
@@ -50,7 +51,8 @@ module _ (first second : List ℕ) (little : Bool) (z : Sizes) (t : BothTables f
       (kept-fixed (suc n) (omega arith))
 
   -- so is a byte of the pool
-  byte-fixed : (k : ℕ) → k < poolOf z → (b : ℕ) × ((a : List ℕ) → IsMerged first second little z a → getD a (recordSize * countOf z + k) 0 ≡ b)
+  byte-fixed : (k : ℕ) → k < poolOf z
+      → (b : ℕ) × ((a : List ℕ) → IsMerged first second little z a → getD a (recordSize * countOf z + k) 0 ≡ b)
   byte-fixed k l =
       let e = t .first .frame .sized in
       let g = t .second .frame .sized in
@@ -65,7 +67,8 @@ module _ (first second : List ℕ) (little : Bool) (z : Sizes) (t : BothTables f
       (getD first place 0, λ a m. byte-is a (recordSize * countOf z + k) _ (m .firstPool k _ below (byte-there first place (omega arith)))))
 
   -- and the bytes of a record
-  part-fixed : (a : List ℕ) → IsMerged first second little z a → (n : ℕ) (r : Record) → n < countOf z → Holds a n little r
+  part-fixed : (a : List ℕ) → IsMerged first second little z a → (n : ℕ) (r : Record) → n < countOf z
+      → Holds a n little r
       → take recordSize (drop (recordSize * n) a) ≡ encode little r
   part-fixed a m n r l h =
       let e = m .sized in

@@ -45,7 +45,8 @@ pub fn copy_records(
     requires { ⌜ Copying (now table) count (shifts (records .0) (pool .0)) (now out) ⌝ }
     ensures { λ _. ⌜ now (out .exit)
         ≡ sets (now (out .entry)) (recordSize * (records .0 + 1))
-        (encodes little (map (moved (shifts (records .0) (pool .0))) (decodes (count - 1) (drop recordSize (now (table .entry)))))) ⌝ }
+        (encodes little
+        (map (moved (shifts (records .0) (pool .0))) (decodes (count - 1) (drop recordSize (now (table .entry)))))) ⌝ }
 {
     let mut n: u32 = 1;
     while n < count {

@@ -50,7 +50,8 @@ fn write_records(first: &[u8], second: &[u8], x: Frame, y: Frame, little: bool, 
     requires { ⌜ joinedLength x y ≤ length (now out) ⌝ }
     ensures { λ _. ⌜ now (out .exit)
         ≡ sets (now (out .entry)) 0
-        (encode little (headerOf (merged (imageOf (now (first .entry))) (imageOf (now (second .entry))))) ++ encodes little (merged (imageOf (now (first .entry))) (imageOf (now (second .entry))) .records)) ⌝ }
+        (encode little (headerOf (merged (imageOf (now (first .entry))) (imageOf (now (second .entry)))))
+        ++ encodes little (merged (imageOf (now (first .entry))) (imageOf (now (second .entry))) .records)) ⌝ }
 {
     let records = x.count - 1;
     write_header(first, records + y.count, x.pool + y.pool, little, out);

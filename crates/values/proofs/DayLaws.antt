@@ -17,7 +17,8 @@ leap-by : (y : ℕ) → leap y ≡ true → Leap y
 unfolding leap
 leap-by y = go (eqb (y % 4) 0) (eqb (y % 100) 0) (eqb (y % 400) 0) refl refl refl
   where
-    go : (a b c : Bool) → eqb (y % 4) 0 ≡ a → eqb (y % 100) 0 ≡ b → eqb (y % 400) 0 ≡ c → (a && (not b || c)) ≡ true → Leap y
+    go : (a b c : Bool) → eqb (y % 4) 0 ≡ a → eqb (y % 100) 0 ≡ b → eqb (y % 400) 0 ≡ c → (a && (not b || c)) ≡ true
+        → Leap y
     go true false c p q r e = byFour (eqb-true (y % 4) 0 p) (eqb-false (y % 100) 0 q)
     go true true true p q r e = byFourHundred (eqb-true (y % 400) 0 r)
     go true true false p q r e = absurd (false≢true e)

@@ -46,7 +46,8 @@ unfolding all
 all-last [] b h e = rw e
 all-last (x ∷ w) b h e = rw (and-left (is digit x) (all (is digit) w) h) (all-last w b (and-right (is digit x) (all (is digit) w) h) e)
 
-say-behind : (v : List ℕ) (n : ℕ) (w : List ℕ) → DigitsSay v n → all (is digit) w ≡ true → DigitsSay (v ++ w) (valueOf n w)
+say-behind : (v : List ℕ) (n : ℕ) (w : List ℕ) → DigitsSay v n → all (is digit) w ≡ true
+    → DigitsSay (v ++ w) (valueOf n w)
 unfolding all valueOf
 say-behind v n [] s h = rw append-nil s
 say-behind v n (b ∷ w) s h =

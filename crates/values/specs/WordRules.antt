@@ -29,7 +29,8 @@ pub data PlainNumber : List ℕ → ℕ → Type 0 where
 -- an integer, as its distance from -2,147,483,648
 pub data IsInteger : List ℕ → ℕ → Type 0 where
   notNegative : {w : List ℕ} {n : ℕ} → PlainNumber w n → n ≤ 2_147_483_647 → IsInteger w (2_147_483_648 + n)
-  negative : {w : List ℕ} {n : ℕ} → PlainNumber w n → 1 ≤ n → n ≤ 2_147_483_648 → IsInteger (byte "-" ∷ w) (2_147_483_648 - n)
+  negative : {w : List ℕ} {n : ℕ} → PlainNumber w n → 1 ≤ n → n ≤ 2_147_483_648
+      → IsInteger (byte "-" ∷ w) (2_147_483_648 - n)
 
 -- so many digits, and the number that they spell
 pub data Fixed (size : ℕ) : List ℕ → ℕ → Type 0 where
@@ -53,7 +54,8 @@ pub data IsZone : List ℕ → Type 0 where
   none : IsZone []
   utc : IsZone (bytes "Z")
   eastHours : {h : List ℕ} {hours : ℕ} → UpTo 13 h hours → IsZone (byte "+" ∷ h)
-  east : {h m : List ℕ} {hours minutes : ℕ} → UpTo 13 h hours → UpTo 59 m minutes → IsZone (byte "+" ∷ (h ++ (byte ":" ∷ m)))
+  east : {h m : List ℕ} {hours minutes : ℕ} → UpTo 13 h hours → UpTo 59 m minutes
+      → IsZone (byte "+" ∷ (h ++ (byte ":" ∷ m)))
   westHours : {h : List ℕ} {hours : ℕ} → UpTo 12 h hours → hours ≢ 0 → IsZone (byte "-" ∷ h)
   west : {h m : List ℕ} {hours minutes : ℕ} → UpTo 12 h hours → UpTo 59 m minutes → hours + minutes ≢ 0
       → IsZone (byte "-" ∷ (h ++ (byte ":" ∷ m)))
@@ -61,7 +63,8 @@ pub data IsZone : List ℕ → Type 0 where
 -- a time, and how many of its parts are there
 pub data IsTime : List ℕ → ℕ → Type 0 where
   hour : {h z : List ℕ} {hours : ℕ} → UpTo 23 h hours → IsZone z → IsTime (h ++ z) 1
-  minute : {h m z : List ℕ} {hours minutes : ℕ} → UpTo 23 h hours → UpTo 59 m minutes → IsZone z → IsTime (h ++ (byte ":" ∷ (m ++ z))) 2
+  minute : {h m z : List ℕ} {hours minutes : ℕ} → UpTo 23 h hours → UpTo 59 m minutes → IsZone z
+      → IsTime (h ++ (byte ":" ∷ (m ++ z))) 2
   second : {h m s z : List ℕ} {hours minutes seconds : ℕ} → UpTo 23 h hours → UpTo 59 m minutes → UpTo 59 s seconds
       → IsZone z
       → IsTime (h ++ (byte ":" ∷ (m ++ (byte ":" ∷ (s ++ z))))) 3

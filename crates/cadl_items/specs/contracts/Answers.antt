@@ -89,6 +89,7 @@ LeafPast s number from scratch (leafRead.Ranges sort count next) = Listed s numb
 LeafPast s number from scratch (leafRead.Strings count next) = StringsLeft s number from scratch count next
 
 -- the answer and the scratch are the reading; nothing is said of the scratch after a refusal, for a leaf of one record, or behind the items
-pub record LeafIs (s : List ℕ) (number from : ℕ) (reading : Reading Leaf) (scratch : List ℕ) (r : LeafRead) : Type 0 where
+pub record LeafIs (s : List ℕ) (number from : ℕ) (reading : Reading Leaf) (scratch : List ℕ)
+    (r : LeafRead) : Type 0 where
   pub is : leafReading s number scratch r ≡ reading
   pub past : LeafPast s number from scratch r

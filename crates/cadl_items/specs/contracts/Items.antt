@@ -106,7 +106,8 @@ RangePast s number count (rangeRead.More kind next) = (count < itemLimit) × (nu
 pub record Kept (count : ℕ) (before after : List ℕ) : Type 0 where
   pub same : (j : ℕ) → j < 2 * count → getD after j 0 ≡ getD before j 0
 
-pub record RangeIs (s : List ℕ) (number count : ℕ) (reading : Reading Ranges) (before after : List ℕ) (r : RangeRead) : Type 0 where
+pub record RangeIs (s : List ℕ) (number count : ℕ) (reading : Reading Ranges) (before after : List ℕ)
+    (r : RangeRead) : Type 0 where
   pub is : rangeReading s number count after r ≡ reading
   pub kept : Kept count before after
   pub past : RangePast s number count r
@@ -176,7 +177,8 @@ StringPast s number count scratch (stringRead.Faulty x) = Unit {0}
 StringPast s number count scratch (stringRead.Last next) = StringKept s number count scratch next
 StringPast s number count scratch (stringRead.More next) = StringKept s number count scratch next
 
-pub record StringIs (s : List ℕ) (number count : ℕ) (reading : Reading (List Text)) (before after : List ℕ) (r : StringRead) : Type 0 where
+pub record StringIs (s : List ℕ) (number count : ℕ) (reading : Reading (List Text)) (before after : List ℕ)
+    (r : StringRead) : Type 0 where
   pub is : stringReading s number count after r ≡ reading
   pub kept : Kept count before after
   pub past : StringPast s number count after r

@@ -34,7 +34,8 @@ use Rattle.compile.specs.declared.CompileResult.{CompileResult}
 use Rattle.compile.specs.declared.CompileResult.the-variants as result
 
 -- what reading a tree answers and writes, and the names of the objects around it, so many, which stay as they were
-pub record TreeIs (top : ℕ) (names names' : List ℕ) (result : Wrote TreeRead) (rs bs : List ℕ) (r : TreeRead) : Type 0 where
+pub record TreeIs (top : ℕ) (names names' : List ℕ) (result : Wrote TreeRead) (rs bs : List ℕ)
+    (r : TreeRead) : Type 0 where
   pub is : wrote r rs bs ≡ result
   pub kept : Kept top names names'
 
@@ -46,7 +47,9 @@ pub record Stacked (s : List ℕ) (p : Spot) (top : ℕ) : Type 0 where
 -- the `}` of an object behind its `*`: nothing more is written
 pub record EndIs (s : List ℕ) (p : Spot) (from : ℕ) (r : TreeRead) : Type 0 where
   pub is : (little : Bool) (rs bs : List ℕ)
-      → wrote r rs bs ≡ written attributesTable attributePool little p rs bs (readThen (expect s closeBrace from) (λ u at. got noMore at))
+      → wrote r rs bs
+      ≡ written attributesTable attributePool little p rs bs
+      (readThen (expect s closeBrace from) (λ u at. got noMore at))
 
 -- what reading an attribute answers and writes
 unfoldable pub attributeWritten : List ℕ → Bool → Spot → List ℕ → List ℕ → Reading Attribute → Wrote AttributeRead
@@ -66,8 +69,10 @@ pub record Pushed (s names : List ℕ) (top : ℕ) (w : List ℕ) : Type 0 where
   pub is : spanAt s names top ≡ w
   pub lies : Within s (firstOf names top) (secondOf names top)
 
-pub record AttributeIs (s : List ℕ) (little : Bool) (levels : ℕ) (p : Spot) (first top : ℕ) (names rs bs names' rs' bs' : List ℕ) (r : AttributeRead) : Type 0 where
-  pub is : attributeWrote r rs' bs' ≡ attributeWritten s little p rs bs (attributeFrom s levels (earlier s names first top) (p .next) (p .place))
+pub record AttributeIs (s : List ℕ) (little : Bool) (levels : ℕ) (p : Spot) (first top : ℕ)
+    (names rs bs names' rs' bs' : List ℕ) (r : AttributeRead) : Type 0 where
+  pub is : attributeWrote r rs' bs'
+      ≡ attributeWritten s little p rs bs (attributeFrom s levels (earlier s names first top) (p .next) (p .place))
   pub kept : Kept top names names'
   pub pushed : (a : Attribute) (at : ℕ)
       → attributeFrom s levels (earlier s names first top) (p .next) (p .place) ≡ got a at

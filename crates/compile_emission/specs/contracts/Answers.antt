@@ -82,7 +82,8 @@ abbrev pub linkBelow : ℕ → ℕ → ℕ
 linkBelow n end = cond (ltb n end) n 0
 
 -- records put from a spot on, with so many bytes in the pool: the answer is the spot behind them
-pub record Puts (little : Bool) (p : Spot) (place : ℕ) (table : List Record) (size : ℕ) (before after : List ℕ) (r : TreeRead) : Type 0 where
+pub record Puts (little : Bool) (p : Spot) (place : ℕ) (table : List Record) (size : ℕ) (before after : List ℕ)
+    (r : TreeRead) : Type 0 where
   pub answer : r ≡ Read (spot place (p .next + length table) (p .pool + size))
   pub records : after ≡ sets before (recordSize * p .next) (encodes little table)
 
@@ -114,7 +115,8 @@ pub record TextsRoom (s : List ℕ) (p : Spot) (scratch : List ℕ) (count : ℕ
   pub bytes : p .pool + length (textPool (itemsFrom (textAt s scratch) (p .next) 0 count)) ≤ poolLimit
 
 -- their records and bytes
-pub record TextsPut (s : List ℕ) (little : Bool) (p : Spot) (scratch : List ℕ) (count place : ℕ) (rs bs rs' bs' : List ℕ) (r : TreeRead) : Type 0 where
+pub record TextsPut (s : List ℕ) (little : Bool) (p : Spot) (scratch : List ℕ) (count place : ℕ)
+    (rs bs rs' bs' : List ℕ) (r : TreeRead) : Type 0 where
   pub puts : Puts little p place (stringRecords (p .pool) (itemsFrom (textAt s scratch) (p .next) 0 count))
       (length (textPool (itemsFrom (textAt s scratch) (p .next) 0 count))) rs rs' r
   pub bytes : bs' ≡ sets bs (p .pool) (textPool (itemsFrom (textAt s scratch) (p .next) 0 count))
@@ -132,7 +134,8 @@ abbrev pub objectRow : List ℕ → List ℕ → ℕ → ℕ → Record
 objectRow t c pool first = make objectKind 0 (placeFor t pool ∷ length t ∷ placeFor c (pool + length t) ∷ length c ∷ first ∷ [])
 
 -- its record and its names are written
-pub record ObjectPut (t c : List ℕ) (little : Bool) (p : Spot) (place : ℕ) (any : Bool) (rs bs rs' bs' : List ℕ) (r : Spot) : Type 0 where
+pub record ObjectPut (t c : List ℕ) (little : Bool) (p : Spot) (place : ℕ) (any : Bool) (rs bs rs' bs' : List ℕ)
+    (r : Spot) : Type 0 where
   pub spot : r ≡ spot place (p .next + 1) (p .pool + length t + length c)
   pub records : rs' ≡ sets rs (recordSize * p .next) (encode little (objectRow t c (p .pool) (firstLink any (p .next))))
   pub bytes : bs' ≡ sets bs (p .pool) (t ++ c)
@@ -144,7 +147,8 @@ pub record NameRoom (s : List ℕ) (p : Spot) (start end top : ℕ) : Type 0 whe
   pub records : p .next < recordLimit
   pub few : top ≤ p .next
 
-pub record NameKept (w : List ℕ) (p : Spot) (place start end top : ℕ) (bs names bs' names' : List ℕ) (r : Spot) : Type 0 where
+pub record NameKept (w : List ℕ) (p : Spot) (place start end top : ℕ) (bs names bs' names' : List ℕ)
+    (r : Spot) : Type 0 where
   pub spot : r ≡ spot place (p .next + 1) (p .pool + length w)
   pub bytes : bs' ≡ sets bs (p .pool) w
   pub stack : names' ≡ withItem names top start end
@@ -179,7 +183,8 @@ closedAttribute s little p flag w q rs bs (got t at) = record {
   bytes = bs;
 }
 
-pub record CloseIs (s : List ℕ) (little : Bool) (p : Spot) (flag : ℕ) (w : List ℕ) (q : Spot) (rs rs' : List ℕ) (r : AttributeRead) : Type 0 where
+pub record CloseIs (s : List ℕ) (little : Bool) (p : Spot) (flag : ℕ) (w : List ℕ) (q : Spot) (rs rs' : List ℕ)
+    (r : AttributeRead) : Type 0 where
   pub is : (bs : List ℕ)
       → attributeWrote r rs' bs ≡ closedAttribute s little p flag w q rs bs (expect s closeBrace (q .place))
 

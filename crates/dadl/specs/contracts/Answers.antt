@@ -135,7 +135,8 @@ DataLeafPast holds place start end s from (content.Block p a e next) = ⊥
 
 pub record LeafEnds (s : List ℕ) (holds place start end from : ℕ) (r : ContentStart) : Type 0 where
   pub is : (down : Down)
-      → contentReading down r ≡ Reading.readThen (firstIn (expectData s greater from)) (λ u p. got (leafOf holds place (span start end)) p)
+      → contentReading down r
+      ≡ Reading.readThen (firstIn (expectData s greater from)) (λ u p. got (leafOf holds place (span start end)) p)
   pub past : DataLeafPast holds place start end s from r
 
 -- a place of the text up to another, behind it
@@ -279,8 +280,10 @@ pub record MemberRoom (s : List ℕ) (levels : ℕ) (t : Token) (n : ℕ) (tape 
   pub few : 4 * n + levels + 1 ≤ t .start + levelLimit
   pub long : rowSize * (length s + 20) ≤ 4 * length tape
 
-pub record MemberIs (s : List ℕ) (levels : ℕ) (t : Token) (first n : ℕ) (before after : List ℕ) (r : MemberRead) : Type 0 where
-  pub is : memberWrote r after ≡ memberWritten s t n before (memberReading s (earlierNames s before first n) t (blockFrom s levels))
+pub record MemberIs (s : List ℕ) (levels : ℕ) (t : Token) (first n : ℕ) (before after : List ℕ)
+    (r : MemberRead) : Type 0 where
+  pub is : memberWrote r after
+      ≡ memberWritten s t n before (memberReading s (earlierNames s before first n) t (blockFrom s levels))
 
 -- what reading members from row n on answers, and their rows on the tape
 abbrev pub rowsWrote : RowsRead → List ℕ → RowsWrote RowsRead
@@ -301,7 +304,8 @@ abbrev pub RowsPast : List ℕ → ℕ → ℕ → RowsRead → Type 0
 RowsPast s from n (Refused x) = Unit {0}
 RowsPast s from n (Read rows place) = (n ≤ rows) × (4 * rows + from + 1 ≤ 4 * n + place) × (place ≤ length s)
 
-pub record RowsIs (s : List ℕ) (from n : ℕ) (before : List ℕ) (reading : Reading Entries) (after : List ℕ) (r : RowsRead) : Type 0 where
+pub record RowsIs (s : List ℕ) (from n : ℕ) (before : List ℕ) (reading : Reading Entries) (after : List ℕ)
+    (r : RowsRead) : Type 0 where
   pub is : rowsWrote r after ≡ entriesWritten n before reading
   pub past : RowsPast s from n r
 

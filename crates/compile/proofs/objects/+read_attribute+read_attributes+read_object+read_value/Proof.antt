@@ -156,7 +156,8 @@ read-attribute-enum-known-q : (t : ℕ)
 read-attribute-enum-known-q t c = search needs
 
 read-attribute-close-attribute-requires :
-    (t : ℕ) → read-attribute-lts.Need-close-attribute-requires (read-attribute-calls t) (read-attribute-at t) read-attribute.Post
+    (t : ℕ) → read-attribute-lts.Need-close-attribute-requires (read-attribute-calls t)
+    (read-attribute-at t) read-attribute.Post
 read-attribute-close-attribute-requires t c κs =
     let pre = c .before .before .before .before .before .before .before .before .before .before .before .before .before .before .before .before .before .before .pre .1 in
     let e = c .before .before .before .before .before .before .before .before .before .before .before .before .before .before .attribute-head .ensures in
@@ -186,43 +187,53 @@ abbrev read-attributes-μ-loop : read-attributes-lts.MeasureT-loop
 read-attributes-μ-loop s little levels first records₀ bytes₀ names₀ q₀ top₀ records bytes names q top = length s - q .place
 
 read-attributes-loop-holds : (t : ℕ)
-    → read-attributes-lts.Need-loop-holds (read-attributes-calls t) (read-attributes-at t) read-attributes.Post read-attributes-Inv-loop read-attributes-μ-loop
+    → read-attributes-lts.Need-loop-holds (read-attributes-calls t)
+    (read-attributes-at t) read-attributes.Post read-attributes-Inv-loop read-attributes-μ-loop
 read-attributes-loop-holds t c = attributes-start _ _ _ _ _ _ (c .before .pre .1)
 
 read-attributes-read-attribute-requires :
-    (t : ℕ) → read-attributes-lts.Need-read-attribute-requires (read-attributes-calls t) (read-attributes-at t) read-attributes.Post read-attributes-Inv-loop read-attributes-μ-loop
+    (t : ℕ) → read-attributes-lts.Need-read-attribute-requires (read-attributes-calls t)
+    (read-attributes-at t) read-attributes.Post read-attributes-Inv-loop read-attributes-μ-loop
 read-attributes-read-attribute-requires t c κs = (search needs, search needs)
 
 read-attributes-enum-known-fault : (t : ℕ)
-    → read-attributes-lts.Need-enum-known-fault (read-attributes-calls t) (read-attributes-at t) read-attributes.Post read-attributes-Inv-loop read-attributes-μ-loop
+    → read-attributes-lts.Need-enum-known-fault (read-attributes-calls t)
+    (read-attributes-at t) read-attributes.Post read-attributes-Inv-loop read-attributes-μ-loop
 read-attributes-enum-known-fault t c = search needs
 
 read-attributes-returns : (t : ℕ)
-    → read-attributes-lts.Need-returns (read-attributes-calls t) (read-attributes-at t) read-attributes.Post read-attributes-Inv-loop read-attributes-μ-loop
+    → read-attributes-lts.Need-returns (read-attributes-calls t)
+    (read-attributes-at t) read-attributes.Post read-attributes-Inv-loop read-attributes-μ-loop
 read-attributes-returns t c = search attributes-not
 
 read-attributes-enum-known-behind : (t : ℕ)
-    → read-attributes-lts.Need-enum-known-behind (read-attributes-calls t) (read-attributes-at t) read-attributes.Post read-attributes-Inv-loop read-attributes-μ-loop
+    → read-attributes-lts.Need-enum-known-behind (read-attributes-calls t)
+    (read-attributes-at t) read-attributes.Post read-attributes-Inv-loop read-attributes-μ-loop
 read-attributes-enum-known-behind t c = search needs
 
 read-attributes-returns-2 : (t : ℕ)
-    → read-attributes-lts.Need-returns-2 (read-attributes-calls t) (read-attributes-at t) read-attributes.Post read-attributes-Inv-loop read-attributes-μ-loop
+    → read-attributes-lts.Need-returns-2 (read-attributes-calls t)
+    (read-attributes-at t) read-attributes.Post read-attributes-Inv-loop read-attributes-μ-loop
 read-attributes-returns-2 t c = search attributes-last
 
 read-attributes-enum-known-behind-2 : (t : ℕ)
-    → read-attributes-lts.Need-enum-known-behind-2 (read-attributes-calls t) (read-attributes-at t) read-attributes.Post read-attributes-Inv-loop read-attributes-μ-loop
+    → read-attributes-lts.Need-enum-known-behind-2 (read-attributes-calls t)
+    (read-attributes-at t) read-attributes.Post read-attributes-Inv-loop read-attributes-μ-loop
 read-attributes-enum-known-behind-2 t c = search needs
 
 read-attributes-add-top : (t : ℕ)
-    → read-attributes-lts.Need-add-top (read-attributes-calls t) (read-attributes-at t) read-attributes.Post read-attributes-Inv-loop read-attributes-μ-loop
+    → read-attributes-lts.Need-add-top (read-attributes-calls t)
+    (read-attributes-at t) read-attributes.Post read-attributes-Inv-loop read-attributes-μ-loop
 read-attributes-add-top t c = search (attributes-fits, needs)
 
 read-attributes-loop-less : (t : ℕ)
-    → read-attributes-lts.Need-loop-less (read-attributes-calls t) (read-attributes-at t) read-attributes.Post read-attributes-Inv-loop read-attributes-μ-loop
+    → read-attributes-lts.Need-loop-less (read-attributes-calls t)
+    (read-attributes-at t) read-attributes.Post read-attributes-Inv-loop read-attributes-μ-loop
 read-attributes-loop-less t c = search attributes-less
 
 read-attributes-loop-again : (t : ℕ)
-    → read-attributes-lts.Need-loop-again (read-attributes-calls t) (read-attributes-at t) read-attributes.Post read-attributes-Inv-loop read-attributes-μ-loop
+    → read-attributes-lts.Need-loop-again (read-attributes-calls t)
+    (read-attributes-at t) read-attributes.Post read-attributes-Inv-loop read-attributes-μ-loop
 read-attributes-loop-again t c =
     let inv = c .before .before .before .before .before .before .before .loop .inv in
     let d = c .before .before .before .read-attribute .ensures in

@@ -222,59 +222,73 @@ abbrev read-members-μ-loop : read-members-lts.MeasureT-loop
 read-members-μ-loop s levels from tape₀ n rows₀ t₀ tape rows t = length s + levelLimit - rows
 
 read-members-data-token-at-requires : (t : ℕ)
-    → read-members-lts.Need-data-token-at-requires (read-members-calls t) (read-members-at t) read-members.Post read-members-Inv-loop read-members-μ-loop
+    → read-members-lts.Need-data-token-at-requires (read-members-calls t)
+    (read-members-at t) read-members.Post read-members-Inv-loop read-members-μ-loop
 read-members-data-token-at-requires t c κs = search needs
 
 read-members-loop-holds : (t : ℕ)
-    → read-members-lts.Need-loop-holds (read-members-calls t) (read-members-at t) read-members.Post read-members-Inv-loop read-members-μ-loop
+    → read-members-lts.Need-loop-holds (read-members-calls t)
+    (read-members-at t) read-members.Post read-members-Inv-loop read-members-μ-loop
 read-members-loop-holds t c = search members-start
 
 read-members-same-length : (t : ℕ)
-    → read-members-lts.Need-same-length (read-members-calls t) (read-members-at t) read-members.Post read-members-Inv-loop read-members-μ-loop
+    → read-members-lts.Need-same-length (read-members-calls t)
+    (read-members-at t) read-members.Post read-members-Inv-loop read-members-μ-loop
 read-members-same-length t c = search needs
 
 read-members-returns : (t : ℕ)
-    → read-members-lts.Need-returns (read-members-calls t) (read-members-at t) read-members.Post read-members-Inv-loop read-members-μ-loop
+    → read-members-lts.Need-returns (read-members-calls t)
+    (read-members-at t) read-members.Post read-members-Inv-loop read-members-μ-loop
 read-members-returns t c = search members-close
 
 read-members-syntax-fault-requires : (t : ℕ)
-    → read-members-lts.Need-syntax-fault-requires (read-members-calls t) (read-members-at t) read-members.Post read-members-Inv-loop read-members-μ-loop
+    → read-members-lts.Need-syntax-fault-requires (read-members-calls t)
+    (read-members-at t) read-members.Post read-members-Inv-loop read-members-μ-loop
 read-members-syntax-fault-requires t c κs = search needs
 
 read-members-same-length-2 : (t : ℕ)
-    → read-members-lts.Need-same-length-2 (read-members-calls t) (read-members-at t) read-members.Post read-members-Inv-loop read-members-μ-loop
+    → read-members-lts.Need-same-length-2 (read-members-calls t)
+    (read-members-at t) read-members.Post read-members-Inv-loop read-members-μ-loop
 read-members-same-length-2 t c = search needs
 
 read-members-returns-2 : (t : ℕ)
-    → read-members-lts.Need-returns-2 (read-members-calls t) (read-members-at t) read-members.Post read-members-Inv-loop read-members-μ-loop
+    → read-members-lts.Need-returns-2 (read-members-calls t)
+    (read-members-at t) read-members.Post read-members-Inv-loop read-members-μ-loop
 read-members-returns-2 t c = search members-fault
 
 read-members-read-member-requires : (t : ℕ)
-    → read-members-lts.Need-read-member-requires (read-members-calls t) (read-members-at t) read-members.Post read-members-Inv-loop read-members-μ-loop
+    → read-members-lts.Need-read-member-requires (read-members-calls t)
+    (read-members-at t) read-members.Post read-members-Inv-loop read-members-μ-loop
 read-members-read-member-requires t c κs = (search needs, (search member-room, search member-earlier))
 
 read-members-enum-known-next : (t : ℕ)
-    → read-members-lts.Need-enum-known-next (read-members-calls t) (read-members-at t) read-members.Post read-members-Inv-loop read-members-μ-loop
+    → read-members-lts.Need-enum-known-next (read-members-calls t)
+    (read-members-at t) read-members.Post read-members-Inv-loop read-members-μ-loop
 read-members-enum-known-next t c = search needs
 
 read-members-loop-less : (t : ℕ)
-    → read-members-lts.Need-loop-less (read-members-calls t) (read-members-at t) read-members.Post read-members-Inv-loop read-members-μ-loop
+    → read-members-lts.Need-loop-less (read-members-calls t)
+    (read-members-at t) read-members.Post read-members-Inv-loop read-members-μ-loop
 read-members-loop-less t c = search member-less
 
 read-members-loop-again : (t : ℕ)
-    → read-members-lts.Need-loop-again (read-members-calls t) (read-members-at t) read-members.Post read-members-Inv-loop read-members-μ-loop
+    → read-members-lts.Need-loop-again (read-members-calls t)
+    (read-members-at t) read-members.Post read-members-Inv-loop read-members-μ-loop
 read-members-loop-again t c = search member-next
 
 read-members-enum-known-fault : (t : ℕ)
-    → read-members-lts.Need-enum-known-fault (read-members-calls t) (read-members-at t) read-members.Post read-members-Inv-loop read-members-μ-loop
+    → read-members-lts.Need-enum-known-fault (read-members-calls t)
+    (read-members-at t) read-members.Post read-members-Inv-loop read-members-μ-loop
 read-members-enum-known-fault t c = search needs
 
 read-members-same-length-3 : (t : ℕ)
-    → read-members-lts.Need-same-length-3 (read-members-calls t) (read-members-at t) read-members.Post read-members-Inv-loop read-members-μ-loop
+    → read-members-lts.Need-same-length-3 (read-members-calls t)
+    (read-members-at t) read-members.Post read-members-Inv-loop read-members-μ-loop
 read-members-same-length-3 t c = search needs
 
 read-members-returns-3 : (t : ℕ)
-    → read-members-lts.Need-returns-3 (read-members-calls t) (read-members-at t) read-members.Post read-members-Inv-loop read-members-μ-loop
+    → read-members-lts.Need-returns-3 (read-members-calls t)
+    (read-members-at t) read-members.Post read-members-Inv-loop read-members-μ-loop
 read-members-returns-3 t c = search member-not
 
 pub +read-block+read-member+read-members-spec : {M : Type 1} → statement M

@@ -89,39 +89,48 @@ abbrev judge-block-μ-loop : judge-block-lts.MeasureT-loop
 judge-block-μ-loop records pool s tape rows memo₀ visits₀ levels object block e visit n₀ memo visits n = left records n
 
 judge-block-entry-at-requires : (t : ℕ)
-    → judge-block-lts.Need-entry-at-requires (judge-block-calls t) (judge-block-at t) judge-block.Post judge-block-Inv-loop judge-block-μ-loop
+    → judge-block-lts.Need-entry-at-requires (judge-block-calls t)
+    (judge-block-at t) judge-block.Post judge-block-Inv-loop judge-block-μ-loop
 judge-block-entry-at-requires t c κs = search object-lies
 
 judge-block-type-suits-requires : (t : ℕ)
-    → judge-block-lts.Need-type-suits-requires (judge-block-calls t) (judge-block-at t) judge-block.Post judge-block-Inv-loop judge-block-μ-loop
+    → judge-block-lts.Need-type-suits-requires (judge-block-calls t)
+    (judge-block-at t) judge-block.Post judge-block-Inv-loop judge-block-μ-loop
 judge-block-type-suits-requires t c κs = (search object-name, search needs)
 
 judge-block-fails-requires : (t : ℕ)
-    → judge-block-lts.Need-fails-requires (judge-block-calls t) (judge-block-at t) judge-block.Post judge-block-Inv-loop judge-block-μ-loop
+    → judge-block-lts.Need-fails-requires (judge-block-calls t)
+    (judge-block-at t) judge-block.Post judge-block-Inv-loop judge-block-μ-loop
 judge-block-fails-requires t c κs = search needs
 
 judge-block-returns : (t : ℕ)
-    → judge-block-lts.Need-returns (judge-block-calls t) (judge-block-at t) judge-block.Post judge-block-Inv-loop judge-block-μ-loop
+    → judge-block-lts.Need-returns (judge-block-calls t)
+    (judge-block-at t) judge-block.Post judge-block-Inv-loop judge-block-μ-loop
 judge-block-returns t c = (search type-differs, search needs)
 
 judge-block-enter-requires : (t : ℕ)
-    → judge-block-lts.Need-enter-requires (judge-block-calls t) (judge-block-at t) judge-block.Post judge-block-Inv-loop judge-block-μ-loop
+    → judge-block-lts.Need-enter-requires (judge-block-calls t)
+    (judge-block-at t) judge-block.Post judge-block-Inv-loop judge-block-μ-loop
 judge-block-enter-requires t c κs = search visit-small
 
 judge-block-loop-holds : (t : ℕ)
-    → judge-block-lts.Need-loop-holds (judge-block-calls t) (judge-block-at t) judge-block.Post judge-block-Inv-loop judge-block-μ-loop
+    → judge-block-lts.Need-loop-holds (judge-block-calls t)
+    (judge-block-at t) judge-block.Post judge-block-Inv-loop judge-block-μ-loop
 judge-block-loop-holds t c = search attributes-start
 
 judge-block-is-admitted-requires : (t : ℕ)
-    → judge-block-lts.Need-is-admitted-requires (judge-block-calls t) (judge-block-at t) judge-block.Post judge-block-Inv-loop judge-block-μ-loop
+    → judge-block-lts.Need-is-admitted-requires (judge-block-calls t)
+    (judge-block-at t) judge-block.Post judge-block-Inv-loop judge-block-μ-loop
 judge-block-is-admitted-requires t c κs = search visit-near
 
 judge-block-may-visit-requires : (t : ℕ)
-    → judge-block-lts.Need-may-visit-requires (judge-block-calls t) (judge-block-at t) judge-block.Post judge-block-Inv-loop judge-block-μ-loop
+    → judge-block-lts.Need-may-visit-requires (judge-block-calls t)
+    (judge-block-at t) judge-block.Post judge-block-Inv-loop judge-block-μ-loop
 judge-block-may-visit-requires t c κs = search needs
 
 judge-block-judge-with-memo-requires : (t : ℕ)
-    → judge-block-lts.Need-judge-with-memo-requires (judge-block-calls t) (judge-block-at t) judge-block.Post judge-block-Inv-loop judge-block-μ-loop
+    → judge-block-lts.Need-judge-with-memo-requires (judge-block-calls t)
+    (judge-block-at t) judge-block.Post judge-block-Inv-loop judge-block-μ-loop
 judge-block-judge-with-memo-requires t c κs =
     let visited = c .before in
     let turn = visited .before .before .before .before .before .before in
@@ -132,20 +141,23 @@ judge-block-judge-with-memo-requires t c κs =
     (search falls, search under)
 
 judge-block-same-length : (t : ℕ)
-    → judge-block-lts.Need-same-length (judge-block-calls t) (judge-block-at t) judge-block.Post judge-block-Inv-loop judge-block-μ-loop
+    → judge-block-lts.Need-same-length (judge-block-calls t)
+    (judge-block-at t) judge-block.Post judge-block-Inv-loop judge-block-μ-loop
 judge-block-same-length t c =
     let turn = c .before .before .before .before .before .before .before .before in
     let lent = turn .before .before in
     turn .loop .inv .same ∙ lent .memo .given
 
 judge-block-returns-2 : (t : ℕ)
-    → judge-block-lts.Need-returns-2 (judge-block-calls t) (judge-block-at t) judge-block.Post judge-block-Inv-loop judge-block-μ-loop
+    → judge-block-lts.Need-returns-2 (judge-block-calls t)
+    (judge-block-at t) judge-block.Post judge-block-Inv-loop judge-block-μ-loop
 judge-block-returns-2 t c =
     let turn = c .before .before .before .before .before .before .before .before in
     (c .judge-with-memo .ensures, turn .loop .inv .known)
 
 judge-block-entry-at-requires-2 : (t : ℕ)
-    → judge-block-lts.Need-entry-at-requires-2 (judge-block-calls t) (judge-block-at t) judge-block.Post judge-block-Inv-loop judge-block-μ-loop
+    → judge-block-lts.Need-entry-at-requires-2 (judge-block-calls t)
+    (judge-block-at t) judge-block.Post judge-block-Inv-loop judge-block-μ-loop
 judge-block-entry-at-requires-2 t c κs =
     let tested = c .before .before .before .before in
     let sought = tested .before in
@@ -153,7 +165,8 @@ judge-block-entry-at-requires-2 t c κs =
     attribute-lies _ _ _ _ _ _ _ _ _ _ _ _ _ (turn .loop .inv) _ (sought .is-admitted .ensures) (tested .if2 .taken)
 
 judge-block-judge-attribute-requires : (t : ℕ)
-    → judge-block-lts.Need-judge-attribute-requires (judge-block-calls t) (judge-block-at t) judge-block.Post judge-block-Inv-loop judge-block-μ-loop
+    → judge-block-lts.Need-judge-attribute-requires (judge-block-calls t)
+    (judge-block-at t) judge-block.Post judge-block-Inv-loop judge-block-μ-loop
 judge-block-judge-attribute-requires t c κs =
     let read = c .before in
     let tested = read .before .before .before .before .before in
@@ -162,19 +175,23 @@ judge-block-judge-attribute-requires t c κs =
     (turn .loop .inv .under .walk, (attribute-at _ _ _ _ _ _ _ _ _ _ _ _ _ (turn .loop .inv) _ (sought .is-admitted .ensures) (tested .if2 .taken) _ (read .entry-at2 .ensures), (turn .loop .inv .under .good .begins, turn .loop .inv .known)))
 
 judge-block-enum-known-v : (t : ℕ)
-    → judge-block-lts.Need-enum-known-v (judge-block-calls t) (judge-block-at t) judge-block.Post judge-block-Inv-loop judge-block-μ-loop
+    → judge-block-lts.Need-enum-known-v (judge-block-calls t)
+    (judge-block-at t) judge-block.Post judge-block-Inv-loop judge-block-μ-loop
 judge-block-enum-known-v t c = search needs
 
 judge-block-enum-told : (t : ℕ)
-    → judge-block-lts.Need-enum-told (judge-block-calls t) (judge-block-at t) judge-block.Post judge-block-Inv-loop judge-block-μ-loop
+    → judge-block-lts.Need-enum-told (judge-block-calls t)
+    (judge-block-at t) judge-block.Post judge-block-Inv-loop judge-block-μ-loop
 judge-block-enum-told t c = search needs
 
 judge-block-loop-less : (t : ℕ)
-    → judge-block-lts.Need-loop-less (judge-block-calls t) (judge-block-at t) judge-block.Post judge-block-Inv-loop judge-block-μ-loop
+    → judge-block-lts.Need-loop-less (judge-block-calls t)
+    (judge-block-at t) judge-block.Post judge-block-Inv-loop judge-block-μ-loop
 judge-block-loop-less t c = search attribute-less
 
 judge-block-loop-again : (t : ℕ)
-    → judge-block-lts.Need-loop-again (judge-block-calls t) (judge-block-at t) judge-block.Post judge-block-Inv-loop judge-block-μ-loop
+    → judge-block-lts.Need-loop-again (judge-block-calls t)
+    (judge-block-at t) judge-block.Post judge-block-Inv-loop judge-block-μ-loop
 judge-block-loop-again t c =
     let told = c .before .before .before in
     let kept = told .before .before .before in
@@ -186,11 +203,13 @@ judge-block-loop-again t c =
     told-valid _ _ _ _ _ _ _ _ _ _ _ _ _ (turn .loop .inv) _ (sought .is-admitted .ensures) (tested .if2 .taken) _ (read .entry-at2 .ensures) _ (judged .judge-attribute .ensures .1) _ (judged .judge-attribute .ensures .0) (kept .memo2 .given) _ (told .v .given .1) (search needs)
 
 judge-block-enum-known-v-2 : (t : ℕ)
-    → judge-block-lts.Need-enum-known-v-2 (judge-block-calls t) (judge-block-at t) judge-block.Post judge-block-Inv-loop judge-block-μ-loop
+    → judge-block-lts.Need-enum-known-v-2 (judge-block-calls t)
+    (judge-block-at t) judge-block.Post judge-block-Inv-loop judge-block-μ-loop
 judge-block-enum-known-v-2 t c = search needs
 
 judge-block-same-length-2 : (t : ℕ)
-    → judge-block-lts.Need-same-length-2 (judge-block-calls t) (judge-block-at t) judge-block.Post judge-block-Inv-loop judge-block-μ-loop
+    → judge-block-lts.Need-same-length-2 (judge-block-calls t)
+    (judge-block-at t) judge-block.Post judge-block-Inv-loop judge-block-μ-loop
 judge-block-same-length-2 t c =
     let kept = c .before .before .before .before .before .before .before in
     let turn = kept .before .before .before .before .before .before .before .before .before .before .before in
@@ -198,7 +217,8 @@ judge-block-same-length-2 t c =
     kept .memo2 .given ∙ turn .loop .inv .same ∙ lent .memo .given
 
 judge-block-returns-3 : (t : ℕ)
-    → judge-block-lts.Need-returns-3 (judge-block-calls t) (judge-block-at t) judge-block.Post judge-block-Inv-loop judge-block-μ-loop
+    → judge-block-lts.Need-returns-3 (judge-block-calls t)
+    (judge-block-at t) judge-block.Post judge-block-Inv-loop judge-block-μ-loop
 judge-block-returns-3 t c =
     let failed = c .before in
     let told = failed .before .before .before in
@@ -211,17 +231,20 @@ judge-block-returns-3 t c =
     (told-fails _ _ _ _ _ _ _ _ _ _ _ _ _ (turn .loop .inv) _ (sought .is-admitted .ensures) (tested .if2 .taken) _ (read .entry-at2 .ensures) _ (judged .judge-attribute .ensures .1) _ (judged .judge-attribute .ensures .0) (kept .memo2 .given) _ _ (told .v .given .1) (failed .v2 .given .1), judged .judge-attribute .ensures .0)
 
 judge-block-enum-known-inner : (t : ℕ)
-    → judge-block-lts.Need-enum-known-inner (judge-block-calls t) (judge-block-at t) judge-block.Post judge-block-Inv-loop judge-block-μ-loop
+    → judge-block-lts.Need-enum-known-inner (judge-block-calls t)
+    (judge-block-at t) judge-block.Post judge-block-Inv-loop judge-block-μ-loop
 judge-block-enum-known-inner t c = search needs
 
 judge-block-sub-judge-block : (t : ℕ)
-    → judge-block-lts.Need-sub-judge-block (judge-block-calls t) (judge-block-at t) judge-block.Post judge-block-Inv-loop judge-block-μ-loop
+    → judge-block-lts.Need-sub-judge-block (judge-block-calls t)
+    (judge-block-at t) judge-block.Post judge-block-Inv-loop judge-block-μ-loop
 judge-block-sub-judge-block t c =
     let turn = c .before .before .before .before .before .before .before .before .before .before .before .before .before .before .before .before .before in
     levels-some _ _ _ _ _ _ _ _ _ _ _ _ _ (turn .loop .inv)
 
 judge-block-judge-block-requires : (t : ℕ)
-    → judge-block-lts.Need-judge-block-requires (judge-block-calls t) (judge-block-at t) judge-block.Post judge-block-Inv-loop judge-block-μ-loop
+    → judge-block-lts.Need-judge-block-requires (judge-block-calls t)
+    (judge-block-at t) judge-block.Post judge-block-Inv-loop judge-block-μ-loop
 judge-block-judge-block-requires t c κs =
     let nested = c .before .before .before in
     let kept = nested .before .before .before in
@@ -234,11 +257,13 @@ judge-block-judge-block-requires t c κs =
     (levels-fall _ _ _ _ _ _ _ _ _ _ _ _ _ (turn .loop .inv) _ _ t (given .pre .0), (nested-under _ _ _ _ _ _ _ _ _ _ _ _ _ (turn .loop .inv) _ (sought .is-admitted .ensures) (tested .if2 .taken) _ (read .entry-at2 .ensures) _ (judged .judge-attribute .ensures .1) _ (judged .judge-attribute .ensures .0) (kept .memo2 .given) _ _ (nested .inner .given .1), judged .judge-attribute .ensures .0))
 
 judge-block-enum-told-2 : (t : ℕ)
-    → judge-block-lts.Need-enum-told-2 (judge-block-calls t) (judge-block-at t) judge-block.Post judge-block-Inv-loop judge-block-μ-loop
+    → judge-block-lts.Need-enum-told-2 (judge-block-calls t)
+    (judge-block-at t) judge-block.Post judge-block-Inv-loop judge-block-μ-loop
 judge-block-enum-told-2 t c = search needs
 
 judge-block-loop-less-2 : (t : ℕ)
-    → judge-block-lts.Need-loop-less-2 (judge-block-calls t) (judge-block-at t) judge-block.Post judge-block-Inv-loop judge-block-μ-loop
+    → judge-block-lts.Need-loop-less-2 (judge-block-calls t)
+    (judge-block-at t) judge-block.Post judge-block-Inv-loop judge-block-μ-loop
 judge-block-loop-less-2 t c =
     let read = c .before .before .before .before .before .before .before .before .before .before .before .before .before .before in
     let tested = read .before .before .before .before .before in
@@ -247,18 +272,21 @@ judge-block-loop-less-2 t c =
     attribute-less _ _ _ _ _ _ _ _ _ _ _ _ _ (turn .loop .inv) _ (sought .is-admitted .ensures) (tested .if2 .taken) _ (read .entry-at2 .ensures)
 
 judge-block-loop-again-2 : (t : ℕ)
-    → judge-block-lts.Need-loop-again-2 (judge-block-calls t) (judge-block-at t) judge-block.Post judge-block-Inv-loop judge-block-μ-loop
+    → judge-block-lts.Need-loop-again-2 (judge-block-calls t)
+    (judge-block-at t) judge-block.Post judge-block-Inv-loop judge-block-μ-loop
 judge-block-loop-again-2 t c =
     let nested = c .before .before .before .before .before .before .before .before in
     let tested = nested .before .before .before .before .before .before .before .before .before .before .before in
     search (nested-valid _ _ _ _ _ _ _ _ _ _ _ _ _ (tested .before .before .before .loop .inv) _ (tested .before .is-admitted .ensures) (tested .if2 .taken) _ (nested .before .before .before .before .before .before .entry-at2 .ensures) _ (nested .before .before .before .before .judge-attribute .ensures .1) _ (nested .before .before .before .before .judge-attribute .ensures .0) (nested .before .before .before .memo2 .given) _ _ (nested .inner .given .1))
 
 judge-block-enum-known-failure : (t : ℕ)
-    → judge-block-lts.Need-enum-known-failure (judge-block-calls t) (judge-block-at t) judge-block.Post judge-block-Inv-loop judge-block-μ-loop
+    → judge-block-lts.Need-enum-known-failure (judge-block-calls t)
+    (judge-block-at t) judge-block.Post judge-block-Inv-loop judge-block-μ-loop
 judge-block-enum-known-failure t c = search needs
 
 judge-block-same-length-3 : (t : ℕ)
-    → judge-block-lts.Need-same-length-3 (judge-block-calls t) (judge-block-at t) judge-block.Post judge-block-Inv-loop judge-block-μ-loop
+    → judge-block-lts.Need-same-length-3 (judge-block-calls t)
+    (judge-block-at t) judge-block.Post judge-block-Inv-loop judge-block-μ-loop
 judge-block-same-length-3 t c =
     let keptInside = c .before .before .before .before in
     let kept = keptInside .before .before .before .before .before .before .before .before in
@@ -267,7 +295,8 @@ judge-block-same-length-3 t c =
     keptInside .memo3 .given ∙ kept .memo2 .given ∙ turn .loop .inv .same ∙ lent .memo .given
 
 judge-block-returns-4 : (t : ℕ)
-    → judge-block-lts.Need-returns-4 (judge-block-calls t) (judge-block-at t) judge-block.Post judge-block-Inv-loop judge-block-μ-loop
+    → judge-block-lts.Need-returns-4 (judge-block-calls t)
+    (judge-block-at t) judge-block.Post judge-block-Inv-loop judge-block-μ-loop
 judge-block-returns-4 t c =
     let failure = c .before in
     let inside = failure .before .before .before .before in
@@ -281,15 +310,18 @@ judge-block-returns-4 t c =
     (nested-fails _ _ _ _ _ _ _ _ _ _ _ _ _ (turn .loop .inv) _ (sought .is-admitted .ensures) (tested .if2 .taken) _ (read .entry-at2 .ensures) _ (judged .judge-attribute .ensures .1) _ (judged .judge-attribute .ensures .0) (kept .memo2 .given) _ _ (nested .inner .given .1) _ (inside .judge-block .ensures .0) _ (failure .failure .given .1), inside .judge-block .ensures .1)
 
 judge-block-mark-chain-requires : (t : ℕ)
-    → judge-block-lts.Need-mark-chain-requires (judge-block-calls t) (judge-block-at t) judge-block.Post judge-block-Inv-loop judge-block-μ-loop
+    → judge-block-lts.Need-mark-chain-requires (judge-block-calls t)
+    (judge-block-at t) judge-block.Post judge-block-Inv-loop judge-block-μ-loop
 judge-block-mark-chain-requires t c κs = (search attributes-chain, search visit-near)
 
 judge-block-same-length-4 : (t : ℕ)
-    → judge-block-lts.Need-same-length-4 (judge-block-calls t) (judge-block-at t) judge-block.Post judge-block-Inv-loop judge-block-μ-loop
+    → judge-block-lts.Need-same-length-4 (judge-block-calls t)
+    (judge-block-at t) judge-block.Post judge-block-Inv-loop judge-block-μ-loop
 judge-block-same-length-4 t c = search needs
 
 judge-block-returns-5 : (t : ℕ)
-    → judge-block-lts.Need-returns-5 (judge-block-calls t) (judge-block-at t) judge-block.Post judge-block-Inv-loop judge-block-μ-loop
+    → judge-block-lts.Need-returns-5 (judge-block-calls t)
+    (judge-block-at t) judge-block.Post judge-block-Inv-loop judge-block-μ-loop
 judge-block-returns-5 t c =
     let marked = c .before .before in
     let tested = marked .before .before in
@@ -298,17 +330,20 @@ judge-block-returns-5 t c =
     (attributes-end _ _ _ _ _ _ _ _ _ _ _ _ _ (turn .loop .inv) _ (sought .is-admitted .ensures) (tested .if2 .left), attributes-known _ _ _ _ _ _ _ _ _ _ _ _ _ (turn .loop .inv) _ (sought .is-admitted .ensures) (tested .if2 .left) _ (marked .mark-chain .ensures .1))
 
 judge-with-memo-slice-aggregate-judge-block :
-    (t : ℕ) → judge-with-memo-lts.Need-slice-aggregate-judge-block (judge-block-below t, judge-block.Post) (judge-with-memo-at t) judge-with-memo.Post
+    (t : ℕ) → judge-with-memo-lts.Need-slice-aggregate-judge-block (judge-block-below t, judge-block.Post)
+    (judge-with-memo-at t) judge-with-memo.Post
 judge-with-memo-slice-aggregate-judge-block t c = sym (length-replicate {0} {A = ℕ} 1_048_832 0)
 
 judge-with-memo-judge-block-requires : (t : ℕ)
-    → judge-with-memo-lts.Need-judge-block-requires (judge-block-below t, judge-block.Post) (judge-with-memo-at t) judge-with-memo.Post
+    → judge-with-memo-lts.Need-judge-block-requires (judge-block-below t, judge-block.Post)
+    (judge-with-memo-at t) judge-with-memo.Post
 judge-with-memo-judge-block-requires t c κs =
     let given = c .before .before .before .before .before .before in
     (memo-effort _ 1_048_832 t (lit< tt) (given .pre .0), (given .pre .1, memo-zeros _ _ _ _ _ 1_048_832))
 
 judge-with-memo-returns : (t : ℕ)
-    → judge-with-memo-lts.Need-returns (judge-block-below t, judge-block.Post) (judge-with-memo-at t) judge-with-memo.Post
+    → judge-with-memo-lts.Need-returns (judge-block-below t, judge-block.Post)
+    (judge-with-memo-at t) judge-with-memo.Post
 judge-with-memo-returns t c = search needs
 
 pub +judge-block+judge-with-memo-spec : {M : Type 1} → statement M

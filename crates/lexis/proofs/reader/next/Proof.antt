@@ -122,7 +122,8 @@ module _ {M : Type 1} (𝓤 : URA M) (H : Heap 𝓤) (A : Atoms 𝓤) (W : Given
   module _ (is-k : Is E.the-row k (c ∷ [])) where
     -- what the reader owns gives what the callee asks, and is kept
     apart : d .place < 2 ^ 64
-        → ent 𝓤 (onEntry 𝓤 H A next.signature (κ, tt) (q, tt) (d, (k, tt)) at) (sep 𝓤 (Work 𝓤 H A mem run .pre to) (sem 𝓤 H A Own))
+        → ent 𝓤 (onEntry 𝓤 H A next.signature (κ, tt) (q, tt) (d, (k, tt)) at)
+        (sep 𝓤 (Work 𝓤 H A mem run .pre to) (sem 𝓤 H A Own))
     apart fits =
         qed W ((‵ (flft κ q) ⊛ ‵ ftrue) ∷ ‵ (owns (B (κ, tt) ∷ E.the-row ∷ []) (d, (k, tt)) at) ∷ []) ∵
         move ! (1 ∷ []) $ fsplit ! $ move ! (1 ∷ []) $ drop ! $ use1 W (‵ Own ⊛ ‵ Own) (LL.copy D (T′.the-copy (namedLft 1 0 tt (κ, tt))) 𝓤 H A W .twice d (mach ∷ [])) $ split ! $
@@ -134,7 +135,8 @@ module _ {M : Type 1} (𝓤 : URA M) (H : Heap 𝓤) (A : Atoms 𝓤) (W : Given
 
     -- of the callee's `ensured`, the clause alone: it has no `&mut`, so what is said of last values is dropped
     said : (r : Token)
-        → ent 𝓤 (ensured 𝓤 H A work.ended (work.clauses 𝓤 H A mem run) (κ, tt) (d .text, (d .place, (k, tt))) tt r) (fact 𝓤 (r ≡ found))
+        → ent 𝓤 (ensured 𝓤 H A work.ended (work.clauses 𝓤 H A mem run) (κ, tt) (d .text, (d .place, (k, tt))) tt r)
+        (fact 𝓤 (r ≡ found))
     said r = exE 𝓤 _ (λ ws. snd∗ 𝓤 (sem 𝓤 H A (lasts work.ended (κ, tt) (d .text, (d .place, (k, tt))) ws)) (fact 𝓤 (r ≡ found)))
 
     exits : (r : Token) (u : Val) → r ≡ found
@@ -147,7 +149,8 @@ module _ {M : Type 1} (𝓤 : URA M) (H : Heap 𝓤) (A : Atoms 𝓤) (W : Given
     module _ (C : Calls 𝓤 H) (Λ : Loops 𝓤 H) (fm : FmC 𝓤 H (W .laws) C)
         (known : Triple 𝓤 (C #lexis·reader·token-of) (Work 𝓤 H A mem run)) where
       walk : Holds (hasTy (T′.mir (named 0)) mach) × WT mach → Holds (hasTy E′.mir c) × WT c
-          → ent 𝓤 (onEntry 𝓤 H A next.signature (κ, tt) (q, tt) (d, (k, tt)) at) (WpFn 𝓤 H C Λ code.function (mach ∷ c ∷ []) Post)
+          → ent 𝓤 (onEntry 𝓤 H A next.signature (κ, tt) (q, tt) (d, (k, tt)) at)
+          (WpFn 𝓤 H C Λ code.function (mach ∷ c ∷ []) Post)
       walk wt wk =
           qed W (raw (onEntry 𝓤 H A next.signature (κ, tt) (q, tt) (d, (k, tt)) at) ∷ []) ∵ enter ! C Λ code.function (mach ∷ c ∷ []) _ $
           alloc1 ! (λ l₀. alloc1 ! (λ l₁. alloc1 ! (λ l₂. alloc1 ! (λ l₃. alloc1 ! (λ l₄. alloc0 ! $ params1 ! $ pass1 ! (init ! 6 refl wt) $ pass1 ! (init ! 4 refl wk) $ pass0 ! $

@@ -107,7 +107,8 @@ module _ {M : Type 1} (𝓤 : URA M) (H : Heap 𝓤) (A : Atoms 𝓤) (W : Given
   to-new = (((κ, tt), (q, tt), tt, (s, (n, tt)), (v ∷ [], (vint w64 n ∷ [], tt))), tt)
 
   new-said : (r : Reader)
-      → ent 𝓤 (ensured 𝓤 H A new.ended (new.clauses 𝓤 H A mem run) (κ, tt) (s, (n, tt)) tt r) (fact 𝓤 ((r .text ≡ s) × (r .place ≡ n)))
+      → ent 𝓤 (ensured 𝓤 H A new.ended (new.clauses 𝓤 H A mem run) (κ, tt) (s, (n, tt)) tt r)
+      (fact 𝓤 ((r .text ≡ s) × (r .place ≡ n)))
   new-said r = exE 𝓤 _ (λ ws. snd∗ 𝓤 (sem 𝓤 H A (lasts new.ended (κ, tt) (s, (n, tt)) ws)) (fact 𝓤 ((r .text ≡ s) × (r .place ≡ n))))
 
   -- the call of `next`, at the reader r with the machine value u
@@ -115,7 +116,8 @@ module _ {M : Type 1} (𝓤 : URA M) (H : Heap 𝓤) (A : Atoms 𝓤) (W : Given
   to-next r u = (((κ, tt), (q, tt), tt, (r, (k, tt)), (u ∷ [], (c ∷ [], tt))), tt)
 
   next-said : (r : Reader) (t : Token)
-      → ent 𝓤 (ensured 𝓤 H A next.ended (next.clauses 𝓤 H A mem run) (κ, tt) (r, (k, tt)) tt t) (fact 𝓤 (t ≡ tokenBy k (now (r .text)) (r .place)))
+      → ent 𝓤 (ensured 𝓤 H A next.ended (next.clauses 𝓤 H A mem run) (κ, tt) (r, (k, tt)) tt t)
+      (fact 𝓤 (t ≡ tokenBy k (now (r .text)) (r .place)))
   next-said r t = exE 𝓤 _ (λ ws. snd∗ 𝓤 (sem 𝓤 H A (lasts next.ended (κ, tt) (r, (k, tt)) ws)) (fact 𝓤 (t ≡ tokenBy k (now (r .text)) (r .place))))
 
   module _ (ok : n < 2 ^ 64) (is-k : Is E.the-row k (c ∷ [])) where
@@ -129,7 +131,8 @@ module _ {M : Type 1} (𝓤 : URA M) (H : Heap 𝓤) (A : Atoms 𝓤) (W : Given
         move ! (2 ∷ 0 ∷ []) $ use2 W (raw (New 𝓤 H A mem run .pre to-new)) (qed W ((‵ (flft κ q) ⊛ ‵ ftrue) ∷ ‵ (owns (ShrSlice (named 0) κ u8 ∷ usize ∷ []) (s, (n, tt)) (v ∷ [], (vint w64 n ∷ [], tt))) ∷ []) ∵ join ! $ frame ! $ done !) $ frame ! $ done !
 
     goes-next : (r : Reader) (u : Val)
-        → ent 𝓤 (⋆ 𝓤 H A (‵ (B (κ, tt) .own r (u ∷ [])) ∷ (‵ (flft κ q) ⊛ ‵ ftrue) ∷ [])) (Next 𝓤 H A mem run .pre (to-next r u))
+        → ent 𝓤 (⋆ 𝓤 H A (‵ (B (κ, tt) .own r (u ∷ [])) ∷ (‵ (flft κ q) ⊛ ‵ ftrue) ∷ []))
+        (Next 𝓤 H A mem run .pre (to-next r u))
     goes-next r u = qed W (‵ (B (κ, tt) .own r (u ∷ [])) ∷ (‵ (flft κ q) ⊛ ‵ ftrue) ∷ []) ∵ nothing ! $ owned ! E.the-row (Is E.the-row) (EL.makes E.the-type E′.the-plain 𝓤 H A) k _ is-k $ fjoin ! $ move ! (1 ∷ 0 ∷ []) $ fjoin ! $ move ! (1 ∷ 0 ∷ []) $ join ! $ frame ! $ done !
 
     exits : (t : Token) (u : Val) → t ≡ found
@@ -144,7 +147,8 @@ module _ {M : Type 1} (𝓤 : URA M) (H : Heap 𝓤) (A : Atoms 𝓤) (W : Given
         (known-new : Triple 𝓤 (C #lexis·reader·reader-at) (New 𝓤 H A mem run))
         (known-next : Triple 𝓤 (C #lexis·reader·next) (Next 𝓤 H A mem run)) where
       walk : Is (ShrSlice (named 0) κ u8) s (v ∷ []) → Holds (hasTy E′.mir c) × WT c
-          → ent 𝓤 (onEntry 𝓤 H A first.signature (κ, tt) (q, tt) (s, (n, (k, tt))) at) (WpFn 𝓤 H C Λ code.function (v ∷ vint w64 n ∷ c ∷ []) Post)
+          → ent 𝓤 (onEntry 𝓤 H A first.signature (κ, tt) (q, tt) (s, (n, (k, tt))) at)
+          (WpFn 𝓤 H C Λ code.function (v ∷ vint w64 n ∷ c ∷ []) Post)
       walk p wk =
           qed W (raw (onEntry 𝓤 H A first.signature (κ, tt) (q, tt) (s, (n, (k, tt))) at) ∷ []) ∵ enter ! C Λ code.function (v ∷ vint w64 n ∷ c ∷ []) _ $
           alloc1 ! (λ l₀. alloc1 ! (λ l₁. alloc1 ! (λ l₂. alloc1 ! (λ l₃. alloc1 ! (λ l₄. alloc0 ! $ params1 ! $
@@ -179,7 +183,8 @@ module _ {M : Type 1} (𝓤 : URA M) (H : Heap 𝓤) (A : Atoms 𝓤) (W : Given
 
 token-from-meets : {M : Type 1} (𝓤 : URA M) (H : Heap 𝓤) (A : Atoms 𝓤) (W : Given 𝓤 H A) (mem : Memory → SProp 𝓤)
     (run : Routine → Fun 𝓤) (𝓣 : Tables 𝓤 H)
-    → Triple 𝓤 (𝓣 .C #lexis·reader·reader-at) (New 𝓤 H A mem run) → Triple 𝓤 (𝓣 .C #lexis·reader·next) (Next 𝓤 H A mem run)
+    → Triple 𝓤 (𝓣 .C #lexis·reader·reader-at) (New 𝓤 H A mem run)
+    → Triple 𝓤 (𝓣 .C #lexis·reader·next) (Next 𝓤 H A mem run)
     → Meets 𝓤 H A first.signature (WpFn 𝓤 H (𝓣 .C) (𝓣 .Λ) code.function) (first.spec 𝓤 H A mem run)
 token-from-meets 𝓤 H A W mem run 𝓣 known-new known-next = walk-meets 𝓤 H A first.ended stayed W
     (goes-none-slice 𝓤 H A W 1 (0 ∷ []) tt (plain (λ _. u8)) yes, (goes-none 𝓤 H A W 1 (λ _. usize) yes (λ κs x f. refl), (goes-none 𝓤 H A W 1 (λ _. E.the-row) yes (λ κs x f. refl), tt)))

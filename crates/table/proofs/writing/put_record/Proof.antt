@@ -12,7 +12,8 @@ returns c =
     let c2 = c3 .before .before .before .before in
     let c1 = c2 .before .before .before .before in
     let c0 = c1 .before .before .before .before in
-    record-ordered _ _ _ _ _ _ _ _ _ _ _ (c0 .before .before .ordered .ensures) (c0 .put-head .ensures) (c1 .put32 .ensures) (c2 .put322 .ensures) (c3 .put323 .ensures) (c4 .put324 .ensures) (c5 .put325 .ensures)
+    record-ordered _ _ _ _ _ _ _ _ _ _ _ (c0 .before .before .ordered .ensures) (c0 .put-head .ensures)
+    (c1 .put32 .ensures) (c2 .put322 .ensures) (c3 .put323 .ensures) (c4 .put324 .ensures) (c5 .put325 .ensures)
 
 pub put-record-spec : {M : Type 1} → statement M
 put-record-spec =
