@@ -80,7 +80,8 @@ upTo s kind low from =
 unfoldable pub above : List ℕ → ℕ → ℕ → ℕ → Parse Ends
 above s kind a from =
     let t = tokenAt s from in
-    cond (eqb (t .sort) dots) (upTo s kind (after kind a) (t .end)) (parsed (ends kind (after kind a) (most kind) false) from)
+    cond (eqb (t .sort) dots) (upTo s kind (after kind a) (t .end))
+    (parsed (ends kind (after kind a) (most kind) false) from)
 
 -- the d of `+/-`, behind an a that is possible or not
 unfoldable pub spread : List ℕ → Bool → ℕ → ℕ → Parse Ends

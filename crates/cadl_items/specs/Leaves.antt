@@ -30,13 +30,15 @@ booleanFlag t = cond (eqb (t .sort) trueWord) 1 2
 unfoldable pub secondBoolean : List ℕ → ℕ → ℕ → ℕ → Parse Leaf
 secondBoolean s number flag from =
     let t = tokenAt s from in
-    cond (isBoolean t) (noting (eqb (booleanFlag t) flag) Overlap (t .start) (parsed (single booleans number 3) (t .end))) (syntax t)
+    cond (isBoolean t)
+    (noting (eqb (booleanFlag t) flag) Overlap (t .start) (parsed (single booleans number 3) (t .end))) (syntax t)
 
 -- Booleans, the first of which is the token t
 unfoldable pub booleanList : List ℕ → ℕ → Token → Parse Leaf
 booleanList s number t =
     let u = tokenAt s (t .end) in
-    cond (eqb (u .sort) comma) (secondBoolean s number (booleanFlag t) (u .end)) (parsed (single booleans number (booleanFlag t)) (t .end))
+    cond (eqb (u .sort) comma) (secondBoolean s number (booleanFlag t) (u .end))
+    (parsed (single booleans number (booleanFlag t)) (t .end))
 
 abbrev pub rangeLeaf : Ranges → Leaf
 rangeLeaf l = Constraints.ranges (cond (eqb (l .kind) date) dates integers) (l .items)
@@ -50,7 +52,9 @@ abbrev pub isPattern : SingleSort → ℕ → Token → Bool
 isPattern sort first t = within (first + 1) (first + singleRow sort .greatest) (t .sort)
 
 abbrev pub patternLeaf : SingleSort → ℕ → ℕ → Token → Parse Leaf
-patternLeaf sort first number t = noting (eqb number recordLimit) TooManyRecords (t .start) (parsed (single sort number (patternFlag first t)) (t .end))
+patternLeaf sort first number t =
+    noting (eqb number recordLimit) TooManyRecords (t .start)
+    (parsed (single sort number (patternFlag first t)) (t .end))
 
 -- a leaf from a place on, given the next record's number
 unfoldable pub leaf : List ℕ → ℕ → ℕ → Parse Leaf

@@ -33,7 +33,8 @@ start s kind from =
 
 -- the whole item, from behind its first token on
 abbrev pub item : List ℕ → ℕ → Start → ℕ → Parse Interval
-item s kind x p = cond (x .single) (parsed (record { kind = integer; pair = pair (x .value) (x .value) }) p) (interval s kind p)
+item s kind x p =
+    cond (x .single) (parsed (record { kind = integer; pair = pair (x .value) (x .value) }) p) (interval s kind p)
 
 -- two pairs share a value
 abbrev pub meet : Pair → Pair → Bool

@@ -17,7 +17,9 @@ use Rattle.meaning.specs.Constraints.{Text}
 
 -- a string, which may be too long
 unfoldable pub startString : List ℕ → ℕ → Parse Token
-startString s from = andThen (wanted s string from) (λ t p. noting (ltb stringLimit (length (inner s t))) TooLong (t .start) (parsed t p))
+startString s from =
+    andThen (wanted s string from)
+    (λ t p. noting (ltb stringLimit (length (inner s t))) TooLong (t .start) (parsed t p))
 
 -- behind a string: a comma and more strings, or the list's end
 abbrev pub goOnStrings : List ℕ → Text → (ℕ → Parse (List Text)) → ℕ → Parse (List Text)

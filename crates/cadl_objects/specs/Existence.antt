@@ -50,5 +50,6 @@ unfoldable pub existenceFrom : List ℕ → ℕ → Reading ℕ
 existenceFrom s from =
     let t = tokenAt s from in
     cond (eqb (t .sort) existence)
-    (readThen (opening s (t .end)) (λ u p. readThen (bounds s p) (λ e q. readThen (expect s closeBrace q) (λ v r. got e r))))
+    (readThen (opening s (t .end))
+    (λ u p. readThen (bounds s p) (λ e q. readThen (expect s closeBrace q) (λ v r. got e r))))
     (got required from)

@@ -96,7 +96,8 @@ attributes s down (suc fuel) seen next from =
 abbrev pub body : List ℕ → (ℕ → ℕ → Parse Object) → ℕ → ℕ → Parse Attributes
 body s down next from =
     let t = tokenAt s from in
-    cond (eqb (t .sort) star) (andThen (wanted s closeBrace (t .end)) (λ u p. parsed noMore p)) (attributes s down (length s + 1) [] next from)
+    cond (eqb (t .sort) star) (andThen (wanted s closeBrace (t .end)) (λ u p. parsed noMore p))
+    (attributes s down (length s + 1) [] next from)
 
 -- an object from its TYPE on, given how an object one level down is parsed
 abbrev pub objectBy : List ℕ → ℕ → (ℕ → ℕ → Parse Object) → ℕ → ℕ → Parse Object

@@ -36,7 +36,9 @@ rangeRecords sort (x ∷ xs) =
 -- strings, with so many bytes in the pool before them
 abbrev pub stringRecords : ℕ → List Text → List Record
 stringRecords pool [] = []
-stringRecords pool (x ∷ xs) = make textKind 0 (placeFor (x .text) pool ∷ length (x .text) ∷ 0 ∷ 0 ∷ firstText xs ∷ []) ∷ stringRecords (pool + length (x .text)) xs
+stringRecords pool (x ∷ xs) =
+    make textKind 0 (placeFor (x .text) pool ∷ length (x .text) ∷ 0 ∷ 0 ∷ firstText xs ∷ [])
+    ∷ stringRecords (pool + length (x .text)) xs
 
 abbrev pub recordsOfLeaf : ℕ → Leaf → List Record
 recordsOfLeaf pool (single sort n flag) = make (singleRow sort .kind) flag [] ∷ []
@@ -48,14 +50,16 @@ unfoldable mutual
   pub objectTable : Object → ℕ → List Record
   objectTable (object h xs) pool =
       let code = pool + length (h .type) in
-      make objectKind 0 (placeFor (h .type) pool ∷ length (h .type) ∷ placeFor (h .code) code ∷ length (h .code) ∷ attributesLink xs ∷ [])
+      make objectKind 0
+      (placeFor (h .type) pool ∷ length (h .type) ∷ placeFor (h .code) code ∷ length (h .code) ∷ attributesLink xs ∷ [])
       ∷ attributesTable xs (code + length (h .code))
 
   pub attributesTable : Attributes → ℕ → List Record
   attributesTable noMore pool = []
   attributesTable (attribute h v more) pool =
       let behind = pool + length (h .name) in
-      make attributeKind (h .existence) (placeFor (h .name) pool ∷ length (h .name) ∷ valueLink v ∷ attributesLink more ∷ [])
+      make attributeKind (h .existence)
+      (placeFor (h .name) pool ∷ length (h .name) ∷ valueLink v ∷ attributesLink more ∷ [])
       ∷ (valueTable v behind ++ attributesTable more (behind + length (valuePool v)))
 
   pub valueTable : Value → ℕ → List Record

@@ -99,7 +99,8 @@ members s down (suc fuel) seen from =
 
 -- a block from behind its `<` on, given how those inside it are parsed
 abbrev pub blockBy : List ℕ → Down → Down
-blockBy s down place type from = andThen (members s down (length s + 1) [] from) (λ ms p. parsed (block place type ms) p)
+blockBy s down place type from =
+    andThen (members s down (length s + 1) [] from) (λ ms p. parsed (block place type ms) p)
 
 -- a block below the levels that are allowed; `fuel` bounds how many levels there are, and its end is no fault of any text
 unfoldable pub deeperBlock : List ℕ → ℕ → Down

@@ -67,7 +67,8 @@ word s ls sort at =
 
 -- date: four digits, `-`, two, `-`, two; integer: digits
 abbrev pub number : List ℕ → ℕ → Token
-number s at = cond (shaped dateShape (drop at s)) (token date at (at + 10)) (token integer at (past (is digit) at (drop at s)))
+number s at =
+    cond (shaped dateShape (drop at s)) (token date at (at + 10)) (token integer at (past (is digit) at (drop at s)))
 
 -- integer: `-` and digits; else a mark
 abbrev pub sign : List ℕ → ℕ → Token
@@ -94,7 +95,8 @@ codeTo at end = cond (eqb end 0) (noToken at) (token code at end)
 
 -- code: one token with its brackets
 abbrev pub bracket : List ℕ → ℕ → Token
-bracket s at = cond (startsWith codeStart (drop at s)) (codeTo at (codeEnd false (at + 3) (drop (at + 3) s))) (noToken at)
+bracket s at =
+    cond (startsWith codeStart (drop at s)) (codeTo at (codeEnd false (at + 3) (drop (at + 3) s))) (noToken at)
 
 -- a byte of no sort but `other` starts a string, a code or the sign ∈
 abbrev pub special : List ℕ → ℕ → Token

@@ -73,7 +73,8 @@ unfoldable mutual
   -- the members of a block, whose `<` stands at a place, by attributes
   pub judgeAttributes : Attributes → ℕ → Members → Verdict
   judgeAttributes Constraints.noMore place ms = valid
-  judgeAttributes (attribute h v more) place ms = thenJudge (judgeMember h place (memberOf (h .name) ms) (λ x. judgeValue v x)) (judgeAttributes more place ms)
+  judgeAttributes (attribute h v more) place ms =
+      thenJudge (judgeMember h place (memberOf (h .name) ms) (λ x. judgeValue v x)) (judgeAttributes more place ms)
 
   -- a member's content by an attribute's value
   pub judgeValue : Value → Content → Verdict

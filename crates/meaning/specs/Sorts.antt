@@ -32,7 +32,8 @@ pub record SingleRow : Type 0 where
 
 abbrev pub singleRow : SingleSort → SingleRow
 singleRow booleans = record { kind = 3; greatest = 3; under = λ flag w. try (booleanOf w) (inFlag flag) }
-singleRow datePattern = record { kind = 6; greatest = 5; under = λ flag w. try (dateOf w) (λ d. fitsDate flag (d .parts)) }
+singleRow datePattern =
+    record { kind = 6; greatest = 5; under = λ flag w. try (dateOf w) (λ d. fitsDate flag (d .parts)) }
 singleRow timePattern = record { kind = 8; greatest = 4; under = λ flag w. try (timeOf w) (fitsTime flag) }
 
 -- the kind of its records, an end as a record has it, which is also the way back, and how a word stands to the items
@@ -43,7 +44,8 @@ pub record RangeRow : Type 0 where
 
 abbrev pub rangeRow : RangeSort → RangeRow
 rangeRow integers = record { kind = 4; end = twosComplement; under = λ l w. try (integerOf w) (λ v. inSome v l) }
-rangeRow dates = record { kind = 7; end = λ x. x; under = λ l w. try (dateOf w) (λ d. eqb (d .parts) 3 && inSome (d .day) l) }
+rangeRow dates =
+    record { kind = 7; end = λ x. x; under = λ l w. try (dateOf w) (λ d. eqb (d .parts) 3 && inSome (d .day) l) }
 
 -- the kind of the records of strings
 abbrev pub textKind : ℕ

@@ -36,7 +36,8 @@ pairRight dates x y = real x && real y && leb x y
 -- the rule of a field x, before the field next, of the record with number n
 unfoldable pub fieldRight : Image → ℕ → Use → ℕ → ℕ → Bool
 fieldRight m n unnamed x next = true
-fieldRight m n (place least most) x next = within least most next && cond (eqb next 0) (eqb x 0) (leb (x + next) (ListN.length (m .pool)))
+fieldRight m n (place least most) x next =
+    within least most next && cond (eqb next 0) (eqb x 0) (leb (x + next) (ListN.length (m .pool)))
 fieldRight m n length x next = true
 fieldRight m n (link ks) x next = eqb x 0 || ltb n x && ltb x (count m) && among (kindAt m x) ks
 fieldRight m n (low sort) x next = pairRight sort x next
@@ -71,7 +72,8 @@ flagRight kind flag = isKnown (shapeOf kind) && within (rowOf kind .least) (rowO
 
 -- the rules of a record: its kind, its flag, each named field and all of them; and that its other fields are 0
 unfoldable pub obeys : Image → ℕ → Record → Bool
-obeys m n r = flagRight (r .kind) (r .flag) && fieldsRight m n (usesOf r) (r .fields) && rowOf (r .kind) .across m n (r .fields)
+obeys m n r =
+    flagRight (r .kind) (r .flag) && fieldsRight m n (usesOf r) (r .fields) && rowOf (r .kind) .across m n (r .fields)
 
 unfoldable pub clean : Record → Bool
 clean r = restNought (usesOf r) (r .fields)
@@ -110,4 +112,6 @@ brokenRecord (some n) = some (refusal BrokenRecord n)
 
 -- the refusal of bytes as a table, if there is one
 unfoldable pub tableFault : List ℕ → Option Refusal
-tableFault bs = cond (framed bs) (brokenRecord (broken (imageOf bs) 1 (imageOf bs .records) (drop recordSize bs))) (some (refusal NotATable 0))
+tableFault bs =
+    cond (framed bs) (brokenRecord (broken (imageOf bs) 1 (imageOf bs .records) (drop recordSize bs)))
+    (some (refusal NotATable 0))

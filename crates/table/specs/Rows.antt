@@ -17,7 +17,9 @@ pub data Shape : Type 0 where
 
 -- the kinds by their numbers; no record but number 0 is a header
 abbrev pub shapes : List Shape
-shapes = tableHeader ∷ object ∷ attribute ∷ single booleans ∷ range integers ∷ text ∷ single datePattern ∷ range dates ∷ single timePattern ∷ []
+shapes =
+    tableHeader ∷ object ∷ attribute ∷ single booleans ∷ range integers ∷ text ∷ single datePattern ∷ range dates
+    ∷ single timePattern ∷ []
 
 unfoldable pub shapeOf : ℕ → Shape
 shapeOf kind = getD shapes kind tableHeader
@@ -95,7 +97,8 @@ pub record Row : Type 0 where
 
 -- a row whose fields are these, the others not named, and with no rule across them
 abbrev pub row : ℕ → ℕ → List Use → Row
-row least most us = record { least = least; most = most; uses = λ xs. padded unnamed fieldCount us; across = λ m n xs. true }
+row least most us =
+    record { least = least; most = most; uses = λ xs. padded unnamed fieldCount us; across = λ m n xs. true }
 
 -- what the fields are where none is named
 abbrev pub noneNamed : List Use

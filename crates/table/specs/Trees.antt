@@ -115,12 +115,17 @@ treeBy object n x above =
     ofObject (Constraints.object head (attributesIn (reach above (stepIn (partAt x 4)))))
 treeBy attribute n x above =
     let head : AttributeHead = record { number = n; existence = x .flag; name = nameIn (partAt x 0) } in
-    ofAttributes (Constraints.attribute head (valueIn (reach above (stepIn (partAt x 2)))) (attributesIn (reach above (stepIn (partAt x 3)))))
-treeBy text n x above = ofLeaf (texts (record { number = n; text = nameIn (partAt x 0) } ∷ itemsIn textsOf (reach above (stepIn (partAt x 4)))))
+    ofAttributes
+    (Constraints.attribute head (valueIn (reach above (stepIn (partAt x 2))))
+    (attributesIn (reach above (stepIn (partAt x 3)))))
+treeBy text n x above =
+    ofLeaf (texts
+    (record { number = n; text = nameIn (partAt x 0) } ∷ itemsIn textsOf (reach above (stepIn (partAt x 4)))))
 treeBy (single sort) n x above = ofLeaf (Constraints.single sort n (x .flag))
 treeBy (range sort) n x above =
     let end : ℕ → ℕ = λ i. rangeRow sort .end (numberIn (partAt x i)) in
-    ofLeaf (ranges sort (record { number = n; low = end 0; high = end 1 } ∷ itemsIn rangesOf (reach above (stepIn (partAt x 4)))))
+    ofLeaf (ranges sort
+    (record { number = n; low = end 0; high = end 1 } ∷ itemsIn rangesOf (reach above (stepIn (partAt x 4)))))
 
 abbrev pub treeOf : ℕ → Cell → List Tree → Tree
 treeOf n x above = treeBy (shapeOf (x .kind)) n x above

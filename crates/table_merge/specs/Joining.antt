@@ -37,4 +37,5 @@ abbrev pub shiftsBy : Image → Shifts
 shiftsBy x = record { records = ListN.length (x .records); pool = ListN.length (x .pool) }
 
 unfoldable pub merged : Image → Image → Image
-merged x y = record { root = x .root; pool = x .pool ++ y .pool; records = x .records ++ map (moved (shiftsBy x)) (y .records) }
+merged x y =
+    record { root = x .root; pool = x .pool ++ y .pool; records = x .records ++ map (moved (shiftsBy x)) (y .records) }

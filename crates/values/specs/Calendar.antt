@@ -50,4 +50,5 @@ dayAfter p =
 unfoldable pub dayBefore : ℕ → ℕ
 dayBefore p =
     cond (ltb 1 (dayOf p)) (p - 1)
-    (cond (ltb 1 (monthOf p)) (packed (yearOf p) (monthOf p - 1) (monthDays (yearOf p) (monthOf p - 1))) (packed (yearOf p - 1) 12 31))
+    (cond (ltb 1 (monthOf p)) (packed (yearOf p) (monthOf p - 1) (monthDays (yearOf p) (monthOf p - 1)))
+    (packed (yearOf p - 1) 12 31))

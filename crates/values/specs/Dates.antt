@@ -31,4 +31,5 @@ unfoldable pub dateOf : List ℕ → Option Date
 dateOf w =
     cond (exactly (bytes "dddd") w) (realDate 1 (packed (digitsAt 0 4 w) 1 1))
     (cond (exactly (bytes "dddd-dd") w) (realDate 2 (packed (digitsAt 0 4 w) (digitsAt 5 2 w) 1))
-    (cond (exactly (bytes "dddd-dd-dd") w) (realDate 3 (packed (digitsAt 0 4 w) (digitsAt 5 2 w) (digitsAt 8 2 w))) none))
+    (cond (exactly (bytes "dddd-dd-dd") w)
+    (realDate 3 (packed (digitsAt 0 4 w) (digitsAt 5 2 w) (digitsAt 8 2 w))) none))

@@ -52,8 +52,10 @@ rangeSortOf rangeSort.Dates = dates
 abbrev pub leafReading : List ℕ → ℕ → List ℕ → LeafRead → Reading Leaf
 leafReading s number scratch (leafRead.Faulty x) = refused x
 leafReading s number scratch (leafRead.Single sort flag next) = got (single (singleOf sort) number flag) next
-leafReading s number scratch (leafRead.Ranges sort count next) = got (ranges (rangeSortOf sort) (itemsFrom (rangeAt scratch) number 0 count)) next
-leafReading s number scratch (leafRead.Strings count next) = got (texts (itemsFrom (textAt s scratch) number 0 count)) next
+leafReading s number scratch (leafRead.Ranges sort count next) =
+    got (ranges (rangeSortOf sort) (itemsFrom (rangeAt scratch) number 0 count)) next
+leafReading s number scratch (leafRead.Strings count next) =
+    got (texts (itemsFrom (textAt s scratch) number 0 count)) next
 
 -- a leaf of one record that was read from a place on: there is room for the record
 pub record Single (s : List ℕ) (number from next : ℕ) : Type 0 where

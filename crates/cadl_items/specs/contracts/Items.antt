@@ -42,7 +42,8 @@ use Rattle.cadl_items.specs.contracts.Answers.{pairAt, rangeAt, textAt, 
 -- an item's first token
 abbrev pub startReading : StartRead → Reading Start
 startReading (startRead.Faulty x) = refused x
-startReading (startRead.Start place single value next) = got (record { place = place; single = single; value = value }) next
+startReading (startRead.Start place single value next) =
+    got (record { place = place; single = single; value = value }) next
 
 -- what the whole item is made of, from behind its first token on
 abbrev pub started : Bool → ℕ → Start
@@ -63,7 +64,8 @@ pub record Before (s : List ℕ) (number count from : ℕ) : Type 0 where
 
 abbrev pub StartPast : List ℕ → ℕ → ℕ → ℕ → StartRead → Type 0
 StartPast s kind number count (startRead.Faulty x) = Unit {0}
-StartPast s kind number count (startRead.Start place single value next) = (next ≤ length s) × (count < itemLimit) × (number < recordLimit)
+StartPast s kind number count (startRead.Start place single value next) =
+    (next ≤ length s) × (count < itemLimit) × (number < recordLimit)
 
 pub record StartIs (s : List ℕ) (kind number count from : ℕ) (r : StartRead) : Type 0 where
   pub is : startReading r ≡ roomy (λ x. x .place) number count (start s kind from)
@@ -76,9 +78,11 @@ pairsOf scratch count = latest (pairAt scratch) 0 count
 -- an item that was read behind so many, and the items that are read behind it
 abbrev pub rangeReading : List ℕ → ℕ → ℕ → List ℕ → RangeRead → Reading Ranges
 rangeReading s number count scratch (rangeRead.Faulty x) = refused x
-rangeReading s number count scratch (rangeRead.Last kind next) = got (record { kind = kind; items = rangeAt scratch number count ∷ [] }) next
+rangeReading s number count scratch (rangeRead.Last kind next) =
+    got (record { kind = kind; items = rangeAt scratch number count ∷ [] }) next
 rangeReading s number count scratch (rangeRead.More kind next) =
-    withFirst (rangeAt scratch number count) (ranges s (itemLimit - (count + 1)) kind (number + 1) (pairsOf scratch (count + 1)) next)
+    withFirst (rangeAt scratch number count)
+    (ranges s (itemLimit - (count + 1)) kind (number + 1) (pairsOf scratch (count + 1)) next)
 
 -- an item, from behind its last token on
 unfoldable pub keptRange : List ℕ → ℕ → ℕ → List Pair → ℕ → Interval → ℕ → Reading Ranges
@@ -100,7 +104,8 @@ pub record KeepRoom (s : List ℕ) (kind number count from : ℕ) : Type 0 where
 abbrev pub RangePast : List ℕ → ℕ → ℕ → RangeRead → Type 0
 RangePast s number count (rangeRead.Faulty x) = Unit {0}
 RangePast s number count (rangeRead.Last kind next) = (count < itemLimit) × (number < recordLimit) × (next ≤ length s)
-RangePast s number count (rangeRead.More kind next) = (count < itemLimit) × (number < recordLimit) × (next ≤ length s) × Asked kind
+RangePast s number count (rangeRead.More kind next) =
+    (count < itemLimit) × (number < recordLimit) × (next ≤ length s) × Asked kind
 
 -- the first items stay as they were
 pub record Kept (count : ℕ) (before after : List ℕ) : Type 0 where
@@ -115,11 +120,13 @@ pub record RangeIs (s : List ℕ) (number count : ℕ) (reading : Reading Ranges
 -- a list of ranges
 abbrev pub rangesReading : ℕ → List ℕ → RangesRead → Reading Ranges
 rangesReading number scratch (rangesRead.Faulty x) = refused x
-rangesReading number scratch (rangesRead.Ranges kind count next) = got (record { kind = kind; items = itemsFrom (rangeAt scratch) number 0 count }) next
+rangesReading number scratch (rangesRead.Ranges kind count next) =
+    got (record { kind = kind; items = itemsFrom (rangeAt scratch) number 0 count }) next
 
 abbrev pub RangesPast : List ℕ → ℕ → RangesRead → Type 0
 RangesPast s number (rangesRead.Faulty x) = Unit {0}
-RangesPast s number (rangesRead.Ranges kind count next) = (1 ≤ count) × (count ≤ itemLimit) × (number + count ≤ recordLimit)
+RangesPast s number (rangesRead.Ranges kind count next) =
+    (1 ≤ count) × (count ≤ itemLimit) × (number + count ≤ recordLimit)
 
 pub record RangesIs (s : List ℕ) (number from : ℕ) (scratch : List ℕ) (r : RangesRead) : Type 0 where
   pub is : rangesReading number scratch r ≡ ranges s itemLimit undecided number [] from
@@ -130,13 +137,15 @@ abbrev pub stringReading : List ℕ → ℕ → ℕ → List ℕ → StringRead 
 stringReading s number count scratch (stringRead.Faulty x) = refused x
 stringReading s number count scratch (stringRead.Last next) = got (textAt s scratch number count ∷ []) next
 stringReading s number count scratch (stringRead.More next) =
-    withText (textAt s scratch number count) (strings s (itemLimit - (count + 1)) (number + 1) (earlier s scratch 0 (count + 1)) next)
+    withText (textAt s scratch number count)
+    (strings s (itemLimit - (count + 1)) (number + 1) (earlier s scratch 0 (count + 1)) next)
 
 -- a string, from behind it on
 unfoldable pub keptString : List ℕ → ℕ → ℕ → List (List ℕ) → Token → ℕ → Reading (List Text)
 keptString s number count seen t p =
     readUnless (listed (inner s t) seen) Overlap (t .start)
-    (goOnStrings s (record { number = number; text = inner s t }) (strings s (itemLimit - (count + 1)) (number + 1) (inner s t ∷ seen)) p)
+    (goOnStrings s (record { number = number; text = inner s t })
+    (strings s (itemLimit - (count + 1)) (number + 1) (inner s t ∷ seen)) p)
 
 -- a string's token, in quotes
 pub record QuotedToken (s : List ℕ) (t : Token) : Type 0 where
@@ -186,7 +195,8 @@ pub record StringIs (s : List ℕ) (number count : ℕ) (reading : Reading (List
 -- a list of strings
 abbrev pub stringsReading : List ℕ → ℕ → List ℕ → StringsRead → Reading (List Text)
 stringsReading s number scratch (stringsRead.Faulty x) = refused x
-stringsReading s number scratch (stringsRead.Strings count next) = got (itemsFrom (textAt s scratch) number 0 count) next
+stringsReading s number scratch (stringsRead.Strings count next) =
+    got (itemsFrom (textAt s scratch) number 0 count) next
 
 abbrev pub StringsPast : List ℕ → ℕ → List ℕ → StringsRead → Type 0
 StringsPast s number scratch (stringsRead.Faulty x) = Unit {0}

@@ -24,7 +24,8 @@ unfoldable pub start : List ℕ → ℕ → ℕ → Reading Start
 start s kind from = firstIn (rangeText.start s kind from)
 
 abbrev pub item : List ℕ → ℕ → Start → ℕ → Reading Interval
-item s kind x p = cond (x .single) (got (record { kind = integer; pair = pair (x .value) (x .value) }) p) (interval s kind p)
+item s kind x p =
+    cond (x .single) (got (record { kind = integer; pair = pair (x .value) (x .value) }) p) (interval s kind p)
 
 abbrev pub withFirst : Range → Reading Ranges → Reading Ranges
 withFirst x r = readThen r (λ l p. got (record { kind = l .kind; items = x ∷ l .items }) p)
@@ -60,7 +61,9 @@ unfoldable pub booleanList : List ℕ → ℕ → Token → Reading Leaf
 booleanList s number t = firstIn (leafText.booleanList s number t)
 
 abbrev pub patternLeaf : SingleSort → ℕ → ℕ → Token → Reading Leaf
-patternLeaf sort first number t = readUnless (eqb number recordLimit) TooManyRecords (t .start) (got (single sort number (patternFlag first t)) (t .end))
+patternLeaf sort first number t =
+    readUnless (eqb number recordLimit) TooManyRecords (t .start)
+    (got (single sort number (patternFlag first t)) (t .end))
 
 unfoldable pub leaf : List ℕ → ℕ → ℕ → Reading Leaf
 leaf s number from = firstIn (leafText.leaf s number from)

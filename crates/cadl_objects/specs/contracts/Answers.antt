@@ -105,13 +105,15 @@ attributeHead s seen next from =
 -- an object's head as a reading
 abbrev pub typedReading : List ℕ → ObjectHeadRead → Reading Typed
 typedReading s (objectHeadRead.Faulty x) = refused x
-typedReading s (objectHeadRead.Head typeStart typeEnd codeStart codeEnd behind) = got (record { type = part s typeStart typeEnd; code = part s codeStart codeEnd }) behind
+typedReading s (objectHeadRead.Head typeStart typeEnd codeStart codeEnd behind) =
+    got (record { type = part s typeStart typeEnd; code = part s codeStart codeEnd }) behind
 
 -- its opening brace, behind a type and a code that are read
 abbrev pub OpenedPast : List ℕ → Token → ℕ → ℕ → ℕ → ObjectHeadRead → Type 0
 OpenedPast s t start end from (objectHeadRead.Faulty x) = Unit {0}
 OpenedPast s t start end from (objectHeadRead.Head typeStart typeEnd codeStart codeEnd behind) =
-    (typeStart ≡ t .start) × (typeEnd ≡ t .end) × (codeStart ≡ start) × (codeEnd ≡ end) × (from < behind) × (behind ≤ length s)
+    (typeStart ≡ t .start) × (typeEnd ≡ t .end) × (codeStart ≡ start) × (codeEnd ≡ end) × (from < behind)
+    × (behind ≤ length s)
 
 pub record OpenedIs (s : List ℕ) (t : Token) (start end from : ℕ) (r : ObjectHeadRead) : Type 0 where
   pub is : typedReading s r ≡ readThen (opening s from)
@@ -130,7 +132,8 @@ pub record TypedPast (s : List ℕ) (next from typeStart typeEnd codeStart codeE
 
 abbrev pub ObjectHeadPast : List ℕ → ℕ → ℕ → ObjectHeadRead → Type 0
 ObjectHeadPast s next from (objectHeadRead.Faulty x) = Unit {0}
-ObjectHeadPast s next from (objectHeadRead.Head typeStart typeEnd codeStart codeEnd behind) = TypedPast s next from typeStart typeEnd codeStart codeEnd behind
+ObjectHeadPast s next from (objectHeadRead.Head typeStart typeEnd codeStart codeEnd behind) =
+    TypedPast s next from typeStart typeEnd codeStart codeEnd behind
 
 pub record ObjectHeadIs (s : List ℕ) (levels next from : ℕ) (r : ObjectHeadRead) : Type 0 where
   pub is : typedReading s r ≡ objectHead s levels next from
@@ -139,7 +142,8 @@ pub record ObjectHeadIs (s : List ℕ) (levels next from : ℕ) (r : ObjectHeadR
 -- an attribute's head as a reading
 abbrev pub namedReading : List ℕ → AttributeHeadRead → Reading NamedAttribute
 namedReading s (attributeHeadRead.Faulty x) = refused x
-namedReading s (attributeHeadRead.Head nameStart nameEnd existence behind) = got (record { name = part s nameStart nameEnd; existence = existence }) behind
+namedReading s (attributeHeadRead.Head nameStart nameEnd existence behind) =
+    got (record { name = part s nameStart nameEnd; existence = existence }) behind
 
 -- its opening brace, behind a name and an existence that are read
 abbrev pub NamedAt : List ℕ → Token → ℕ → ℕ → AttributeHeadRead → Type 0
@@ -163,7 +167,8 @@ pub record NamedPast (s : List ℕ) (next from nameStart nameEnd existence behin
 
 abbrev pub AttributeHeadPast : List ℕ → ℕ → ℕ → AttributeHeadRead → Type 0
 AttributeHeadPast s next from (attributeHeadRead.Faulty x) = Unit {0}
-AttributeHeadPast s next from (attributeHeadRead.Head nameStart nameEnd existence behind) = NamedPast s next from nameStart nameEnd existence behind
+AttributeHeadPast s next from (attributeHeadRead.Head nameStart nameEnd existence behind) =
+    NamedPast s next from nameStart nameEnd existence behind
 
 pub record AttributeHeadIs (s : List ℕ) (seen : List (List ℕ)) (next from : ℕ) (r : AttributeHeadRead) : Type 0 where
   pub is : namedReading s r ≡ attributeHead s seen next from

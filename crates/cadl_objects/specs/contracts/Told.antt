@@ -28,4 +28,5 @@ unfoldable pub attributeFrom : List ℕ → ℕ → List (List ℕ) → ℕ → 
 attributeFrom s levels seen next from = firstIn (Objects.attributeFrom s (Objects.objectFrom s levels) seen next from)
 
 unfoldable pub attributes : List ℕ → ℕ → ℕ → List (List ℕ) → ℕ → ℕ → Reading Attributes
-attributes s levels fuel seen next from = firstIn (Objects.attributes s (Objects.objectFrom s levels) fuel seen next from)
+attributes s levels fuel seen next from =
+    firstIn (Objects.attributes s (Objects.objectFrom s levels) fuel seen next from)

@@ -60,7 +60,10 @@ attributeWritten s little p rs bs (got a at) =
     let next = p .next + 1 + length table in
     record {
       answer = attributeBehind s at next (p .pool + length w + length (valuePool (a .value)));
-      records = sets rs (recordSize * p .next) (encodes little (attributeRow (a .existence) w (p .pool) (valueLink (a .value)) (nextLink s at next) ∷ table));
+      records =
+          sets rs (recordSize * p .next)
+          (encodes little
+          (attributeRow (a .existence) w (p .pool) (valueLink (a .value)) (nextLink s at next) ∷ table));
       bytes = sets bs (p .pool) (w ++ valuePool (a .value));
     }
 

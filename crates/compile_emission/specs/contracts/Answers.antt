@@ -131,7 +131,8 @@ firstLink any n = cond any 0 (n + 1)
 
 -- an object's record by its type and its code
 abbrev pub objectRow : List ℕ → List ℕ → ℕ → ℕ → Record
-objectRow t c pool first = make objectKind 0 (placeFor t pool ∷ length t ∷ placeFor c (pool + length t) ∷ length c ∷ first ∷ [])
+objectRow t c pool first =
+    make objectKind 0 (placeFor t pool ∷ length t ∷ placeFor c (pool + length t) ∷ length c ∷ first ∷ [])
 
 -- its record and its names are written
 pub record ObjectPut (t c : List ℕ) (little : Bool) (p : Spot) (place : ℕ) (any : Bool) (rs bs rs' bs' : List ℕ)
@@ -167,7 +168,8 @@ attributeWrote (attributeRead.More q) rs bs = record { answer = attributeRead.Mo
 abbrev pub attributeBehind : List ℕ → ℕ → ℕ → ℕ → AttributeRead
 attributeBehind s at next pool =
     let t = tokenAt s at in
-    cond (eqb (t .sort) closeBrace) (attributeRead.Last (spot (t .end) next pool)) (attributeRead.More (spot at next pool))
+    cond (eqb (t .sort) closeBrace) (attributeRead.Last (spot (t .end) next pool))
+    (attributeRead.More (spot at next pool))
 
 -- the link to the next attribute
 abbrev pub nextLink : List ℕ → ℕ → ℕ → ℕ
@@ -176,10 +178,13 @@ nextLink s at next = cond (eqb (tokenAt s at .sort) closeBrace) 0 next
 -- what closing an attribute behind its value answers and writes
 unfoldable pub closedAttribute : List ℕ → Bool → Spot → ℕ → List ℕ → Spot → List ℕ → List ℕ → Reading Token
     → Wrote AttributeRead
-closedAttribute s little p flag w q rs bs (refused x) = record { answer = attributeRead.Refused x; records = []; bytes = [] }
+closedAttribute s little p flag w q rs bs (refused x) =
+    record { answer = attributeRead.Refused x; records = []; bytes = [] }
 closedAttribute s little p flag w q rs bs (got t at) = record {
   answer = attributeBehind s at (q .next) (q .pool);
-  records = sets rs (recordSize * p .next) (encode little (attributeRow flag w (p .pool) (linkBelow (p .next + 1) (q .next)) (nextLink s at (q .next))));
+  records =
+      sets rs (recordSize * p .next)
+      (encode little (attributeRow flag w (p .pool) (linkBelow (p .next + 1) (q .next)) (nextLink s at (q .next))));
   bytes = bs;
 }
 

@@ -70,7 +70,8 @@ openReading down (Opens place start end next) = firstIn (down place (typeSpan st
 -- where an opening's places lie
 abbrev pub OpenPast : List ℕ → ℕ → Opening → Type 0
 OpenPast s from (Shut x) = Unit {0}
-OpenPast s from (Opens place start end next) = (from ≤ place) × (place < next) × (next ≤ length s) × (start ≤ end) × (end ≤ length s)
+OpenPast s from (Opens place start end next) =
+    (from ≤ place) × (place < next) × (next ≤ length s) × (start ≤ end) × (end ≤ length s)
 
 pub record OpeningIs (s : List ℕ) (from : ℕ) (reading : Down → Reading Block) (r : Opening) : Type 0 where
   pub is : (down : Down) → openReading down r ≡ reading down
@@ -82,7 +83,8 @@ pub record OutermostIs (s : List ℕ) (r : Opening) : Type 0 where
 
 -- the `<` of a block with a type, and the block
 unfoldable pub typedLess : List ℕ → ℕ → ℕ → ℕ → Down → Reading Block
-typedLess s start end from down = firstIn (andThen (expectData s less from) (λ t p. down (t .start) (some (span start end)) p))
+typedLess s start end from down =
+    firstIn (andThen (expectData s less from) (λ t p. down (t .start) (some (span start end)) p))
 
 -- behind `(`: a TYPE, `)`, `<` and a block
 unfoldable pub typedFrom : List ℕ → ℕ → Down → Reading Block
@@ -96,13 +98,17 @@ leafOf holds place x = cond (eqb holds isString) (string place x) (word place x)
 abbrev pub contentReading : Down → ContentStart → Reading PlacedContent
 contentReading down (content.Faulty x) = refused x
 contentReading down (content.Leaf holds place start end next) = got (leafOf holds place (span start end)) next
-contentReading down (content.Block place start end next) = Reading.readThen (firstIn (down place (typeSpan start end) next)) (λ d q. got (inside d) q)
+contentReading down (content.Block place start end next) =
+    Reading.readThen (firstIn (down place (typeSpan start end) next)) (λ d q. got (inside d) q)
 
 -- where its places lie
 abbrev pub ContentPast : List ℕ → ℕ → ContentStart → Type 0
 ContentPast s from (content.Faulty x) = Unit {0}
-ContentPast s from (content.Leaf holds place start end next) = (0 < holds) × (holds ≤ 2) × (from ≤ place) × (place + 2 ≤ next) × (next ≤ length s) × (start ≤ end) × (end ≤ length s)
-ContentPast s from (content.Block place start end next) = (from ≤ place) × (place < next) × (next ≤ length s) × (start ≤ end) × (end ≤ length s)
+ContentPast s from (content.Leaf holds place start end next) =
+    (0 < holds) × (holds ≤ 2) × (from ≤ place) × (place + 2 ≤ next) × (next ≤ length s) × (start ≤ end)
+    × (end ≤ length s)
+ContentPast s from (content.Block place start end next) =
+    (from ≤ place) × (place < next) × (next ≤ length s) × (start ≤ end) × (end ≤ length s)
 
 pub record ContentIs (s : List ℕ) (from : ℕ) (reading : Down → Reading PlacedContent) (r : ContentStart) : Type 0 where
   pub is : (down : Down) → contentReading down r ≡ reading down
@@ -130,7 +136,8 @@ contentOf s from down = firstIn (contentFrom s down from)
 -- a leaf whose `>` was read
 abbrev pub DataLeafPast : ℕ → ℕ → ℕ → ℕ → List ℕ → ℕ → ContentStart → Type 0
 DataLeafPast holds place start end s from (content.Faulty x) = Unit {0}
-DataLeafPast holds place start end s from (content.Leaf h p a e next) = (h ≡ holds) × (p ≡ place) × (a ≡ start) × (e ≡ end) × (from < next) × (next ≤ length s)
+DataLeafPast holds place start end s from (content.Leaf h p a e next) =
+    (h ≡ holds) × (p ≡ place) × (a ≡ start) × (e ≡ end) × (from < next) × (next ≤ length s)
 DataLeafPast holds place start end s from (content.Block p a e next) = ⊥
 
 pub record LeafEnds (s : List ℕ) (holds place start end from : ℕ) (r : ContentStart) : Type 0 where
@@ -192,7 +199,9 @@ memberReading s seen t down = firstIn (andThen (nameFrom s seen t) (λ w p. cont
 
 -- a row's numbers
 abbrev pub rowNumbers : Row → ℕ → List ℕ
-rowNumbers r next = r .holds ∷ r .«name_start» ∷ r .«name_end» ∷ r .place ∷ r .«type_start» ∷ r .«type_end» ∷ r .start ∷ r .end ∷ next ∷ []
+rowNumbers r next =
+    r .holds ∷ r .«name_start» ∷ r .«name_end» ∷ r .place ∷ r .«type_start» ∷ r .«type_end» ∷ r .start ∷ r .end ∷ next
+    ∷ []
 
 -- a row that its place on the tape and the numbers there hold
 pub record RowFits (n : ℕ) (r : Row) (next : ℕ) (tape : List ℕ) : Type 0 where
@@ -263,7 +272,9 @@ abbrev pub memberWritten : List ℕ → Token → ℕ → List ℕ → Reading P
 memberWritten s t n tape (refused x) = record { answer = Not x; tape = [] }
 memberWritten s t n tape (got c q) = record {
   answer = Member (n + 1 + contentRows c) (dataTokenAt s q);
-  tape = sets (sets tape (rowSize * (n + 1)) (contentTape c (n + 1))) (rowSize * n) (tapeRowOf (spanOf t) c (linkOf (dataTokenAt s q .sort) (n + 1 + contentRows c)));
+  tape =
+      sets (sets tape (rowSize * (n + 1)) (contentTape c (n + 1))) (rowSize * n)
+      (tapeRowOf (spanOf t) c (linkOf (dataTokenAt s q .sort) (n + 1 + contentRows c)));
 }
 
 -- the rows before row n and the levels left leave room for a block read from a place on
@@ -292,7 +303,8 @@ rowsWrote (Read rows place) tape = record { answer = Read rows place; tape = tap
 
 abbrev pub entriesWritten : ℕ → List ℕ → Reading Entries → RowsWrote RowsRead
 entriesWritten n tape (refused x) = record { answer = Refused x; tape = [] }
-entriesWritten n tape (got ms p) = record { answer = Read (n + entryRows ms) p; tape = sets tape (rowSize * n) (entriesTape ms n) }
+entriesWritten n tape (got ms p) =
+    record { answer = Read (n + entryRows ms) p; tape = sets tape (rowSize * n) (entriesTape ms n) }
 
 -- the members of a block of at most so many levels, from behind its `<` on
 unfoldable pub entriesFrom : List ℕ → ℕ → ℕ → ℕ → Reading Entries
@@ -321,8 +333,13 @@ endAnswer place start end rows (got t q) = read.Read place start end rows q
 -- what reading a data text answers, and the rows of its members on the tape from row 0 on; after a refusal nothing is said of the tape
 abbrev pub dataWrote : DataRead → List ℕ → RowsWrote DataRead
 dataWrote (read.Refused x) tape = record { answer = read.Refused x; tape = [] }
-dataWrote (read.Read place start end rows last) tape = record { answer = read.Read place start end rows last; tape = tape }
+dataWrote (read.Read place start end rows last) tape =
+    record { answer = read.Read place start end rows last; tape = tape }
 
 abbrev pub dataWritten : List ℕ → Reading Block → RowsWrote DataRead
 dataWritten tape (refused x) = record { answer = read.Refused x; tape = [] }
-dataWritten tape (got (block place type ms) last) = record { answer = read.Read place (typeStart type) (typeEnd type) (entryRows ms) last; tape = sets tape 0 (entriesTape ms 0) }
+dataWritten tape (got (block place type ms) last) =
+    record {
+      answer = read.Read place (typeStart type) (typeEnd type) (entryRows ms) last;
+      tape = sets tape 0 (entriesTape ms 0);
+    }

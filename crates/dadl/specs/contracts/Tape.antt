@@ -58,7 +58,8 @@ typeEnd (some x) = x .end
 abbrev pub tapeRowOf : Span → PlacedContent → ℕ → List ℕ
 tapeRowOf w (string p x) next = isString ∷ w .start ∷ w .end ∷ p ∷ 0 ∷ 0 ∷ x .start ∷ x .end ∷ next ∷ []
 tapeRowOf w (word p x) next = isWord ∷ w .start ∷ w .end ∷ p ∷ 0 ∷ 0 ∷ x .start ∷ x .end ∷ next ∷ []
-tapeRowOf w (inside (block p t ms)) next = isBlock ∷ w .start ∷ w .end ∷ p ∷ typeStart t ∷ typeEnd t ∷ 0 ∷ entryRows ms ∷ next ∷ []
+tapeRowOf w (inside (block p t ms)) next =
+    isBlock ∷ w .start ∷ w .end ∷ p ∷ typeStart t ∷ typeEnd t ∷ 0 ∷ entryRows ms ∷ next ∷ []
 
 -- the rows of members, the first of which has number n
 unfoldable mutual
@@ -68,7 +69,8 @@ unfoldable mutual
   pub entriesTape : Entries → ℕ → List ℕ
   entriesTape noMore n = []
   entriesTape (entry w c more) n =
-      tapeRowOf w c (nextRow (n + 1 + contentRows c) more) ++ (contentTape c (n + 1) ++ entriesTape more (n + 1 + contentRows c))
+      tapeRowOf w c (nextRow (n + 1 + contentRows c) more)
+      ++ (contentTape c (n + 1) ++ entriesTape more (n + 1 + contentRows c))
 
   pub contentTape : PlacedContent → ℕ → List ℕ
   contentTape (string p x) n = []
@@ -101,7 +103,8 @@ typeIn s row = cond (eqb (rowNumber row 5) 0) none (some (part s (rowNumber row 
 abbrev pub contentIn : List ℕ → List ℕ → Members → Data.Content
 contentIn s row ms =
     cond (eqb (rowNumber row 0) isBlock) (Data.block (datum (rowNumber row 3) (typeIn s row) ms))
-    (cond (eqb (rowNumber row 0) isString) (Data.string (rowNumber row 3) (part s (rowNumber row 6) (rowNumber row 7))) (Data.word (rowNumber row 3) (part s (rowNumber row 6) (rowNumber row 7))))
+    (cond (eqb (rowNumber row 0) isString) (Data.string (rowNumber row 3) (part s (rowNumber row 6) (rowNumber row 7)))
+    (Data.word (rowNumber row 3) (part s (rowNumber row 6) (rowNumber row 7))))
 
 -- the row with number n, and the members of its block from there on
 abbrev pub membersBy : List ℕ → ℕ → List ℕ → List Members → Members

@@ -21,7 +21,8 @@ nameOf pool r = take (field r 1) (drop (field r 0) pool)
 -- the numbers of the items from n on, from link to link, up to a link that is 0; `fuel` bounds how many
 unfoldable pub recordItems : List ℕ → ℕ → ℕ → List ℕ
 recordItems records zero n = []
-recordItems records (suc fuel) n = let more = recordItems records fuel (field (recordIn records n) 4) in cond (eqb n 0) [] (n ∷ more)
+recordItems records (suc fuel) n =
+    let more = recordItems records fuel (field (recordIn records n) 4) in cond (eqb n 0) [] (n ∷ more)
 
 -- the sort of a list, as the code tells it: integers have signs
 abbrev pub rangeSort : Bool → RangeSort
@@ -29,7 +30,8 @@ rangeSort true = integers
 rangeSort false = dates
 
 abbrev pub recordRange : RangeSort → ℕ → Record → Range
-recordRange sort n r = record { number = n; low = rangeRow sort .end (field r 0); high = rangeRow sort .end (field r 1) }
+recordRange sort n r =
+    record { number = n; low = rangeRow sort .end (field r 0); high = rangeRow sort .end (field r 1) }
 
 abbrev pub rangeIn : RangeSort → List ℕ → ℕ → Range
 rangeIn sort records n = recordRange sort n (recordIn records n)

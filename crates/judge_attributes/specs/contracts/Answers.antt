@@ -15,7 +15,9 @@ use Rattle.judge_attributes.specs.declared.Verdict.the-variants as verdi
 -- a row's string or word by the leaf whose first item has a number
 abbrev pub leafVerdict : List ℕ → List ℕ → List ℕ → ℕ → List ℕ → Verdicts.Verdict
 leafVerdict records pool s first row =
-    verdictOf first (rowNumber row 3) (findingUnder (recordLeaf records pool first) (eqb (rowNumber row 0) isString) (part s (rowNumber row 6) (rowNumber row 7)))
+    verdictOf first (rowNumber row 3)
+    (findingUnder (recordLeaf records pool first) (eqb (rowNumber row 0) isString)
+    (part s (rowNumber row 6) (rowNumber row 7)))
 
 -- a verdict of the walk
 abbrev pub verdictIn : Verdict → Verdicts.Verdict

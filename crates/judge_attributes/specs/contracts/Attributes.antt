@@ -52,7 +52,9 @@ module _ (m : Image) (s : List ℕ) (rows : ℕ) (tape : List ℕ) where
   -- a block that a step leads into is under an object, is a row's and can be walked, and is no deeper than what holds it
   abbrev pub Leads : (ℕ → Type 0) → AttributeAnswer → Type 0
   Leads Deep (Told v) = Unit {0}
-  Leads Deep (Nested object b) = (kindAt m (object .0) ≡ 1) × BlockGood (length s) rows b × OfRow rows tape b × ((levels : ℕ) → Deep levels → DatumWithin (datumOn s rows tape b) levels)
+  Leads Deep (Nested object b) =
+      (kindAt m (object .0) ≡ 1) × BlockGood (length s) rows b × OfRow rows tape b
+      × ((levels : ℕ) → Deep levels → DatumWithin (datumOn s rows tape b) levels)
 
   -- the value of a member, which has a row, by the object or the items with a number
   pub record ValueIs (value row : ℕ) (r : AttributeAnswer) : Type 0 where

@@ -73,7 +73,9 @@ admittedIn memo v n = eqb n 0 || (v .again && marked memo (v .base + n))
 -- the memo with the attributes from n on marked, up to the first that is admitted; `fuel` bounds how many
 unfoldable pub markAlong : List ℕ → Visit → ℕ → ℕ → List ℕ → List ℕ
 markAlong records v zero n memo = memo
-markAlong records v (suc fuel) n memo = cond (admittedIn memo v n) memo (markAlong records v fuel (field (recordIn records n) 3) (markBit memo (v .base + n)))
+markAlong records v (suc fuel) n memo =
+    cond (admittedIn memo v n) memo
+    (markAlong records v fuel (field (recordIn records n) 3) (markBit memo (v .base + n)))
 
 -- the same on a later visit of the block; on its first, the memo as before
 abbrev pub markChain : List ℕ → Visit → ℕ → List ℕ → List ℕ
@@ -99,7 +101,8 @@ pub record ChainMarked (records before : List ℕ) (base n : ℕ) (after : List 
 
 -- the attributes from n on admit the block
 abbrev pub BlockAdmitted : Image → List ℕ → ℕ → List ℕ → Block → ℕ → Type 0
-BlockAdmitted m s rows tape b n = judgeAttributes (attributesIn (treeAt m n)) (b .place) (membersOn s rows tape b) ≡ valid
+BlockAdmitted m s rows tape b n =
+    judgeAttributes (attributesIn (treeAt m n)) (b .place) (membersOn s rows tape b) ≡ valid
 
 -- the items from n on admit a value
 abbrev pub ValueAdmitted : List ℕ → List ℕ → ℕ → Bool → List ℕ → Type 0
@@ -113,7 +116,8 @@ RowAdmits records pool s tape row n =
 
 -- an item admits a value by itself, or the item next to it is marked
 abbrev pub leadsIn : List ℕ → List ℕ → ℕ → Record → Bool → List ℕ → Bool
-leadsIn pool memo base r isString w = itemAdmits pool r isString w || (not (eqb (field r 4) 0) && marked memo (base + field r 4))
+leadsIn pool memo base r isString w =
+    itemAdmits pool r isString w || (not (eqb (field r 4) 0) && marked memo (base + field r 4))
 
 -- the memo with item n marked, where it is an item of a list and those from it on are known to admit a value
 unfoldable pub markItem : List ℕ → List ℕ → ℕ → Bool → List ℕ → ℕ → List ℕ → List ℕ
@@ -124,19 +128,22 @@ markItem records pool base isString w n memo =
 -- the memo with items n to 1 marked so, the last first
 unfoldable pub markItems : List ℕ → List ℕ → ℕ → Bool → List ℕ → ℕ → List ℕ → List ℕ
 markItems records pool base isString w zero memo = memo
-markItems records pool base isString w (suc n) memo = markItems records pool base isString w n (markItem records pool base isString w (suc n) memo)
+markItems records pool base isString w (suc n) memo =
+    markItems records pool base isString w n (markItem records pool base isString w (suc n) memo)
 
 -- the memo with the items of the string or word of a row marked, and the row's own bit, where it was not set before
 unfoldable pub enterLeaf : List ℕ → List ℕ → List ℕ → List ℕ → ℕ → List ℕ → List ℕ
 enterLeaf records pool s tape row memo =
     let base = (row + 1) * recordCount records in
     let r = rowAt tape row in
-    let all = markItems records pool base (eqb (rowNumber r 0) isString) (part s (rowNumber r 6) (rowNumber r 7)) (recordCount records - 1) (markBit memo base) in
+    let all = markItems records pool base (eqb (rowNumber r 0) isString) (part s (rowNumber r 6) (rowNumber r 7))
+    (recordCount records - 1) (markBit memo base) in
     cond (marked memo base) memo all
 
 -- whether the memo then knows that the items from n on admit it
 abbrev pub knownIn : List ℕ → List ℕ → List ℕ → List ℕ → ℕ → ℕ → List ℕ → Bool
-knownIn records pool s tape row n memo = marked (enterLeaf records pool s tape row memo) ((row + 1) * recordCount records + n)
+knownIn records pool s tape row n memo =
+    marked (enterLeaf records pool s tape row memo) ((row + 1) * recordCount records + n)
 
 -- what marking the items of a row asks: the bits from `base` on tell the truth of its value
 pub record Listing (records pool memo : List ℕ) (base : ℕ) (isString : Bool) (w : List ℕ) : Type 0 where

@@ -68,7 +68,13 @@ pub record LeafRow (rows : ℕ) (tape : List ℕ) (n : ℕ) : Type 0 where
 abbrev pub blockOn : List ℕ → ℕ → Block
 blockOn tape n =
     let row = rowAt tape n in
-    record { place = rowNumber row 3; «type_start» = rowNumber row 4; «type_end» = rowNumber row 5; first = n + 1; inside = rowNumber row 7 }
+    record {
+      place = rowNumber row 3;
+      «type_start» = rowNumber row 4;
+      «type_end» = rowNumber row 5;
+      first = n + 1;
+      inside = rowNumber row 7;
+    }
 
 -- a block whose first row tells which row's it is, and the row holds a block; the outermost block's is 0
 pub record OfRow (rows : ℕ) (tape : List ℕ) (b : Block) : Type 0 where

@@ -53,7 +53,8 @@ unfoldable mutual
 
   pub ProperAttributes : Attributes → Type 0
   ProperAttributes noMore = Unit {0}
-  ProperAttributes (attribute h v more) = (h .existence ≤ 2) × ProperName (h .name) × ProperValue v × ProperAttributes more
+  ProperAttributes (attribute h v more) =
+      (h .existence ≤ 2) × ProperName (h .name) × ProperValue v × ProperAttributes more
 
   pub ProperValue : Value → Type 0
   ProperValue any = Unit {0}

@@ -30,7 +30,8 @@ expectedOf t sort = cond (eqb (t .sort) sort) (Taken t) (Fault (refusal (causeOf
 -- a token taken from a place on lies in the text; one of a sort from 2 on has a byte
 abbrev pub TokenPast : List ℕ → ℕ → ℕ → Expected → Type 0
 TokenPast s sort from (Fault x) = Unit {0}
-TokenPast s sort from (Taken t) = (from ≤ t .start) × (t .start ≤ t .end) × (t .end ≤ length s) × (1 < sort → t .start < t .end)
+TokenPast s sort from (Taken t) =
+    (from ≤ t .start) × (t .start ≤ t .end) × (t .end ≤ length s) × (1 < sort → t .start < t .end)
 
 -- the answer is the reading, a token of the sort asked for from a place on, or a refusal
 pub record ExpectIs (s : List ℕ) (sort from : ℕ) (reading : Reading Token) (r : Expected) : Type 0 where

@@ -73,4 +73,5 @@ abbrev pub plainHeader : Entry → Bool
 plainHeader h = eqb (h .kind) 0 && (eqb (h .flag) 0 && (eqb (h .d) 0 && eqb (h .e) 0))
 
 abbrev pub countsRight : Entry → ℕ → Bool
-countsRight h length = leb 2 (h .a) && (leb (h .a) recordLimit && (leb (h .b) poolLimit && eqb length (recordSize * h .a + h .b)))
+countsRight h length =
+    leb 2 (h .a) && (leb (h .a) recordLimit && (leb (h .b) poolLimit && eqb length (recordSize * h .a + h .b)))

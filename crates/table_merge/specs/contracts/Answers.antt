@@ -29,7 +29,8 @@ movedPlace by x length = movedField (shifts 0 by) (place 0 0) x length
 
 -- a record moved as one of a shape
 abbrev pub movedAs : Shifts → Shape → Record → Record
-movedAs s shape r = record { kind = r .kind; flag = r .flag; fields = movedFields s (rowFor shape .uses (r .fields)) (r .fields) }
+movedAs s shape r =
+    record { kind = r .kind; flag = r .flag; fields = movedFields s (rowFor shape .uses (r .fields)) (r .fields) }
 
 -- a record that is moved so still fits: each field is below 2 ^ 32
 pub record Movable (s : Shifts) (shape : Shape) (r : Record) : Type 0 where
