@@ -19,6 +19,7 @@ use refusals::steps::expect;
 use refusals::steps::syntax_fault;
 use values::calendar::day_after;
 use values::calendar::day_before;
+use values::integers::GREATEST;
 use values::integers::around;
 use values::integers::inside;
 ghost use mathlib.Core.Path.{_≡_};
@@ -36,9 +37,6 @@ pub const UNDECIDED: u8 = 0;
 const FIRST_DAY: u32 = 101;
 
 const LAST_DAY: u32 = 99_991_231;
-
-// 2,147,483,647 as a distance.
-const GREATEST: u32 = 4_294_967_295;
 
 // An interval's kind, its low end, its high end or, where `below` says so, the value that it must stay below, and the place
 // behind them, or the refusal before it. A low end that is moved may lie behind the range's end.

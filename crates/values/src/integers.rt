@@ -18,7 +18,7 @@ pub enum Number {
 const NOUGHT: u32 = 2_147_483_648;
 
 // 2,147,483,647 as a distance.
-const GREATEST: u32 = 4_294_967_295;
+pub const GREATEST: u32 = 4_294_967_295;
 
 // The number that digits spell, up to 2,147,483,648: a longer run is left as soon as it is larger.
 fn digits(ds: &[u8]) -> Number
