@@ -84,6 +84,7 @@ impl<'t> Image<'t> {
             }
             LeafBody::DatePattern(flag) => self.records.push(Record::DatePattern { flag: *flag }),
             LeafBody::TimePattern(flag) => self.records.push(Record::TimePattern { flag: *flag }),
+            LeafBody::DurationPattern(flag) => self.records.push(Record::DurationPattern { flag: *flag }),
             LeafBody::Items(items) => self.items(leaf.number, items),
         }
     }

@@ -8,7 +8,7 @@ use crate::faults::{length_fault, Ended, Fault, Faults, Read};
 use crate::intervals::{closed_pair, overlap, End};
 use crate::limits;
 use crate::numbers;
-use crate::tokens::{token_at, Kind, Token};
+use crate::tokens::{token_at, value_token_at, Kind, Token};
 
 /// The parse tree of a text without fault. Object 0 is the outermost.
 pub struct Tree<'t> {
@@ -57,6 +57,7 @@ pub enum LeafBody<'t> {
     Items(Vec<Item<'t>>),
     DatePattern(u8),
     TimePattern(u8),
+    DurationPattern(u8),
 }
 
 /// One item; intervals are closed pairs.
@@ -257,6 +258,7 @@ impl<'t> Reader<'t> {
         }
         let existence = self.existence()?;
         self.matches_brace()?;
+        self.token = value_token_at(self.text, self.token.start);
         let value = match self.token.kind {
             Kind::Star => {
                 self.take();
@@ -314,6 +316,7 @@ impl<'t> Reader<'t> {
             Kind::Boolean(value) => self.booleans(value),
             Kind::DatePattern(flag) => Ok(self.pattern(LeafBody::DatePattern(flag))),
             Kind::TimePattern(flag) => Ok(self.pattern(LeafBody::TimePattern(flag))),
+            Kind::DurationPattern(flag) => Ok(self.pattern(LeafBody::DurationPattern(flag))),
             _ => self.items(),
         }
     }

@@ -2,6 +2,7 @@
 
 use crate::api::JudgeAnswer;
 use crate::data::{self, Block, Datum, LeafValue, Tree};
+use crate::durations;
 use crate::faults::Fault;
 use crate::numbers;
 use crate::patterns;
@@ -139,6 +140,9 @@ impl<'a> Judge<'a> {
             }
             (Record::TimePattern { flag }, LeafValue::Word(word)) => {
                 words::time(word).map(|time| patterns::admits_time(flag, time))
+            }
+            (Record::DurationPattern { flag }, LeafValue::Word(word)) => {
+                durations::word(word).map(|filled| durations::admits(flag, filled))
             }
             _ => None,
         }

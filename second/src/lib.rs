@@ -9,6 +9,7 @@ mod compile;
 mod constraint;
 mod data;
 pub mod decisions;
+mod durations;
 pub mod examples;
 mod faults;
 pub mod generator;

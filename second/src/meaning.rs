@@ -3,6 +3,7 @@
 use crate::api::{JudgeAnswer, MeaningAnswer};
 use crate::constraint::{self, Attribute, Existence, Item, Leaf, LeafBody, Object, Value};
 use crate::data::{self, Block, Datum, LeafValue};
+use crate::durations;
 use crate::numbers;
 use crate::patterns;
 use crate::words::{self, PartialDate};
@@ -84,6 +85,9 @@ fn admits(leaf: &Leaf, value: LeafValue) -> Option<bool> {
         }
         (LeafBody::TimePattern(flag), LeafValue::Word(word)) => {
             words::time(word).map(|time| patterns::admits_time(*flag, time))
+        }
+        (LeafBody::DurationPattern(flag), LeafValue::Word(word)) => {
+            durations::word(word).map(|filled| durations::admits(*flag, filled))
         }
         (_, LeafValue::Text(_)) => None,
     }

@@ -79,7 +79,8 @@ impl Shifts {
             Record::Header { .. }
             | Record::Boolean { .. }
             | Record::DatePattern { .. }
-            | Record::TimePattern { .. } => record,
+            | Record::TimePattern { .. }
+            | Record::DurationPattern { .. } => record,
         }
     }
 }

@@ -31,6 +31,7 @@ pub enum Record {
     DatePattern { flag: u8 },
     DateInterval { low: Date, high: Date, next: RecordNumber },
     TimePattern { flag: u8 },
+    DurationPattern { flag: u8 },
 }
 
 /// A record as it lies in the table: mark read, kind, flag and five numbers.
@@ -130,7 +131,7 @@ fn read_record(bytes: &[u8], number: RecordNumber, count: u32, pool: u32) -> Opt
         2 => Record::Attribute {
             existence: rules.flag(raw.flag, 0, 2)?,
             name: rules.part(a, b, 1, limits::NAME)?,
-            value: rules.link(c, |kind| matches!(kind, 1 | 3..=8))?,
+            value: rules.link(c, |kind| matches!(kind, 1 | 3..=9))?,
             next: rules.link(d, |kind| kind == 2)?,
         },
         3 => Record::Boolean { flag: rules.flag(raw.flag, 1, 3)? },
@@ -143,6 +144,7 @@ fn read_record(bytes: &[u8], number: RecordNumber, count: u32, pool: u32) -> Opt
             next: rules.link(e, |kind| kind == 7)?,
         },
         8 => Record::TimePattern { flag: rules.flag(raw.flag, 1, 4)? },
+        9 => Record::DurationPattern { flag: rules.flag(raw.flag, 1, 127)? },
         _ => return None,
     };
     // "A field not named is 0": then the record written anew is the one read.
@@ -215,6 +217,7 @@ impl Record {
             Record::DatePattern { flag } => (6, flag, [0; 5]),
             Record::DateInterval { low, high, next } => (7, 0, [low.packed(), high.packed(), 0, 0, next.0]),
             Record::TimePattern { flag } => (8, flag, [0; 5]),
+            Record::DurationPattern { flag } => (9, flag, [0; 5]),
         };
         Raw { kind, flag, numbers }
     }

@@ -1,6 +1,7 @@
 //! The tokens of a constraint text, by longest match.
 
 use crate::bytes::{count_while, is_identifier, skip_separators, string_length};
+use crate::durations;
 use crate::patterns;
 
 /// The kinds of token; the text end is a token too.
@@ -28,6 +29,8 @@ pub enum Kind {
     String,
     DatePattern(u8),
     TimePattern(u8),
+    /// Never by longest match, only where a value may stand.
+    DurationPattern(u8),
     End,
     Unreadable,
 }
@@ -58,6 +61,18 @@ pub fn token_at(text: &[u8], place: usize) -> Token {
     let rest = &text[start..];
     let (kind, length) = if rest.is_empty() { (Kind::End, 0) } else { longest(rest) };
     Token { kind, start, end: start + length }
+}
+
+/// The token where an attribute's value may stand: "a token such as Pd, a TYPE too, is the pattern exactly
+/// when `}` follows", every other one is what it is elsewhere.
+pub fn value_token_at(text: &[u8], place: usize) -> Token {
+    let token = token_at(text, place);
+    match durations::pattern(token.spelling(text)) {
+        Some(flag) if token_at(text, token.end).kind == Kind::CloseBrace => {
+            Token { kind: Kind::DurationPattern(flag), ..token }
+        }
+        _ => token,
+    }
 }
 
 /// "Tokens by longest match": every rule is tried and the longest match taken.

@@ -1,6 +1,7 @@
 //! What a word of a data text reads as.
 
 use crate::calendar::{days_in_month, Date};
+use crate::durations;
 use crate::numbers::{fixed_digits, integer};
 
 /// `yyyy`, `yyyy-mm` or `yyyy-mm-dd`.
@@ -19,9 +20,14 @@ pub enum PartialTime {
     Second,
 }
 
-/// "it is good if it reads as at least one of: True or False; an integer; a date ...; a time ..."
+/// "it is good if it reads as at least one of: True or False; an integer; a date ...; a time ...",
+/// and a duration is good too.
 pub fn is_good(word: &[u8]) -> bool {
-    boolean(word).is_some() || integer(word).is_some() || date(word).is_some() || time(word).is_some()
+    boolean(word).is_some()
+        || integer(word).is_some()
+        || date(word).is_some()
+        || time(word).is_some()
+        || durations::word(word).is_some()
 }
 
 pub fn boolean(word: &[u8]) -> Option<bool> {

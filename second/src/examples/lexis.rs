@@ -183,6 +183,7 @@ pub fn token_sort(kind: Kind) -> String {
         Kind::Unreadable => "unreadable",
         Kind::DatePattern(flag) => return format!("(datePattern + {flag})"),
         Kind::TimePattern(flag) => return format!("(timePattern + {flag})"),
+        Kind::DurationPattern(flag) => return format!("(durationPattern + {flag})"),
     };
     String::from(name)
 }

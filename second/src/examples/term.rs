@@ -106,6 +106,7 @@ pub fn leaf(leaf: &Leaf, first: u32, spell: Spell) -> String {
         }
         LeafBody::DatePattern(flag) => format!("(single datePattern {first} {flag})"),
         LeafBody::TimePattern(flag) => format!("(single timePattern {first} {flag})"),
+        LeafBody::DurationPattern(flag) => format!("(single durationPattern {first} {flag})"),
         LeafBody::Items(items) => {
             let kind = match items.first() {
                 Some(Item::Integer(_)) => "ranges integers",
