@@ -30,3 +30,8 @@ pub mod ReaderSteps
 pub mod Stores
 pub mod Enclosed
 pub mod Comparing
+pub mod SlotLaws
+pub mod DurationLaws
+pub mod DurationSteps
+pub mod ContentSteps
+pub mod ContentLaws

@@ -80,7 +80,7 @@ module _ (s : List ℕ) (at : ℕ) where
       alike c q = sym (ap (λ (t : Token). t .sort) e) ∙ c .alike (ap (λ (t : Token). t .end) e ∙ q)
 
 -- the token that the definition finds is the next
-next-is : (s : List ℕ) (from : ℕ) → NextIs s from (tokenAt s from)
+pub next-is : (s : List ℕ) (from : ℕ) → NextIs s from (tokenAt s from)
 unfolding tokenAt
 next-is s from =
     let at = tokenStart s from in
@@ -90,7 +90,7 @@ next-is s from =
     (λ e. let l = leb-false (length s) at e in read-next s at g l refl (on-reads s at l))
 
 -- the next token is the one that the definition finds
-is-next : {s : List ℕ} {from : ℕ} {t : Token} → NextIs s from t → tokenAt s from ≡ t
+pub is-next : {s : List ℕ} {from : ℕ} {t : Token} → NextIs s from t → tokenAt s from ≡ t
 unfolding tokenAt
 is-next {s} {from} (NextIs.ends {at = at} g l) = ap (tokenOn s) (separated s from at .1 g) ∙ ends-on s at l
 is-next {s} {from} (NextIs.none {at = at} g l n) = ap (tokenOn s) (separated s from at .1 g) ∙ none-read s at (on-reads s at l) n

@@ -3,8 +3,10 @@ pub mod Bytes
 pub mod Runs
 pub mod Blanks
 pub mod Spelling
+pub mod Durations
 pub mod Tokens
 pub mod DataTokens
 pub mod SpellingRules
+pub mod DurationRules
 pub mod LongestMatch
 pub mod contracts

@@ -1,16 +1,20 @@
 -- Which token stands next in a text, as rules. Document 01, 'Constraint text': "Tokens by longest match; space, tab, CR, LF and `--` with any bytes up to the next CR or LF separate";
 -- 'Data text': "same blanks and comments (a comment starts only where a token may)"; "the longest run of letters, digits, `_ + - . :`. A run that opens with a small letter is a NAME or
--- unreadable (2), never a word; after `(` a run is a TYPE or unreadable"; 'Numbers of refusal', 2: "text end is a token". Proved one with tokenStart, tokenAt, dataTokenAt, typeTokenAt. Assumes nothing.
+-- unreadable (2), never a word; after `(` a run is a TYPE or unreadable"; 'Numbers of refusal', 2: "text end is a token"; document 02, 1: "Where a leaf may stand, a token such as Pd, a TYPE too, is
+-- the pattern exactly when `}` .. follows". Proved one with tokenStart, tokenAt, contentTokenAt, dataTokenAt, typeTokenAt. Assumes nothing.
 use mathlib.Core.Path.{_≡_}
 use mathlib.Core.List.{List, [], _∷_}
 use Prim.Native.Nat.{ℕ, _+_, _≤_, _<_}
 use lib.ListN.{length}
 use Rattle.lexis.specs.Text.{byte, bytes}
 use Rattle.lexis.specs.Runs.{part, StandsAt}
+use Rattle.lexis.specs.Spelling.{closeBrace}
 use Rattle.lexis.specs.Tokens.{token, textEnd, unreadable, typeName, name}
+use Rattle.lexis.specs.Durations.{durationPattern}
 use Rattle.lexis.specs.DataTokens.{wordRun}
 use Rattle.lexis.specs.declared.Token.{Token}
 use Rattle.lexis.specs.SpellingRules.{Small, RunByte, All, SpellsType, SpellsName, Spells, SpellsData}
+use Rattle.lexis.specs.DurationRules.{SpellsPattern}
 
 -- CR and LF
 pub data LineEnd : ℕ → Type 0 where
@@ -54,6 +58,18 @@ pub data NextIs (s : List ℕ) (from : ℕ) : Token → Type 0 where
   none : {at : ℕ} → Separates s from at → at < length s → ((sort end : ℕ) → ¬ SpelledAt Spells s at sort end)
       → NextIs s from (token unreadable at at)
   longest : {at sort end : ℕ} → Separates s from at → LongestAt Spells s at sort end → NextIs s from (token sort at end)
+
+-- a TYPE spelled as the Duration pattern of a flag, from one place up to another, with `}` as the next token
+pub data PatternHere (s : List ℕ) (from start end flag : ℕ) : Type 0 where
+  patternHere : {after behind : ℕ} → NextIs s from (token typeName start end) → SpellsPattern (part s start end) flag
+      → NextIs s end (token closeBrace after behind) → PatternHere s from start end flag
+
+-- the next token where a value may stand
+pub data NextContentIs (s : List ℕ) (from : ℕ) : Token → Type 0 where
+  pattern : {start end flag : ℕ} → PatternHere s from start end flag
+      → NextContentIs s from (token (durationPattern + flag) start end)
+  other : {t : Token} → NextIs s from t → ((start end flag : ℕ) → ¬ PatternHere s from start end flag)
+      → NextContentIs s from t
 
 -- the longest run at a place: at least one byte, and none behind it goes on in it
 pub record RunAt (s : List ℕ) (at end : ℕ) : Type 0 where

@@ -1,5 +1,6 @@
 -- The tokens of constraint text. Document 01, 'Constraint text': "Tokens by longest match"; the text's end is a token (number 2).
--- What begins as a pattern, a date or a longer mark is that, and not the shorter NAME, TYPE, integer or mark with which it begins.
+-- What begins as a pattern, a date or a longer mark is that, and not the shorter NAME, TYPE, integer or mark with which it begins. Document 02, 1: "Where a leaf may stand, a token such as Pd, a
+-- TYPE too, is the pattern exactly when `}` .. follows".
 -- Assumes nothing.
 use mathlib.Core.Bool.{Bool, false, cond, _&&_, _||_}
 use mathlib.Core.List.{List, [], _∷_}
@@ -10,7 +11,8 @@ use lib.ListN.{length, drop}
 use Rattle.lexis.specs.Bytes.{is, digit, small, capital, mark, wordByte, stringByte}
 use Rattle.lexis.specs.Runs.{past, byteAt, part, startsWith, shaped}
 use Rattle.lexis.specs.Blanks.{tokenStart}
-use Rattle.lexis.specs.Spelling.{Literal, wordSort, markSpellings, keywords, elementSign, booleans, datePatternSpellings, timePatternSpellings, codeStart, dateShape}
+use Rattle.lexis.specs.Spelling.{Literal, closeBrace, wordSort, markSpellings, keywords, elementSign, booleans, datePatternSpellings, timePatternSpellings, codeStart, dateShape}
+use Rattle.lexis.specs.Durations.{patternSlots, durationPattern}
 use Rattle.lexis.specs.declared.Token.{Token}
 
 -- the sorts of tokens that are spelled in many ways
@@ -116,3 +118,14 @@ tokenOn s at =
 -- the next token, from a place on
 unfoldable pub tokenAt : List ℕ → ℕ → Token
 tokenAt s from = tokenOn s (tokenStart s from)
+
+-- the flag of the Duration pattern that a TYPE is spelled as, 0 for none
+abbrev pub durationFlag : List ℕ → Token → ℕ
+durationFlag s t = cond (eqb (t .sort) typeName) (patternSlots (spelling s t)) 0
+
+-- the next token where a value may stand: a TYPE that is spelled as a Duration pattern is the pattern where `}` follows
+unfoldable pub contentTokenAt : List ℕ → ℕ → Token
+contentTokenAt s from =
+    let t = tokenAt s from in
+    let flag = durationFlag s t in
+    cond (leb 1 flag && eqb (tokenAt s (t .end) .sort) closeBrace) (token (durationPattern + flag) (t .start) (t .end)) t

@@ -3,6 +3,7 @@ ghost use mathlib.Core.Path.{_≡_};
 ghost use Rattle.lexis.specs.Tokens.{noToken};
 
 pub mod data_tokens;
+pub mod durations;
 pub mod reader;
 pub mod runs;
 pub mod sorts;
@@ -75,6 +76,9 @@ pub const CLOSE_ROUND: u8 = 25;
 pub const DATE_PATTERN: u8 = 30;
 
 pub const TIME_PATTERN: u8 = 40;
+
+// The sort before the first Duration pattern's: a pattern's is 100 and its flag.
+pub const DURATION_PATTERN: u8 = 100;
 
 // What stands at a place where nothing can be read: a token without bytes.
 pub fn no_token(at: usize) -> Token

@@ -1,12 +1,15 @@
 // Tokens of constraint text.
+use crate::CLOSE_BRACE;
 use crate::CODE;
 use crate::DATE;
+use crate::DURATION_PATTERN;
 use crate::INTEGER;
 use crate::NAME;
 use crate::STRING;
 use crate::TEXT_END;
 use crate::TYPE_NAME;
 use crate::Token;
+use crate::durations::pattern_slots;
 use crate::no_token;
 use crate::reader::Tokens;
 use crate::reader::token_from;
@@ -35,9 +38,9 @@ ghost use lib.ListN.{length, drop};
 ghost use Rattle.lexis.specs.Text.{byte};
 ghost use Rattle.lexis.specs.Bytes.{is, digit};
 ghost use Rattle.lexis.specs.Runs.{byteAt};
-ghost use Rattle.lexis.specs.Spelling.{keywords, booleans, datePatternSpellings, timePatternSpellings};
-ghost use Rattle.lexis.specs.Tokens.{typeName, name, word, number, sign, quoted, codeEnd, bracket, special, tokenOn, tokenAt, spelled};
-ghost use Rattle.lexis.specs.contracts.Answers.{wordsOf, TokenIs};
+ghost use Rattle.lexis.specs.Spelling.{closeBrace, keywords, booleans, datePatternSpellings, timePatternSpellings};
+ghost use Rattle.lexis.specs.Tokens.{typeName, name, word, number, sign, quoted, codeEnd, bracket, special, tokenOn, tokenAt, contentTokenAt, spelled};
+ghost use Rattle.lexis.specs.contracts.Answers.{wordsOf, TokenIs, TypeThere, patternOrType};
 
 // A word: of the family's sort where the family spells it, else of the sort given.
 fn word(s: &[u8], at: usize, f: Words, sort: u8) -> Token
@@ -241,4 +244,49 @@ pub fn token_at(s: &[u8], from: usize) -> Token
     ensures { λ r. ⌜ TokenIs (now (s .entry)) from (tokenAt (now (s .entry)) from) r ⌝ }
 {
     token_from(s, from, Tokens::Constraint)
+}
+
+// The next token from a place on is `}`.
+fn closes(s: &[u8], from: usize) -> bool
+    requires { ⌜ from ≤ length (now s) ⌝ }
+    ensures { λ r. ⌜ r ≡ eqb (tokenAt (now (s .entry)) from .sort) closeBrace ⌝ }
+{
+    let t = token_at(s, from);
+    t.sort == CLOSE_BRACE
+}
+
+// The Duration pattern that a TYPE is spelled as, where `}` follows, or else the TYPE.
+fn pattern_or_type(s: &[u8], t: Token) -> Token
+    requires { ⌜ TypeThere (now s) t ⌝ }
+    ensures { λ r. ⌜ r ≡ patternOrType (now (s .entry)) t ⌝ }
+{
+    let start = t.start;
+    let end = t.end;
+    if s[start] != b'P' {
+        return t;
+    }
+    let flag = pattern_slots(&s[start..end]);
+    if flag < 1 {
+        return t;
+    }
+    if !closes(s, end) {
+        return t;
+    }
+    Token {
+        sort: DURATION_PATTERN + flag,
+        start,
+        end,
+    }
+}
+
+// The next token of constraint text where a value may stand, from a place on.
+pub fn content_token_at(s: &[u8], from: usize) -> Token
+    requires { ⌜ from ≤ length (now s) ⌝ }
+    ensures { λ r. ⌜ TokenIs (now (s .entry)) from (contentTokenAt (now (s .entry)) from) r ⌝ }
+{
+    let t = token_at(s, from);
+    if t.sort != TYPE_NAME {
+        return t;
+    }
+    pattern_or_type(s, t)
 }

@@ -1,5 +1,6 @@
 -- What belongs to each sort of leaf, a row for each: the kind of its records, its flags or how its ends stand in a record, and how it reads a word. Document 01, 'Table', the table
--- of kinds; 'Meaning': "Lists admit a value in some item; a date interval admits full dates only. Patterns: lettered parts must be there, `??` may, `XX` may not .. the zone is free".
+-- of kinds; 'Meaning': "Lists admit a value in some item; a date interval admits full dates only. Patterns: lettered parts must be there, `??` may, `XX` may not .. the zone is free"; document 02, 1: "A value is admitted when each slot it fills is in
+-- the pattern .. New kind 9; .. the flag is 1 to 127".
 -- Assumes nothing.
 use mathlib.Core.Bool.{Bool, false, _&&_, _||_}
 use mathlib.Core.List.{List, [], _∷_}
@@ -8,9 +9,10 @@ use lib.Dec.{eqb, leb}
 use Rattle.values.specs.Integers.{integerOf, twosComplement}
 use Rattle.values.specs.Dates.{dateOf}
 use Rattle.values.specs.Times.{timeOf}
-use Rattle.values.specs.Patterns.{fitsDate, fitsTime}
+use Rattle.values.specs.Durations.{durationOf}
+use Rattle.values.specs.Patterns.{fitsDate, fitsTime, fitsDuration}
 use Rattle.values.specs.Words.{booleanOf}
-use Rattle.meaning.specs.Constraints.{Range, SingleSort, booleans, datePattern, timePattern, RangeSort, integers, dates}
+use Rattle.meaning.specs.Constraints.{Range, SingleSort, booleans, datePattern, timePattern, durationPattern, RangeSort, integers, dates}
 use Rattle.meaning.specs.Findings.{Finding, try}
 
 -- the flag of Booleans has True as 1 and False as 2
@@ -35,6 +37,7 @@ singleRow booleans = record { kind = 3; greatest = 3; under = λ flag w. try (bo
 singleRow datePattern =
     record { kind = 6; greatest = 5; under = λ flag w. try (dateOf w) (λ d. fitsDate flag (d .parts)) }
 singleRow timePattern = record { kind = 8; greatest = 4; under = λ flag w. try (timeOf w) (fitsTime flag) }
+singleRow durationPattern = record { kind = 9; greatest = 127; under = λ flag w. try (durationOf w) (fitsDuration flag) }
 
 -- the kind of its records, an end as a record has it, which is also the way back, and how a word stands to the items
 pub record RangeRow : Type 0 where

@@ -5,7 +5,7 @@ use mathlib.Core.List.{List, [], _∷_}
 use Prim.Native.Nat.{ℕ, suc}
 use lib.ListN.{getD}
 use Rattle.refusals.specs.Limits.{nameLimit, codeLimit, stringLimit}
-use Rattle.meaning.specs.Constraints.{SingleSort, booleans, datePattern, timePattern, RangeSort, integers, dates}
+use Rattle.meaning.specs.Constraints.{SingleSort, booleans, datePattern, timePattern, durationPattern, RangeSort, integers, dates}
 use Rattle.meaning.specs.Sorts.{singleRow, rangeRow, textKind}
 use Rattle.table.specs.Records.{Image, fieldCount, padded}
 
@@ -19,7 +19,7 @@ pub data Shape : Type 0 where
 abbrev pub shapes : List Shape
 shapes =
     tableHeader ∷ object ∷ attribute ∷ single booleans ∷ range integers ∷ text ∷ single datePattern ∷ range dates
-    ∷ single timePattern ∷ []
+    ∷ single timePattern ∷ single durationPattern ∷ []
 
 unfoldable pub shapeOf : ℕ → Shape
 shapeOf kind = getD shapes kind tableHeader

@@ -3,6 +3,7 @@ pub mod Calendar
 pub mod Days
 pub mod Dates
 pub mod Times
+pub mod Durations
 pub mod Patterns
 pub mod Words
 pub mod WordRules

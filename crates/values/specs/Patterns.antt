@@ -1,9 +1,9 @@
--- Date and time patterns. Document 01, 'Constraint text': "Date patterns: yyyy-mm-dd, yyyy-mm-??, yyyy-??-??, yyyy-mm-XX, yyyy-??-XX. Time patterns:
+-- Patterns by their flags. Document 01, 'Constraint text': "Date patterns: yyyy-mm-dd, yyyy-mm-??, yyyy-??-??, yyyy-mm-XX, yyyy-??-XX. Time patterns:
 -- Thh:mm:ss, Thh:mm:XX, Thh:??:XX, Thh:??:??", with flags 1..5 and 1..4 as listed ('Table'); 'Meaning': "lettered parts must be there, `??` may,
--- `XX` may not, and no part without the one before it". Assumes nothing.
-use mathlib.Core.Bool.{Bool, true, false, cond, _&&_}
+-- `XX` may not, and no part without the one before it"; document 02, 1: "A value is admitted when each slot it fills is in the pattern". Assumes nothing.
+use mathlib.Core.Bool.{Bool, true, false, cond, _&&_, _||_}
 use mathlib.Core.List.{List, [], _∷_}
-use Prim.Native.Nat.{ℕ, _-_}
+use Prim.Native.Nat.{ℕ, zero, suc, _-_, _/_, _%_}
 use lib.Dec.{eqb}
 use lib.ListN.{getD}
 
@@ -47,3 +47,16 @@ fitsDate flag parts = fits (getD ([] ∷ datePatterns) flag []) parts
 
 unfoldable pub fitsTime : ℕ → ℕ → Bool
 fitsTime flag parts = fits (getD ([] ∷ timePatterns) flag []) parts
+
+-- a slot, by the lowest bit of what a value fills and of the pattern
+abbrev pub slotFits : ℕ → ℕ → Bool
+slotFits pattern filled = eqb (filled % 2) 0 || eqb (pattern % 2) 1
+
+-- slot by slot, so many of them, from the lowest bit on
+unfoldable pub slotsFit : ℕ → ℕ → ℕ → Bool
+slotsFit zero pattern filled = true
+slotsFit (suc slots) pattern filled = slotFits pattern filled && slotsFit slots (pattern / 2) (filled / 2)
+
+-- the slots y m w d h m s
+unfoldable pub fitsDuration : ℕ → ℕ → Bool
+fitsDuration pattern filled = slotsFit 7 pattern filled

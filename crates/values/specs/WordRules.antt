@@ -1,13 +1,15 @@
 -- What a word says, as rules. Document 01, 'Constraint text': "An integer is spelled without needless zeros, isn't `-0`, and lies in -2,147,483,648..2,147,483,647"; 'Data text': "it is good
 -- if it reads as at least one of: True or False; an integer; a date `yyyy`, `yyyy-mm` or `yyyy-mm-dd`; a time `hh`, `hh:mm` or `hh:mm:ss` with optional zone. Hours 00..23 (002: 24:00:00
 -- nowhere), minutes and seconds 00..59. Zone: `Z`, or sign and two digits, alone or with `:` and two more digits; hours to 13 after `+`, to 12 after `-`, minutes 00..59; nought is never
--- `-`." Proved one with booleanOf, integerOf, dateOf, zone, timeOf, good. Assumes nothing.
+-- `-`."; document 02, 1: "A duration word, good too, is an optional `-`, P and slots in that order .. A value is admitted when each slot it fills is in the pattern". Proved one with booleanOf,
+-- integerOf, dateOf, zone, timeOf, durationOf, good, fitsDuration. Assumes nothing.
 use mathlib.Core.Path.{_≡_}
 use mathlib.Core.Logic.{_≢_}
 use mathlib.Core.List.{List, [], _∷_, _++_}
-use Prim.Native.Nat.{ℕ, _+_, _*_, _-_, _≤_}
+use Prim.Native.Nat.{ℕ, suc, _+_, _*_, _-_, _≤_, _<_}
 use lib.ListN.{length}
 use Rattle.lexis.specs.Text.{byte, bytes}
+use Rattle.lexis.specs.DurationRules.{PSlots, DigitsAndLetter}
 use Rattle.values.specs.Dates.{Date}
 use Rattle.values.specs.Days.{IsDay}
 
@@ -69,9 +71,25 @@ pub data IsTime : List ℕ → ℕ → Type 0 where
       → IsZone z
       → IsTime (h ++ (byte ":" ∷ (m ++ (byte ":" ∷ (s ++ z))))) 3
 
+-- a duration, and the slots that it fills
+pub data IsDuration : List ℕ → (flag : ℕ) → Type 0 where
+  unsigned : {w : List ℕ} {flag : ℕ} → PSlots DigitsAndLetter w flag → IsDuration w flag
+  signed : {w : List ℕ} {flag : ℕ} → PSlots DigitsAndLetter w flag → IsDuration (byte "-" ∷ w) flag
+
+-- the flag has the bit with that number, counted from 0
+pub data HasBit : (flag bit : ℕ) → Type 0 where
+  lowest : (half : ℕ) → HasBit (half * 2 + 1) 0
+  ofEven : {half bit : ℕ} → HasBit half bit → HasBit (half * 2) (suc bit)
+  ofOdd : {half bit : ℕ} → HasBit half bit → HasBit (half * 2 + 1) (suc bit)
+
+-- each slot that is filled is in the pattern
+pub record SlotsWithin (pattern filled : ℕ) : Type 0 where
+  pub within : (bit : ℕ) → bit < 7 → HasBit filled bit → HasBit pattern bit
+
 -- a good word reads as at least one of these
 pub data IsGood (w : List ℕ) : Type 0 where
   boolean : {b : ℕ} → IsBoolean w b → IsGood w
   integer : {v : ℕ} → IsInteger w v → IsGood w
   date : {d : Date} → IsDate w d → IsGood w
   time : {parts : ℕ} → IsTime w parts → IsGood w
+  duration : {flag : ℕ} → IsDuration w flag → IsGood w

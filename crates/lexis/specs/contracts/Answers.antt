@@ -2,17 +2,19 @@
 use mathlib.Core.Path.{_≡_}
 use mathlib.Core.Bool.{Bool, true, false, cond, not, _&&_, _||_}
 use mathlib.Core.List.{List, [], _∷_}
-use Prim.Native.Nat.{ℕ, _≤_, _<_}
-use lib.Dec.{eqb}
-use lib.ListN.{length}
+use Prim.Native.Nat.{ℕ, _+_, _≤_, _<_}
+use lib.Dec.{eqb, leb}
+use lib.ListN.{length, drop}
 use Rattle.lexis.specs.Bytes.{among, is, blank, digit, wordByte, stringByte, runByte, lineEnd}
 use Rattle.lexis.specs.Text.{byte, bytes}
 use Rattle.lexis.specs.Runs.{byteAt, allows}
 use Rattle.lexis.specs.Blanks.{opensComment, tokenStart}
-use Rattle.lexis.specs.Spelling.{Literal, less, greater, keywords, booleans}
-use Rattle.lexis.specs.Tokens.{tokenAt}
+use Rattle.lexis.specs.Spelling.{Literal, less, greater, closeBrace, keywords, booleans}
+use Rattle.lexis.specs.Tokens.{tokenAt, typeName, spelling, token}
+use Rattle.lexis.specs.Durations.{letterSlot, digitSlot, Filled, filled, patternSlots, durationPattern}
 use Rattle.lexis.specs.DataTokens.{equals, openRound, closeRound, runSort, typeSort, dataTokenAt, typeTokenAt}
 use Rattle.lexis.specs.declared.Token.{Token}
+use Rattle.lexis.specs.declared.durations.Slots.{Slots}
 use Rattle.lexis.specs.declared.reader.Tokens.{Tokens}
 use Rattle.lexis.specs.declared.reader.Tokens.the-variants.{Constraint, Data, Behind}
 use Rattle.lexis.specs.declared.spellings.Words.{Words}
@@ -120,3 +122,45 @@ pub record TokenIs (s : List ℕ) (from : ℕ) (t r : Token) : Type 0 where
   pub order : r .start ≤ r .end
   pub inside : r .end ≤ length s
   pub strict : 1 < r .sort → r .start < r .end
+
+-- a slot with digits, or without
+abbrev pub slotBy : Bool → ℕ → List ℕ → ℕ
+slotBy true = digitSlot
+slotBy false = letterSlot
+
+-- r is a slot's size n, from a place of the word on
+pub record SlotIs (w : List ℕ) (at n r : ℕ) : Type 0 where
+  pub is : r ≡ n
+  pub inside : at + r ≤ length w
+
+-- a walk over slots, by the place that it has come to
+abbrev pub filledAt : List ℕ → Slots → Filled
+filledAt w x = filled (x .flag) (drop (x .at) w)
+
+-- a walk that lies in the word, and has room for one more slot's bit
+pub record FillRoom (w : List ℕ) (x : Slots) (bit : ℕ) : Type 0 where
+  pub inside : x .at ≤ length w
+  pub few : x .flag + bit ≤ 127
+
+-- r is the walk x, lies in the word, and its flag is at most so much
+pub record FillIs (w : List ℕ) (most : ℕ) (x : Filled) (r : Slots) : Type 0 where
+  pub is : filledAt w r ≡ x
+  pub inside : r .at ≤ length w
+  pub few : r .flag ≤ most
+
+-- r is the flag n, and at most that of all slots
+pub record FlagIs (n r : ℕ) : Type 0 where
+  pub is : r ≡ n
+  pub few : r ≤ 127
+
+-- a TYPE with its bytes stands in the text
+pub record TypeThere (s : List ℕ) (t : Token) : Type 0 where
+  pub is : t .sort ≡ typeName
+  pub order : t .start < t .end
+  pub inside : t .end ≤ length s
+
+-- a TYPE where a value may stand
+abbrev pub patternOrType : List ℕ → Token → Token
+patternOrType s t =
+    let flag = patternSlots (spelling s t) in
+    cond (leb 1 flag && eqb (tokenAt s (t .end) .sort) closeBrace) (token (durationPattern + flag) (t .start) (t .end)) t
