@@ -8,6 +8,7 @@ pub mod DateLaws
 pub mod DigitLaws
 pub mod DateWordLaws
 pub mod TimeWordLaws
+pub mod DurationWordLaws
 pub mod WordLaws
 pub mod PatternLaws
 pub mod Examples
@@ -16,5 +17,6 @@ mod IntegerSteps
 mod ShapeSteps
 mod DateSteps
 mod TimeSteps
+mod DurationSteps
 mod WordSteps
 mod PatternSteps

@@ -17,6 +17,7 @@ use Rattle.lexis.proofs.QuickSteps.{digit-dash}
 use Rattle.values.specs.Integers.{valueOf, plain, nought, notNegative, negative, integerOf}
 use Rattle.values.specs.Dates.{dateOf}
 use Rattle.values.specs.Times.{timeOf}
+use Rattle.values.specs.Durations.{durationOf}
 use Rattle.values.specs.Words.{booleanOf, reads, good}
 use Rattle.values.proofs.Common.{Each, none-each, some-each, le-right}
 use Rattle.values.specs.WordRules.{IsBoolean, isTrue, isFalse, PlainNumber, IsInteger, IsGood}
@@ -25,6 +26,7 @@ use Rattle.lexis.proofs.TestLaws.{true-or-false, false-true, same-eq, or-cases}
 use Rattle.values.proofs.DigitLaws.{no-more, digits-say, say-digits}
 use Rattle.values.proofs.DateWordLaws.{date-word}
 use Rattle.values.proofs.TimeWordLaws.{time-word}
+use Rattle.values.proofs.DurationWordLaws.{duration-word}
 
 -- True and False
 boolean-by : (w : List ℕ) → Each (IsBoolean w) (booleanOf w)
@@ -115,6 +117,8 @@ good-of {w} (WordRules.boolean h) = rw (boolean-of h)
 good-of {w} (WordRules.integer h) = rw (integer-of h, or-true (reads (booleanOf w)))
 good-of {w} (WordRules.date h) = rw (date-word w _ .1 h, or-true (reads (booleanOf w) || reads (integerOf w)))
 good-of {w} (WordRules.time h) = rw (time-word w _ .1 h, or-true (reads (booleanOf w) || reads (integerOf w) || reads (dateOf w)))
+good-of {w} (WordRules.duration h) =
+    rw (duration-word w _ .1 h, or-true (reads (booleanOf w) || reads (integerOf w) || reads (dateOf w) || reads (timeOf w)))
 
 good-by : (w : List ℕ) → good w ≡ true → IsGood w
 unfolding good
@@ -122,13 +126,16 @@ good-by w t =
     let a = reads (booleanOf w) in
     let b = reads (integerOf w) in
     let c = reads (dateOf w) in
-    or-cases (a || b || c) (reads (timeOf w)) t
+    let d = reads (timeOf w) in
+    or-cases (a || b || c || d) (reads (durationOf w)) t
+    (λ t. or-cases (a || b || c) d t
     (λ t. or-cases (a || b) c t
     (λ t. or-cases a b t
     (λ e. let x = reads-some (booleanOf w) e in WordRules.boolean (boolean-by w (x .0) (x .1)))
     (λ e. let x = reads-some (integerOf w) e in WordRules.integer (integer-by w (x .0) (x .1))))
     (λ e. let x = reads-some (dateOf w) e in WordRules.date (date-word w (x .0) .0 (x .1))))
-    (λ e. let x = reads-some (timeOf w) e in WordRules.time (time-word w (x .0) .0 (x .1)))
+    (λ e. let x = reads-some (timeOf w) e in WordRules.time (time-word w (x .0) .0 (x .1))))
+    (λ e. let x = reads-some (durationOf w) e in WordRules.duration (duration-word w (x .0) .0 (x .1)))
 
 pub good-word : (w : List ℕ) → (good w ≡ true) ↔ IsGood w
 good-word w = (good-by w, good-of)

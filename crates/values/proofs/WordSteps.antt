@@ -9,14 +9,17 @@ use Rattle.lexis.specs.Runs.{same, all}
 use Rattle.values.specs.Integers.{integerOf}
 use Rattle.values.specs.Dates.{exactly, dateOf}
 use Rattle.values.specs.Times.{timeOf}
+use Rattle.values.specs.Durations.{durationOf}
 use Rattle.values.specs.Words.{booleanOf, reads, good}
-use Rattle.values.specs.contracts.Answers.{integerAnswer, shortInteger, dateAnswer, timeAnswer, booleanAnswer}
+use Rattle.values.specs.contracts.Answers.{integerAnswer, shortInteger, dateAnswer, timeAnswer, durationAnswer, booleanAnswer}
 use Rattle.values.specs.declared.integers.Number.{Number}
 use Rattle.values.specs.declared.integers.Number.the-variants as number
 use Rattle.values.specs.declared.dates.Day.{Day}
 use Rattle.values.specs.declared.dates.Day.the-variants as date
 use Rattle.values.specs.declared.times.Parts.{Parts}
 use Rattle.values.specs.declared.times.Parts.the-variants as time
+use Rattle.values.specs.declared.durations.Duration.{Duration}
+use Rattle.values.specs.declared.durations.Duration.the-variants as duration
 use Rattle.values.specs.declared.words.Boolean.{Boolean}
 use Rattle.values.specs.declared.words.Boolean.the-variants as boolean
 use Rattle.values.proofs.ShapeSteps.{exactly-same}
@@ -46,13 +49,13 @@ module _ (w : List ℕ) (r : Bool) (h : r ≡ exactly (bytes "True") w) where
     boolean-none q = rw (← as-true, ← h, n, ← as-false, ← i, q)
 
 -- few digits are a good word
-pub good-short : (w : List ℕ) (r : Bool) → r ≡ shortInteger w → r ≡ true → true ≡ good w
+pub good-few-digits : (w : List ℕ) (r : Bool) → r ≡ shortInteger w → r ≡ true → true ≡ good w
 unfolding good
-good-short w r h e = rw (short-reads w (sym h ∙ e)) (second (reads (booleanOf w)) (reads (dateOf w)) (reads (timeOf w)))
+good-few-digits w r h e = rw (short-reads w (sym h ∙ e)) (second (reads (booleanOf w)) (reads (dateOf w)) (reads (timeOf w)) (reads (durationOf w)))
   where
-    second : (x y z : Bool) → true ≡ (x || true || y || z)
-    second true y z = refl
-    second false y z = refl
+    second : (x y z v : Bool) → true ≡ (x || true || y || z || v)
+    second true y z v = refl
+    second false y z v = refl
 
 -- a good word, by the first that it reads as
 module _ (w : List ℕ) (b : Boolean) (hb : booleanAnswer b ≡ booleanOf w) where
@@ -75,18 +78,24 @@ module _ (w : List ℕ) (b : Boolean) (hb : booleanAnswer b ≡ booleanOf w) whe
         unfolding good
         good-time n q = rw (← hb, nb, ← hi, ni, ← hd, nd, ← ht, q)
 
-        pub good-none : t ≡ time.Nothing → false ≡ good w
-        unfolding good
-        good-none q = rw (← hb, nb, ← hi, ni, ← hd, nd, ← ht, q)
+        module _ (nt : t ≡ time.Nothing) (u : Duration) (hu : durationAnswer u ≡ durationOf w) where
+          pub good-duration : (n : ℕ) → u ≡ duration.Value n → true ≡ good w
+          unfolding good
+          good-duration n q = rw (← hb, nb, ← hi, ni, ← hd, nd, ← ht, nt, ← hu, q)
+
+          pub good-none : u ≡ duration.Nothing → false ≡ good w
+          unfolding good
+          good-none q = rw (← hb, nb, ← hi, ni, ← hd, nd, ← ht, nt, ← hu, q)
 
 pub ruleset steps = (
   boolean-true,
   boolean-false,
   boolean-none,
-  good-short,
+  good-few-digits,
   good-boolean,
   good-integer,
   good-date,
   good-time,
+  good-duration,
   good-none,
 )

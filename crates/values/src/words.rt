@@ -4,6 +4,8 @@ ghost use Rattle.values.specs.Words.{booleanOf, good};
 ghost use Rattle.values.specs.contracts.Answers.{booleanAnswer};
 use crate::dates::Day;
 use crate::dates::date_of;
+use crate::durations::Duration;
+use crate::durations::duration_of;
 use crate::integers::Number;
 use crate::integers::integer_of;
 use crate::integers::short_integer;
@@ -30,7 +32,7 @@ pub fn boolean_of(w: &[u8]) -> Boolean
     Boolean::Nothing
 }
 
-// The word reads as a Boolean, an integer, a date or a time.
+// The word reads as a Boolean, an integer, a date, a time or a duration.
 pub fn good(w: &[u8]) -> bool
     ensures { λ r. ⌜ r ≡ good (now (w .entry)) ⌝ }
 {
@@ -47,6 +49,9 @@ pub fn good(w: &[u8]) -> bool
         return true;
     }
     if let Parts::Value(_) = time_of(w) {
+        return true;
+    }
+    if let Duration::Value(_) = duration_of(w) {
         return true;
     }
     false

@@ -20,6 +20,8 @@ use Rattle.values.specs.declared.dates.Day.{Day}
 use Rattle.values.specs.declared.dates.Day.the-variants as day
 use Rattle.values.specs.declared.times.Parts.{Parts}
 use Rattle.values.specs.declared.times.Parts.the-variants as parts
+use Rattle.values.specs.declared.durations.Duration.{Duration}
+use Rattle.values.specs.declared.durations.Duration.the-variants as duration
 use Rattle.values.specs.declared.words.Boolean.{Boolean}
 use Rattle.values.specs.declared.words.Boolean.the-variants as boolean
 
@@ -86,6 +88,11 @@ minuteTime w = hours w && minutes w && zone (drop 5 w)
 
 abbrev pub secondTime : List ℕ → Bool
 secondTime w = hours w && minutes w && seconds w && zone (drop 8 w)
+
+-- a duration, by the slots that it fills
+abbrev pub durationAnswer : Duration → Option ℕ
+durationAnswer (duration.Value flag) = some flag
+durationAnswer duration.Nothing = none
 
 -- a Boolean, by the flag of kind 3
 abbrev pub booleanAnswer : Boolean → Option ℕ

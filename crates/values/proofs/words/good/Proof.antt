@@ -26,4 +26,8 @@ good-spec =
     (λ c. search needs)
     (λ c. search (steps, needs))
     (λ c. search needs)
+    (λ c κs. search needs)
+    (λ c. search needs)
+    (λ c. search (steps, needs))
+    (λ c. search needs)
     (λ c. search (steps, needs)))
