@@ -1,10 +1,13 @@
--- What the laws share: answers that are there, tests between numbers, and a test computed once for all numbers below a bound. Assumes nothing.
+-- What the laws share: answers that are there, tests between numbers, a test computed once for all numbers below a bound, and the bytes behind a place. Assumes nothing.
 use mathlib.Core.Path.{_≡_, refl, subst}
 use mathlib.Core.Bool.{Bool, true, false, _&&_}
 use mathlib.Core.Option.{Option, none, some}
-use Prim.Native.Nat.{ℕ, zero, suc, _≤_, _<_}
+use mathlib.Core.List.{List}
+use Prim.Native.Nat.{ℕ, zero, suc, _-_, _≤_, _<_}
 use native.Mathlib.Omega.{arith}
 use lib.Dec.{eqb, leb}
+use lib.ListN.{length, take, drop, length-drop}
+use lib.Seq.{take-all}
 use borrow.Author.Tests.{leb-true, leb-false, eqb-true, eqb-false}
 use Rattle.lexis.proofs.Cases.{and-left, and-right}
 
@@ -45,3 +48,7 @@ below (suc n) test h i l = last (eqb i n) refl (below n test (and-right (test n)
     last : (b : Bool) → eqb i n ≡ b → (i < n → test i ≡ true) → test i ≡ true
     last true e f = rw (eqb-true i n e) (and-left (test n) (allBelow n test) h)
     last false e f = let g = eqb-false i n e in f (omega arith)
+
+-- the bytes behind a place, as the code lends them
+pub rest-is : (w : List ℕ) (n : ℕ) → take (length w - n) (drop n w) ≡ drop n w
+rest-is w n = let l = length-drop n w in take-all (length w - n) (drop n w) (omega arith)

@@ -2,7 +2,7 @@
 use mathlib.Core.Path.{_≡_, refl, _∙_, subst, subst₂}
 use mathlib.Core.Bool.{Bool, true, false, cond, _&&_}
 use mathlib.Core.List.{List, [], _∷_, _++_, append-nil}
-use Prim.Native.Nat.{ℕ, suc, _+_, _*_, _-_, _≤_}
+use Prim.Native.Nat.{ℕ, zero, suc, _+_, _*_, _-_, _≤_}
 use native.Mathlib.Omega.{arith}
 use lib.Dec.{eqb, leb}
 use lib.ListN.{length}
@@ -83,6 +83,28 @@ fixed-row {w = w} (fixed l s) = let t = say-digits s in subst₂ (λ (k n : ℕ)
 
 pub digits-fixed : (w : List ℕ) → all (is digit) w ≡ true → Fixed (length w) w (valueOf 0 w)
 digits-fixed w h = fixed refl (digits-say w h)
+
+-- ten times a number, so many times
+unfoldable pub tenfold : ℕ → ℕ → ℕ
+tenfold zero m = m
+tenfold (suc k) m = tenfold k (m * 10)
+
+tenfold-least : (k m : ℕ) → m ≤ tenfold k m
+unfolding tenfold
+tenfold-least zero m = omega arith
+tenfold-least (suc k) m = let h = tenfold-least k (m * 10) in omega arith
+
+pub tenfold-more : (k j m : ℕ) → k ≤ j → tenfold k m ≤ tenfold j m
+unfolding tenfold
+tenfold-more zero j m h = tenfold-least j m
+tenfold-more (suc k) zero m h = absurd (omega arith)
+tenfold-more (suc k) (suc j) m h = tenfold-more k j (m * 10) (omega arith)
+
+-- so many digits behind a number
+pub value-many : (n m : ℕ) (ds : List ℕ) → m ≤ n → tenfold (length ds) m ≤ valueOf n ds
+unfolding valueOf tenfold
+value-many n m [] h = h
+value-many n m (b ∷ bs) h = value-many (n * 10 + (b - byte "0")) (m * 10) bs (omega arith)
 
 -- what holds of all bytes of a shape holds of bytes that begin in it
 abbrev pub Shaped : List ℕ → (List ℕ → Type 0) → Type 0

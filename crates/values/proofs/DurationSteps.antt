@@ -3,10 +3,10 @@ use mathlib.Core.Path.{_≡_, refl, sym, ap, _∙_}
 use mathlib.Core.Bool.{Bool, true, false}
 use mathlib.Core.Option.{Option, none, some}
 use mathlib.Core.List.{List, [], _∷_}
-use Prim.Native.Nat.{ℕ}
+use Prim.Native.Nat.{ℕ, _-_}
 use native.Mathlib.Omega.{arith}
 use lib.Dec.{eqb}
-use lib.ListN.{length, drop}
+use lib.ListN.{length, take, drop}
 use borrow.Author.Tests.{eq-eqb, ne-eqb}
 use Rattle.lexis.specs.Text.{byte}
 use Rattle.lexis.specs.Runs.{byteAt}
@@ -15,6 +15,7 @@ use Rattle.lexis.specs.contracts.Answers.{FlagIs}
 use Rattle.values.specs.Durations.{slotsIf, durationOf}
 use Rattle.values.specs.contracts.Answers.{durationAnswer}
 use Rattle.values.specs.declared.durations.Duration.{Duration}
+use Rattle.values.proofs.Common.{rest-is}
 
 module _ (flag : ℕ) where
   pub slots-none : flag ≡ 0 → none ≡ slotsIf flag
@@ -29,10 +30,10 @@ duration-empty [] e = refl
 duration-empty (b ∷ w) e = absurd (omega arith)
 
 module _ (w : List ℕ) (flag : ℕ) (r : Duration) (h : durationAnswer r ≡ slotsIf flag) where
-  pub duration-signed : byteAt w 0 ≡ byte "-" → FlagIs (slotsOf digitSlot (drop 1 w)) flag
+  pub duration-signed : byteAt w 0 ≡ byte "-" → FlagIs (slotsOf digitSlot (take (length w - 1) (drop 1 w))) flag
       → durationAnswer r ≡ durationOf w
   unfolding durationOf
-  duration-signed e q = rw (eq-eqb (byteAt w 0) (byte "-") e, ← q .is) h
+  duration-signed e q = rw (eq-eqb (byteAt w 0) (byte "-") e, ← rest-is w 1, ← q .is) h
 
   pub duration-unsigned : (byteAt w 0 ≡ byte "-" → ⊥) → FlagIs (slotsOf digitSlot w) flag
       → durationAnswer r ≡ durationOf w

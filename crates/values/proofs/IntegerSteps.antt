@@ -3,7 +3,7 @@ use mathlib.Core.Path.{_≡_, refl, sym, _∙_}
 use mathlib.Core.Bool.{Bool, true, false, cond, not, _&&_, and-true, and-false, false≢true}
 use mathlib.Core.Option.{Option, none, some}
 use mathlib.Core.List.{List, [], _∷_}
-use Prim.Native.Nat.{ℕ, zero, suc, _+_, _*_, _-_, _^_, _≤_, _<_}
+use Prim.Native.Nat.{ℕ, _+_, _*_, _-_, _^_, _≤_, _<_}
 use native.Mathlib.Omega.{arith}
 use lib.Dec.{eqb, leb}
 use lib.ListN.{length, getD, take, drop, length-drop, drop-of-length-le}
@@ -22,6 +22,7 @@ use Rattle.values.specs.Words.{reads}
 use Rattle.values.specs.declared.integers.Number.{Number}
 use Rattle.values.specs.declared.integers.Number.the-variants.{Value, Nothing}
 use Rattle.values.proofs.Common.{le-left, le-right, by-order}
+use Rattle.values.proofs.DigitLaws.{tenfold, tenfold-more}
 use Rattle.lexis.proofs.Places.{drop-in}
 use Rattle.lexis.proofs.QuickSteps.{digit-dash}
 
@@ -200,22 +201,6 @@ module _ (w : List ℕ) where
       pub short-zero : getD w 0 0 ≡ byte "0" → eqb (length w) 1 ≡ shortInteger w
       unfolding shortInteger
       short-zero n = rw (every, le-leb 1 (length w) (omega arith), eq-eqb (getD w 0 0) (byte "0") n, le-leb (length w) 9 l, and-true)
-
--- ten times a number, so many times
-unfoldable tenfold : ℕ → ℕ → ℕ
-tenfold zero m = m
-tenfold (suc k) m = tenfold k (m * 10)
-
-tenfold-least : (k m : ℕ) → m ≤ tenfold k m
-unfolding tenfold
-tenfold-least zero m = omega arith
-tenfold-least (suc k) m = let h = tenfold-least k (m * 10) in omega arith
-
-tenfold-more : (k j m : ℕ) → k ≤ j → tenfold k m ≤ tenfold j m
-unfolding tenfold
-tenfold-more zero j m h = tenfold-least j m
-tenfold-more (suc k) zero m h = absurd (omega arith)
-tenfold-more (suc k) (suc j) m h = tenfold-more k j (m * 10) (omega arith)
 
 -- no byte above `9` is a digit
 above-digits : (b : ℕ) → byte "9" < b → is digit b ≡ false

@@ -11,6 +11,8 @@ pub mod TimeWordLaws
 pub mod DurationWordLaws
 pub mod WordLaws
 pub mod PatternLaws
+pub mod DurationLaws
+pub mod LengthLaws
 pub mod Examples
 mod CalendarSteps
 mod IntegerSteps

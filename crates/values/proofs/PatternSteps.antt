@@ -1,14 +1,14 @@
 -- What each way through the code of patterns answers is what the definition says. Assumes nothing.
 use mathlib.Core.Path.{_≡_, refl, sym, _∙_}
-use mathlib.Core.Bool.{Bool, true, false, and-false, Bool·beq}
+use mathlib.Core.Bool.{Bool, true, false, not, and-false, Bool·beq}
 use mathlib.Core.List.{List, [], _∷_}
-use Prim.Native.Nat.{ℕ, _-_, _≤_, _<_}
+use Prim.Native.Nat.{ℕ, zero, suc, _-_, _/_, _%_, _≤_, _<_}
 use native.Mathlib.Omega.{arith}
 use lib.Dec.{eqb, leb}
 use lib.ListN.{length, getD, List·getD-eq-default}
-use borrow.Author.Tests.{le-leb, lt-leb, ne-eqb}
+use borrow.Author.Tests.{le-leb, lt-leb, eq-eqb, ne-eqb, not-true, not-false}
 use Rattle.lexis.specs.Bytes.{within}
-use Rattle.values.specs.Patterns.{Part, fits, datePatterns, timePatterns, fitsDate, fitsTime}
+use Rattle.values.specs.Patterns.{Part, fits, datePatterns, timePatterns, fitsDate, fitsTime, slotFits, slotsFit, fitsDuration}
 use Rattle.values.proofs.Common.{allBelow, below, by-order}
 
 -- between two numbers
@@ -106,6 +106,38 @@ module _ (flag parts : ℕ) where
     unfolding fits fitsTime
     time-other = let l : 5 ≤ flag = omega arith in rw (List·getD-eq-default ([] ∷ timePatterns) [] {n = flag} l)
 
+-- one slot
+module _ (pattern filled : ℕ) where
+  pub slot-free : filled % 2 ≡ 0 → true ≡ slotFits pattern filled
+  slot-free q = rw (eq-eqb (filled % 2) 0 q)
+
+  pub slot-filled : (filled % 2 ≡ 0 → ⊥) → eqb (pattern % 2) 1 ≡ slotFits pattern filled
+  slot-filled n = rw (ne-eqb (filled % 2) 0 n)
+
+-- the slots that are left, all of them at first
+pub slots-all : (pattern filled : ℕ) → slotsFit 7 pattern filled ≡ fitsDuration pattern filled
+unfolding fitsDuration
+slots-all pattern filled = refl
+
+pub slots-end : (left p f : ℕ) (x : Bool) → slotsFit left p f ≡ x → left ≤ 0 → true ≡ x
+unfolding slotsFit
+slots-end zero p f x now l = now
+slots-end (suc left) p f x now l = absurd (omega arith)
+
+pub slots-without : (left p f : ℕ) (x r : Bool) → slotsFit left p f ≡ x → 0 < left → r ≡ slotFits p f → not r ≡ true
+    → false ≡ x
+unfolding slotsFit
+slots-without zero p f x r now l q k = absurd (omega arith)
+slots-without (suc left) p f x r now l q k = rw (← q, not-true r k) at now
+
+pub slots-on : (left p f : ℕ) (x r : Bool) → slotsFit left p f ≡ x → 0 < left → r ≡ slotFits p f → not r ≡ false
+    → slotsFit (left - 1) (p / 2) (f / 2) ≡ x
+unfolding slotsFit
+slots-on zero p f x r now l q k = absurd (omega arith)
+slots-on (suc left) p f x r now l q k =
+    let n : suc left - 1 ≡ left = omega arith in
+    rw n (rw (← q, not-false r k) at now)
+
 pub ruleset steps = (
   within-below,
   within-from,
@@ -122,4 +154,10 @@ pub ruleset steps = (
   time-third,
   time-fourth,
   time-other,
+  slot-free,
+  slot-filled,
+  slots-all,
+  slots-end,
+  slots-without,
+  slots-on,
 )

@@ -7,8 +7,7 @@ use Prim.Native.Nat.{ℕ, _+_, _-_, _≤_, _<_}
 use native.Mathlib.Nat.{add-zero}
 use native.Mathlib.Omega.{arith}
 use lib.Dec.{leb}
-use lib.ListN.{length, take, drop, length-drop, drop-of-length-le}
-use lib.Seq.{take-all}
+use lib.ListN.{length, take, drop, drop-of-length-le}
 use borrow.Author.Tests.{le-leb, lt-leb, eq-eqb, ne-eqb, not-true, not-false}
 use Rattle.lexis.specs.Text.{bytes}
 use Rattle.lexis.specs.Runs.{same, shaped, all}
@@ -17,6 +16,7 @@ use Rattle.values.specs.Integers.{valueOf}
 use Rattle.values.specs.Dates.{digitsAt, exactly}
 use Rattle.values.specs.Times.{zone, hours, minutes, seconds, goodTime, timeOf}
 use Rattle.values.specs.contracts.Answers.{DigitsAre, eastZone, westZone, hourTime, minuteTime, secondTime}
+use Rattle.values.proofs.Common.{rest-is}
 use Rattle.values.proofs.ShapeSteps.{exactly-long, exactly-same}
 use Rattle.values.proofs.DateSteps.{exactly-reaches}
 
@@ -100,10 +100,6 @@ module _ (z : List ℕ) where
       pub zone-west : (a : Bool) → s ≡ false → a ≡ westZone z → a ≡ zone z
       unfolding zone
       zone-west a k e = rw (ne-eqb (length z) 0 n, ← zulu, ← h, q, ← i, k) e
-
--- the bytes behind a place, as the code lends them
-rest-is : (w : List ℕ) (n : ℕ) → take (length w - n) (drop n w) ≡ drop n w
-rest-is w n = let l = length-drop n w in take-all (length w - n) (drop n w) (omega arith)
 
 -- hours, minutes and seconds
 module _ (w : List ℕ) (r : Bool) (h : r ≡ hours w) where

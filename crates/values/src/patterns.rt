@@ -1,7 +1,7 @@
-// Date and time patterns, by their flags.
+// Patterns of dates, times and durations, by their flags.
 ghost use mathlib.Core.Path.{_≡_};
 ghost use Rattle.lexis.specs.Bytes.{within};
-ghost use Rattle.values.specs.Patterns.{fitsDate, fitsTime};
+ghost use Rattle.values.specs.Patterns.{fitsDate, fitsTime, slotFits, fitsDuration};
 
 // The number lies between two others.
 fn within(low: u8, high: u8, n: u8) -> bool
@@ -40,4 +40,32 @@ pub fn fits_time(flag: u8, parts: u8) -> bool
         4 => within(1, 3, parts),
         5..=255 => parts == 0,
     }
+}
+
+// The lowest slot is in the pattern where it is filled.
+fn slot_fits(pattern: u8, filled: u8) -> bool
+    ensures { λ r. ⌜ r ≡ slotFits pattern filled ⌝ }
+{
+    if filled % 2 == 0 {
+        return true;
+    }
+    pattern % 2 == 1
+}
+
+// Each slot that a duration fills, of y, m, w, d, h, m and s, is in the pattern.
+pub fn fits_duration(pattern: u8, filled: u8) -> bool
+    ensures { λ r. ⌜ r ≡ fitsDuration pattern filled ⌝ }
+{
+    let mut p = pattern;
+    let mut f = filled;
+    let mut left: u8 = 7;
+    while 0 < left {
+        if !slot_fits(p, f) {
+            return false;
+        }
+        p /= 2;
+        f /= 2;
+        left -= 1;
+    }
+    true
 }
