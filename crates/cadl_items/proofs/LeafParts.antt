@@ -8,7 +8,8 @@ use lib.ListN.{length}
 use Rattle.lexis.specs.Runs.{listed}
 use Rattle.lexis.specs.Spelling.{bar, comma}
 use Rattle.lexis.specs.Spelling
-use Rattle.lexis.specs.Tokens.{tokenAt, integer, date, string, inner}
+use Rattle.lexis.specs.Durations
+use Rattle.lexis.specs.Tokens.{tokenAt, contentTokenAt, integer, date, string, inner}
 use Rattle.lexis.specs.declared.Token.{Token}
 use Rattle.values.specs.Integers.{Pair}
 use Rattle.refusals.specs.Limits.{recordLimit, stringLimit, itemLimit}
@@ -17,7 +18,7 @@ use Rattle.refusals.specs.Reading.{got, refuse, readThen, readUnless}
 use Rattle.refusals.specs.Expecting.{expect, syntaxFault}
 use Rattle.refusals.specs.Parsing.{wanted}
 use Rattle.refusals.proofs.Parses.{first-then, told-cond, told-noting, told-read, told-then, told-soundly}
-use Rattle.meaning.specs.Constraints.{booleans, datePattern, timePattern, single, texts}
+use Rattle.meaning.specs.Constraints.{booleans, datePattern, timePattern, durationPattern, single, texts}
 use Rattle.cadl_intervals.specs.Intervals.{undecided}
 use Rattle.cadl_intervals.specs.Intervals
 use Rattle.cadl_intervals.specs.contracts.Told.{literal, interval}
@@ -100,23 +101,26 @@ module _ (s : List ℕ) where
   boolean-is number t = told-cond (eqb (tokenAt s (t .end) .sort) comma) _ _ _ _ refl refl
 
   pub leaf-is : (number at : ℕ) → leaf s number at
-      ≡ cond (isBoolean (tokenAt s at))
-      (readUnless (eqb number recordLimit) TooManyRecords (tokenAt s at .start) (booleanList s number (tokenAt s at)))
-      (cond (eqb (tokenAt s at .sort) integer || eqb (tokenAt s at .sort) bar)
+      ≡ cond (isBoolean (contentTokenAt s at))
+      (readUnless (eqb number recordLimit) TooManyRecords (contentTokenAt s at .start) (booleanList s number (contentTokenAt s at)))
+      (cond (eqb (contentTokenAt s at .sort) integer || eqb (contentTokenAt s at .sort) bar)
       (readThen (ranges s itemLimit undecided number [] at) (λ l p. got (rangeLeaf l) p))
-      (cond (eqb (tokenAt s at .sort) string)
+      (cond (eqb (contentTokenAt s at .sort) string)
       (readThen (strings s itemLimit number [] at) (λ l p. got (texts l) p))
-      (cond (isPattern datePattern Spelling.datePattern (tokenAt s at))
-      (patternLeaf datePattern Spelling.datePattern number (tokenAt s at))
-      (cond (isPattern timePattern Spelling.timePattern (tokenAt s at))
-      (patternLeaf timePattern Spelling.timePattern number (tokenAt s at))
-      (syntaxFault (tokenAt s at))))))
+      (cond (isPattern datePattern Spelling.datePattern (contentTokenAt s at))
+      (patternLeaf datePattern Spelling.datePattern number (contentTokenAt s at))
+      (cond (isPattern timePattern Spelling.timePattern (contentTokenAt s at))
+      (patternLeaf timePattern Spelling.timePattern number (contentTokenAt s at))
+      (cond (isPattern durationPattern Durations.durationPattern (contentTokenAt s at))
+      (patternLeaf durationPattern Durations.durationPattern number (contentTokenAt s at))
+      (syntaxFault (contentTokenAt s at)))))))
   unfolding leaf booleanList ranges strings leafText.leaf
   leaf-is number at =
-      let t = tokenAt s at in
+      let t = contentTokenAt s at in
       let room = told-noting (eqb number recordLimit) TooManyRecords (t .start) in
       told-cond (isBoolean t) _ _ _ _ (room _ _ refl)
       (told-cond (eqb (t .sort) integer || eqb (t .sort) bar) _ _ _ _ (first-then (rangeText.ranges s itemLimit undecided number [] at) _)
       (told-cond (eqb (t .sort) string) _ _ _ _ (first-then (stringText.strings s itemLimit number [] at) _)
       (told-cond (isPattern datePattern Spelling.datePattern t) _ _ _ _ (room _ _ refl)
-      (told-cond (isPattern timePattern Spelling.timePattern t) _ _ _ _ (room _ _ refl) refl))))
+      (told-cond (isPattern timePattern Spelling.timePattern t) _ _ _ _ (room _ _ refl)
+      (told-cond (isPattern durationPattern Durations.durationPattern t) _ _ _ _ (room _ _ refl) refl)))))

@@ -13,10 +13,12 @@ use Rattle.lexis.specs.Runs.{part, listed}
 use Rattle.lexis.specs.contracts.Subsequence.{Sub}
 use Rattle.lexis.specs.Spelling.{bar, comma, trueWord, falseWord}
 use Rattle.lexis.specs.Spelling
-use Rattle.lexis.specs.Tokens.{tokenAt, integer, date, string, inner}
+use Rattle.lexis.specs.Durations
+use Rattle.lexis.specs.Tokens.{tokenAt, contentTokenAt, integer, date, string, inner}
 use Rattle.lexis.specs.declared.Token.{Token}
 use Rattle.lexis.proofs.Cases.{and-left, and-right, by-cond}
 use Rattle.lexis.proofs.Places.{Found, token-found}
+use Rattle.lexis.proofs.ContentSteps.{content-found}
 use Rattle.lexis.proofs.Parts.{sub-none, sub-join, sub-wider, part-sub}
 use Rattle.refusals.specs.Limits.{recordLimit, itemLimit, stringLimit}
 use Rattle.refusals.specs.Parsing.{Parse, parsed, noting}
@@ -25,7 +27,7 @@ use Rattle.refusals.specs.Refusals.{numberOf}
 use Rattle.refusals.proofs.Readings.{Holds, ConstraintRefusal}
 use Rattle.refusals.proofs.Tokens.{Passed, strict-of}
 use Rattle.refusals.proofs.Parses.{rank, Ordered, ordered-parsed, ordered-noting, ordered-syntax, ordered-then, ordered-soundly, ordered-wanted, Passes, passes-holds}
-use Rattle.meaning.specs.Constraints.{integers, dates, SingleSort, booleans, datePattern, timePattern, Range, Text, Leaf, single, texts}
+use Rattle.meaning.specs.Constraints.{integers, dates, SingleSort, booleans, datePattern, timePattern, durationPattern, Range, Text, Leaf, single, texts}
 use Rattle.meaning.specs.Constraints
 use Rattle.meaning.specs.contracts.Proper.{Some, Each, ProperRange, ProperString, ProperLeaf}
 use Rattle.meaning.specs.Sorts.{singleRow}
@@ -216,12 +218,12 @@ module _ (s : List ℕ) where
       (λ e. ordered-syntax s P sound low from t l f)
 
   boolean-ordered : (number from : ℕ) (sound : Bool) (low : ℕ) → (sound ≡ true → number ≢ recordLimit)
-      → low ≤ rank (tokenAt s from .start) 8 → from ≤ length s → isBoolean (tokenAt s from) ≡ true
-      → Ordered s (Passes s from (LeafRead s number from)) sound low (booleanList s number (tokenAt s from))
+      → low ≤ rank (contentTokenAt s from .start) 8 → from ≤ length s → isBoolean (contentTokenAt s from) ≡ true
+      → Ordered s (Passes s from (LeafRead s number from)) sound low (booleanList s number (contentTokenAt s from))
   unfolding booleanList
   boolean-ordered number from sound low w l h e =
-      let t = tokenAt s from in
-      let f = token-found s from h in
+      let t = contentTokenAt s from in
+      let f = content-found s from h in
       let g = boolean-strict t from f e in
       by-cond (Ordered s (Passes s from (LeafRead s number from)) sound low) (eqb (tokenAt s (t .end) .sort) comma)
       (λ x. let b = token-past s (t .end) comma (f .inside) (lit< tt) x in
@@ -261,15 +263,15 @@ module _ (s : List ℕ) where
         pool = sub-none _;
       }
 
-  -- a pattern's sort is from 31 or 41 on, and its flag is counted from there
+  -- a pattern's sort is from 31, 41 or 101 on, and its flag is counted from there
   pattern-ordered : (sort : SingleSort) (first number from : ℕ) (sound : Bool) (low : ℕ) → 0 < first → from ≤ length s
-      → isPattern sort first (tokenAt s from) ≡ true → (sound ≡ true → number ≢ recordLimit)
-      → low ≤ rank (tokenAt s from .start) 8
+      → isPattern sort first (contentTokenAt s from) ≡ true → (sound ≡ true → number ≢ recordLimit)
+      → low ≤ rank (contentTokenAt s from .start) 8
       → Ordered s (Passes s from (LeafRead s number from)) sound low
-      (parsed (single sort number (patternFlag first (tokenAt s from))) (tokenAt s from .end))
+      (parsed (single sort number (patternFlag first (contentTokenAt s from))) (contentTokenAt s from .end))
   pattern-ordered sort first number from sound low k h e w b =
-      let t = tokenAt s from in
-      let f = token-found s from h in
+      let t = contentTokenAt s from in
+      let f = content-found s from h in
       let most = singleRow sort .greatest in
       let l = leb-true (first + 1) (t .sort) (and-left _ _ e) in
       let m = leb-true (t .sort) (first + most) (and-right (leb (first + 1) (t .sort)) _ e) in
@@ -282,8 +284,8 @@ module _ (s : List ℕ) where
   leaf-ordered number from sound low l h =
       let P = Passes s from (LeafRead s number from) in
       let C = Ordered s P sound low in
-      let t = tokenAt s from in
-      let f = token-found s from h in
+      let t = contentTokenAt s from in
+      let f = content-found s from h in
       let room : (more : Parse Leaf) → ((o : Bool) (j : ℕ) → (o ≡ true → number ≢ recordLimit) → j ≤ rank (t .start) 8 → Ordered s P o j more) → C (noting (eqb number recordLimit) TooManyRecords (t .start) more) =
       λ more k. ordered-noting s P sound low (eqb number recordLimit) TooManyRecords (t .start) more 8 refl (lit≤ tt) (lit< tt) (omega (arith, f .start)) (omega (arith, f .order, f .inside))
       (λ o j b c. k o j (λ z. eqb-false number recordLimit (c z .0)) b) in
@@ -297,7 +299,8 @@ module _ (s : List ℕ) where
       (λ o j x p c q. ordered-parsed s P o j (texts x) p (record { bound = q .bound; least = q .least; most = q .most; tree = q .tree })))
       (λ x. by-cond C (isPattern datePattern Spelling.datePattern t) (λ y. room _ (λ o j w b. pattern-ordered datePattern Spelling.datePattern number from o j (lit< tt) h y w b))
       (λ y. by-cond C (isPattern timePattern Spelling.timePattern t) (λ z. room _ (λ o j w b. pattern-ordered timePattern Spelling.timePattern number from o j (lit< tt) h z w b))
-      (λ z. ordered-syntax s P sound low from t l f)))))
+      (λ z. by-cond C (isPattern durationPattern Durations.durationPattern t) (λ v. room _ (λ o j w b. pattern-ordered durationPattern Durations.durationPattern number from o j (lit< tt) h v w b))
+      (λ v. ordered-syntax s P sound low from t l f))))))
 
   pub leaf-holds : (number from : ℕ) → from ≤ length s
       → Holds (ConstraintRefusal s) (LeafRead s number from) (Told.leaf s number from)

@@ -8,7 +8,7 @@ use lib.Dec.{eqb, leb}
 use borrow.Author.Tests.{eq-eqb, ne-eqb, not-true, not-false, le-leb, leb-true}
 use Rattle.lexis.specs.Bytes.{within}
 use Rattle.lexis.specs.Spelling.{bar, comma, trueWord, falseWord}
-use Rattle.lexis.specs.Tokens.{tokenAt, integer, date, string}
+use Rattle.lexis.specs.Tokens.{tokenAt, contentTokenAt, integer, date, string}
 use Rattle.lexis.specs.contracts.Answers.{TokenIs}
 use Rattle.lexis.specs.declared.Token.{Token}
 use Rattle.refusals.specs.Limits.{itemLimit, recordLimit}
@@ -136,13 +136,25 @@ module _ (s : List ℕ) (number : ℕ) (t : Token) (b : Bool) (h : b ≡ isBoole
         let w = within-true 41 44 (t .sort) x (omega arith) in
         rw (g, ← h, k, v, w) (roomed-is number (t .start) (leafRead.Single singleSort.TimePattern (t .sort - 40) (t .end)) s _ (λ scratch. refl) tt)
 
-    pub single-other : (31 ≤ t .sort → t .sort ≤ 35 → ⊥) → (41 ≤ t .sort → t .sort ≤ 44 → ⊥) → (x : Refusal)
+    pub single-duration : 101 ≤ t .sort → t .sort < 228 → (r : LeafRead)
+        → r ≡ roomed number (t .start) (leafRead.Single singleSort.DurationPattern (t .sort - 100) (t .end))
+        → OneIs s number (singleLeaf s number t) r
+    unfolding singleLeaf
+    single-duration x y r g =
+        let u = within-false 31 35 (t .sort) (λ a c. omega arith) in
+        let v = within-false 41 44 (t .sort) (λ a c. omega arith) in
+        let w = within-true 101 227 (t .sort) x (omega arith) in
+        rw (g, ← h, k, u, v, w) (roomed-is number (t .start) (leafRead.Single singleSort.DurationPattern (t .sort - 100) (t .end)) s _ (λ scratch. refl) tt)
+
+    pub single-other : (31 ≤ t .sort → t .sort ≤ 35 → ⊥) → (41 ≤ t .sort → t .sort ≤ 44 → ⊥)
+        → (101 ≤ t .sort → t .sort ≤ 227 → ⊥) → (x : Refusal)
         → x ≡ refusal (syntaxCause t) (t .start) → OneIs s number (singleLeaf s number t) (leafRead.Faulty x)
     unfolding singleLeaf
-    single-other m n x e =
-        let v = within-false 31 35 (t .sort) m in
-        let w = within-false 41 44 (t .sort) n in
-        record { is = λ scratch. rw (← h, k, v, w, e); one = tt }
+    single-other l m n x e =
+        let u = within-false 31 35 (t .sort) l in
+        let v = within-false 41 44 (t .sort) m in
+        let w = within-false 101 227 (t .sort) n in
+        record { is = λ scratch. rw (← h, k, u, v, w, e); one = tt }
 
 -- a list of integers or of dates
 module _ (s : List ℕ) (number at : ℕ) (scratch : List ℕ) (d : ListRoom s number at) (r : RangesRead)
@@ -210,7 +222,7 @@ one-past s number at scratch d (leafRead.Ranges sort count p) o e = absurd o
 one-past s number at scratch d (leafRead.Strings count p) o e = absurd o
 
 -- a leaf, by its first token
-module _ (s : List ℕ) (number at : ℕ) (t : Token) (tok : TokenIs s at (tokenAt s at) t) where
+module _ (s : List ℕ) (number at : ℕ) (t : Token) (tok : TokenIs s at (contentTokenAt s at) t) where
   pub leaf-integers : t .sort ≡ integer → (scratch : List ℕ) (r : LeafRead)
       → LeafIs s number at (rangesLeaf s number at) scratch r → LeafIs s number at (leaf s number at) scratch r
   unfolding rangesLeaf

@@ -1,5 +1,5 @@
 -- Leaves. Document 01, 'Constraint text': "leaf: Booleans by comma (one or two); or items by comma, all integer, all string or all date interval; or one
--- pattern". Assumes nothing.
+-- pattern"; document 02, 1: "Where a leaf may stand, a token such as Pd, a TYPE too, is the pattern exactly when `}` .. follows". Assumes nothing.
 use mathlib.Core.Bool.{Bool, cond, _||_}
 use mathlib.Core.List.{List, []}
 use Prim.Native.Nat.{ℕ, _+_, _-_}
@@ -7,12 +7,13 @@ use lib.Dec.{eqb}
 use Rattle.lexis.specs.Bytes.{within}
 use Rattle.lexis.specs.Spelling.{bar, comma, trueWord, falseWord}
 use Rattle.lexis.specs.Spelling
-use Rattle.lexis.specs.Tokens.{tokenAt, integer, date, string}
+use Rattle.lexis.specs.Durations
+use Rattle.lexis.specs.Tokens.{tokenAt, contentTokenAt, integer, date, string}
 use Rattle.lexis.specs.declared.Token.{Token}
 use Rattle.refusals.specs.Limits.{recordLimit, itemLimit}
 use Rattle.refusals.specs.declared.Cause.the-variants.{TooManyRecords, Overlap}
 use Rattle.refusals.specs.Parsing.{Parse, parsed, andThen, noting, syntax}
-use Rattle.meaning.specs.Constraints.{SingleSort, booleans, datePattern, timePattern, integers, dates, Leaf, single, texts}
+use Rattle.meaning.specs.Constraints.{SingleSort, booleans, datePattern, timePattern, durationPattern, integers, dates, Leaf, single, texts}
 use Rattle.meaning.specs.Constraints
 use Rattle.meaning.specs.Sorts.{singleRow}
 use Rattle.cadl_intervals.specs.Intervals.{undecided}
@@ -59,7 +60,7 @@ patternLeaf sort first number t =
 -- a leaf from a place on, given the next record's number
 unfoldable pub leaf : List ℕ → ℕ → ℕ → Parse Leaf
 leaf s number from =
-    let t = tokenAt s from in
+    let t = contentTokenAt s from in
     cond (isBoolean t) (noting (eqb number recordLimit) TooManyRecords (t .start) (booleanList s number t))
     (cond (eqb (t .sort) integer || eqb (t .sort) bar)
     (andThen (ranges s itemLimit undecided number [] from) (λ l p. parsed (rangeLeaf l) p))
@@ -67,4 +68,6 @@ leaf s number from =
     (andThen (strings s itemLimit number [] from) (λ l p. parsed (texts l) p))
     (cond (isPattern datePattern Spelling.datePattern t) (patternLeaf datePattern Spelling.datePattern number t)
     (cond (isPattern timePattern Spelling.timePattern t) (patternLeaf timePattern Spelling.timePattern number t)
-    (syntax t)))))
+    (cond (isPattern durationPattern Durations.durationPattern t)
+    (patternLeaf durationPattern Durations.durationPattern number t)
+    (syntax t))))))

@@ -8,6 +8,7 @@ use lexis::BAR;
 use lexis::COMMA;
 use lexis::DATE;
 use lexis::DATE_PATTERN;
+use lexis::DURATION_PATTERN;
 use lexis::FALSE_WORD;
 use lexis::INTEGER;
 use lexis::STRING;
@@ -22,14 +23,14 @@ use refusals::steps::syntax_fault;
 ghost use mathlib.Core.Path.{_≡_};
 ghost use Prim.Native.Nat.{_≤_};
 ghost use lib.ListN.{length};
-ghost use Rattle.lexis.specs.Tokens.{tokenAt};
+ghost use Rattle.lexis.specs.Tokens.{contentTokenAt};
 ghost use Rattle.lexis.specs.contracts.Answers.{TokenIs};
 ghost use Rattle.cadl_items.specs.Leaves.{isBoolean, booleanFlag};
 ghost use Rattle.cadl_items.specs.contracts.Told.{leaf};
 ghost use Rattle.cadl_items.specs.contracts.Answers.{LeafRoom, LeafIs};
 ghost use Rattle.cadl_items.specs.contracts.Items.{ListRoom, secondBy, booleansBy, EveryIs, OneIs, roomed, singleLeaf, rangesLeaf, stringLeaf};
 
-// The first and the last sort of date patterns and of time patterns.
+// The first and the last sort of date patterns, of time patterns and of Duration patterns.
 const FIRST_DATE_PATTERN: u8 = 31;
 
 const LAST_DATE_PATTERN: u8 = 35;
@@ -37,6 +38,10 @@ const LAST_DATE_PATTERN: u8 = 35;
 const FIRST_TIME_PATTERN: u8 = 41;
 
 const LAST_TIME_PATTERN: u8 = 44;
+
+const FIRST_DURATION_PATTERN: u8 = 101;
+
+const LAST_DURATION_PATTERN: u8 = 227;
 
 // The flag of both Booleans.
 const BOTH: u8 = 3;
@@ -46,6 +51,7 @@ pub enum SingleSort {
     Booleans,
     DatePattern,
     TimePattern,
+    DurationPattern,
 }
 
 // The sorts of lists of closed pairs.
@@ -173,6 +179,15 @@ fn single_leaf(s: &[u8], number: usize, t: Token) -> LeafRead
             };
             return roomed(number, t.start, leaf);
         }
+        FIRST_DURATION_PATTERN..=LAST_DURATION_PATTERN => {
+            let flag = sort - DURATION_PATTERN;
+            let leaf = LeafRead::Single {
+                sort: SingleSort::DurationPattern,
+                flag,
+                next: t.end,
+            };
+            return roomed(number, t.start, leaf);
+        }
         _ => {
             let fault = syntax_fault(t);
             return LeafRead::Faulty(fault);
@@ -232,7 +247,7 @@ pub fn read_leaf(
     scratch: &mut [u32; SCRATCH_ROOM],
 ) -> LeafRead
     requires { ⌜ LeafRoom (now s) number from ⌝ }
-    requires { ⌜ TokenIs (now s) from (tokenAt (now s) from) t ⌝ }
+    requires { ⌜ TokenIs (now s) from (contentTokenAt (now s) from) t ⌝ }
     ensures { λ r. ⌜ LeafIs (now (s .entry)) number from (leaf (now (s .entry)) number from) (now (scratch .exit)) r ⌝ }
 {
     let sort = t.sort;

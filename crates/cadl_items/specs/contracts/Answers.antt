@@ -6,7 +6,7 @@ use lib.ListN.{length}
 use Rattle.values.specs.Integers.{Pair, pair}
 use Rattle.refusals.specs.Limits.{textLimit, recordLimit, itemLimit}
 use Rattle.refusals.specs.Reading.{Reading, refused, got}
-use Rattle.meaning.specs.Constraints.{SingleSort, booleans, datePattern, timePattern, RangeSort, integers, dates, Range, Text, Leaf, single, ranges, texts}
+use Rattle.meaning.specs.Constraints.{SingleSort, booleans, datePattern, timePattern, durationPattern, RangeSort, integers, dates, Range, Text, Leaf, single, ranges, texts}
 use Rattle.cadl_items.specs.Ranges.{range}
 use Rattle.cadl_items.specs.contracts.Spans.{firstOf, secondOf, spanAt, SpansIn}
 use Rattle.cadl_items.specs.declared.leaves.SingleSort as declared
@@ -43,6 +43,7 @@ abbrev pub singleOf : declared.SingleSort → SingleSort
 singleOf singleSort.Booleans = booleans
 singleOf singleSort.DatePattern = datePattern
 singleOf singleSort.TimePattern = timePattern
+singleOf singleSort.DurationPattern = durationPattern
 
 abbrev pub rangeSortOf : declaredRange.RangeSort → RangeSort
 rangeSortOf rangeSort.Integers = integers

@@ -7,6 +7,7 @@ use lib.Dec.{eqb}
 use lib.ListN.{length, getD}
 use Rattle.lexis.specs.Runs.{listed}
 use Rattle.lexis.specs.Spelling
+use Rattle.lexis.specs.Durations
 use Rattle.lexis.specs.Tokens.{inner}
 use Rattle.lexis.specs.declared.Token.{Token}
 use Rattle.values.specs.Integers.{Pair}
@@ -18,7 +19,7 @@ use Rattle.refusals.specs.Expecting.{syntaxFault}
 use Rattle.refusals.specs.contracts.Answers.{tokenReading}
 use Rattle.refusals.specs.declared.steps.Expected.{Expected}
 use Rattle.refusals.specs.declared.steps.Expected.the-variants.{Fault, Taken}
-use Rattle.meaning.specs.Constraints.{Text, datePattern, timePattern, Leaf, texts}
+use Rattle.meaning.specs.Constraints.{Text, datePattern, timePattern, durationPattern, Leaf, texts}
 use Rattle.cadl_intervals.specs.Intervals.{undecided, Interval}
 use Rattle.cadl_intervals.specs.contracts.Answers.{Asked}
 use Rattle.cadl_items.specs.Ranges.{Start, overlaps, Ranges}
@@ -244,7 +245,9 @@ singleLeaf s number t =
     cond (isBoolean t) (readUnless (eqb number recordLimit) TooManyRecords (t .start) (booleanList s number t))
     (cond (isPattern datePattern Spelling.datePattern t) (patternLeaf datePattern Spelling.datePattern number t)
     (cond (isPattern timePattern Spelling.timePattern t) (patternLeaf timePattern Spelling.timePattern number t)
-    (syntaxFault t)))
+    (cond (isPattern durationPattern Durations.durationPattern t)
+    (patternLeaf durationPattern Durations.durationPattern number t)
+    (syntaxFault t))))
 
 -- a list of integers or of dates
 unfoldable pub rangesLeaf : List ℕ → ℕ → ℕ → Reading Leaf
