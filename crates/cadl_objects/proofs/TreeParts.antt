@@ -7,7 +7,7 @@ use lib.Dec.{eqb, ltb}
 use lib.ListN.{length}
 use Rattle.lexis.specs.Runs.{listed}
 use Rattle.lexis.specs.Spelling.{closeBrace, star}
-use Rattle.lexis.specs.Tokens.{tokenAt, textEnd, typeName, name, code, spelling, inner}
+use Rattle.lexis.specs.Tokens.{tokenAt, contentTokenAt, textEnd, typeName, name, code, spelling, inner}
 use Rattle.refusals.specs.Limits.{textLimit, levelLimit, recordLimit, nameLimit, codeLimit}
 use Rattle.refusals.specs.declared.Cause.the-variants.{TextTooLong, TooDeep, TooLong, TooManyRecords, RepeatedName}
 use Rattle.lexis.specs.declared.Token.{Token}
@@ -67,13 +67,13 @@ module _ (s : List ℕ) where
       (told-noting (listed (spelling s t) seen) RepeatedName (t .start) _ _ refl)))
 
   pub value-is : (levels next from : ℕ) → value s levels next from
-      ≡ cond (eqb (tokenAt s from .sort) star) (got any (tokenAt s from .end))
-      (cond (eqb (tokenAt s from .sort) typeName) (readThen (objectFrom s levels next from) (λ o p. got (nested o) p))
+      ≡ cond (eqb (contentTokenAt s from .sort) star) (got any (contentTokenAt s from .end))
+      (cond (eqb (contentTokenAt s from .sort) typeName) (readThen (objectFrom s levels next from) (λ o p. got (nested o) p))
       (readThen (Told.leaf s next from) (λ l p. got (leaf l) p)))
   unfolding value objectFrom Told.leaf
   value-is levels next from =
-      told-cond (eqb (tokenAt s from .sort) star) _ _ _ _ refl
-      (told-cond (eqb (tokenAt s from .sort) typeName) _ _ _ _ (first-then (Objects.objectFrom s levels next from) _) (first-then (Leaves.leaf s next from) _))
+      told-cond (eqb (contentTokenAt s from .sort) star) _ _ _ _ refl
+      (told-cond (eqb (contentTokenAt s from .sort) typeName) _ _ _ _ (first-then (Objects.objectFrom s levels next from) _) (first-then (Leaves.leaf s next from) _))
 
   pub attribute-is : (levels : ℕ) (seen : List (List ℕ)) (next from : ℕ) → attributeFrom s levels seen next from
       ≡ readThen (attributeName s seen next from) (λ t p.

@@ -10,14 +10,15 @@ use native.Mathlib.Nat.{sub-zero}
 use lib.Dec.{eqb, ltb, lit<}
 use lib.ListN.{length}
 use lib.Seq.{take-length}
-use borrow.Author.Tests.{ltb-false, ltb-true}
+use borrow.Author.Tests.{eqb-true, ltb-false, ltb-true}
 use mathlib.Core.Logic.{_≢_}
 use Rattle.lexis.specs.Runs.{part}
 use Rattle.lexis.specs.contracts.Subsequence.{Sub}
 use Rattle.lexis.specs.Spelling.{existence, closeBrace, star}
-use Rattle.lexis.specs.Tokens.{tokenAt, textEnd, typeName, name}
+use Rattle.lexis.specs.Tokens.{tokenAt, contentTokenAt, textEnd, typeName, name}
 use Rattle.lexis.proofs.Cases.{by-cond}
 use Rattle.lexis.proofs.Places.{token-found}
+use Rattle.lexis.proofs.ContentSteps.{content-found}
 use Rattle.lexis.proofs.Parts.{sub-none, sub-join, sub-wider, sub-length}
 use Rattle.refusals.specs.Limits.{textLimit, levelLimit, recordLimit, poolLimit}
 use Rattle.refusals.specs.Reading.{Reading, refused, got}
@@ -25,7 +26,7 @@ use Rattle.refusals.specs.Parsing.{Parse, firstIn}
 use Rattle.refusals.specs.declared.Refusal.{Refusal}
 use Rattle.refusals.specs.Refusals.{numberOf}
 use Rattle.refusals.proofs.Readings.{Holds, ConstraintRefusal}
-use Rattle.refusals.proofs.Tokens.{Passed}
+use Rattle.refusals.proofs.Tokens.{Passed, strict-of}
 use Rattle.refusals.proofs.Parses.{rank, FaultFrom, Ordered, ordered-parsed, ordered-then, ordered-wanted, ordered-read, ordered-holds, expect-passes, Passes, passes-holds}
 use Rattle.meaning.specs.Constraints.{Object, Attributes, noMore, attribute, Value, any, nested, leaf}
 use Rattle.meaning.specs.contracts.Proper.{ProperName, ProperObject, ProperAttributes, ProperValue}
@@ -68,14 +69,15 @@ module _ (s : List ℕ) (first : ℕ) (down : ℕ → ℕ → Parse Object) (bel
   value-ordered next from sound low i l h =
       let P = Passes s from (ValueRead s next from) in
       let C = Ordered s P sound low in
-      let t = tokenAt s from in
+      let t = contentTokenAt s from in
+      let f = content-found s from h in
       by-cond C (eqb (t .sort) star)
-      (λ e. let b = token-past s from star h (lit< tt) e in
+      (λ e. let b : from + 1 ≤ t .end = omega (arith, f .start, strict-of star (lit< tt) t s from f (eqb-true (t .sort) star e)) in
       ordered-parsed s P sound low any (t .end) (record {
-        bound = omega (arith, b .least);
-        least = b .least;
-        most = b .most;
-        tree = λ z. record { least = b .least; most = b .most; numbers = refl; room = λ m. omega arith; proper = tt; pool = sub-none _ };
+        bound = omega (arith, b);
+        least = b;
+        most = f .inside;
+        tree = λ z. record { least = b; most = f .inside; numbers = refl; room = λ m. omega arith; proper = tt; pool = sub-none _ };
       }))
       (λ e. by-cond C (eqb (t .sort) typeName)
       (λ f. ordered-then s P (Passes s from (ObjectRead s next from)) sound low (down next from) _ (below next from sound low i l h)

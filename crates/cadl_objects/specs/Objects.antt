@@ -1,6 +1,6 @@
 -- Objects and attributes. Document 01, 'Constraint text': "object: TYPE, optional [code], `matches {`, then `*` or one or more attributes, `}`"; "attribute:
 -- NAME, optional `existence matches {` .. `matches {`, then `*`, one object or one leaf, `}`"; 'Numbers of refusal', 2, 3, 4 and 8 at the TYPE, 4 at the code,
--- 2, 4, 8 and 9 at the NAME. Assumes nothing.
+-- 2, 4, 8 and 9 at the NAME; document 02, 1: "Where a leaf may stand, a token such as Pd, a TYPE too, is the pattern exactly when `}` .. follows". Assumes nothing.
 use mathlib.Core.Bool.{cond}
 use mathlib.Core.List.{List, [], _∷_}
 use Prim.Native.Nat.{ℕ, zero, suc, _+_}
@@ -8,7 +8,7 @@ use lib.Dec.{eqb, ltb}
 use lib.ListN.{length}
 use Rattle.lexis.specs.Runs.{listed}
 use Rattle.lexis.specs.Spelling.{closeBrace, star}
-use Rattle.lexis.specs.Tokens.{tokenAt, typeName, name, code, spelling, inner}
+use Rattle.lexis.specs.Tokens.{tokenAt, contentTokenAt, typeName, name, code, spelling, inner}
 use Rattle.lexis.specs.declared.Token.{Token}
 use Rattle.refusals.specs.Limits.{recordLimit, nameLimit, codeLimit}
 use Rattle.refusals.specs.declared.Cause.the-variants.{EndsEarly, TooDeep, TooLong, TooManyRecords, RepeatedName}
@@ -49,7 +49,7 @@ attributeName s seen next from =
 -- what stands between an attribute's braces, given how an object one level down is parsed
 abbrev pub value : List ℕ → (ℕ → ℕ → Parse Object) → ℕ → ℕ → Parse Value
 value s down next from =
-    let t = tokenAt s from in
+    let t = contentTokenAt s from in
     cond (eqb (t .sort) star) (parsed any (t .end))
     (cond (eqb (t .sort) typeName) (andThen (down next from) (λ o p. parsed (nested o) p))
     (andThen (Leaves.leaf s next from) (λ l p. parsed (leaf l) p)))
