@@ -23,13 +23,15 @@ impl Numbers {
 
 const TEXTS: [&str; 4] = [
     "A[at1.2] matches {a matches {5, |7..<9|, |>20|} b existence matches {0..1} matches {True, False}}",
-    "A∈{a∈{B∈{c∈{\"x\",\"\"} d∈{*}}} e existence∈{0}∈{|2004-02-29..2005-01-01|} f∈{Thh:??:XX}}",
+    "A∈{a∈{B∈{c∈{\"x\",\"\"} d∈{*}}} e existence∈{0}∈{|2004-02-29..2005-01-01|} f∈{Thh:??:XX} g existence∈{0..1}∈{PwdThm}}",
     "A matches {a matches {|100+/-5|} b matches {yyyy-mm-??} c matches {|<=-3|}}",
     "A matches {a matches {A matches {a matches {A matches {*}} b matches {False}}}}",
 ];
 
 const DATA: [&str; 4] = [
-    "(A)<a = <8> b = <True>>", "<a = (B)<c = <\"x\"> d = <>> f = <08:30Z>>", "<a = <103> b = <2004-05> c = <-4>>",
+    "(A)<a = <8> b = <True>>",
+    "<a = (B)<c = <\"x\"> d = <>> f = <08:30Z> g = <-P4w3DT5m>>",
+    "<a = <103> b = <2004-05> c = <-4>>",
     "<a = <a = (A)<z = <5>> b = <False>>>",
 ];
 

@@ -166,10 +166,12 @@ fn marks() {
 
 #[test]
 fn kinds() {
-    for kind in [0, 9, 10, 128, 255] {
+    for kind in [0, 10, 11, 128, 255] {
         breaks(13, (kind, 0, [0; 5]));
         breaks(12, (kind, 1, [0; 5]));
     }
+    breaks(13, (9, 0, [0; 5]));
+    keeps(12, (9, 1, [0; 5]));
 }
 
 #[test]
@@ -197,6 +199,12 @@ fn flags() {
     }
     breaks(13, (8, 0, [0; 5]));
     breaks(13, (8, 5, [0; 5]));
+    for flag in [1, 5, 64, 127] {
+        keeps(13, (9, flag, [0; 5]));
+    }
+    for flag in [0, 128, 129, 255] {
+        breaks(13, (9, flag, [0; 5]));
+    }
 }
 
 #[test]

@@ -94,6 +94,9 @@ fn patterns() {
     for (index, pattern) in ["Thh:mm:ss", "Thh:mm:XX", "Thh:??:XX", "Thh:??:??"].iter().enumerate() {
         leaf_compiles_to(pattern, &[(8, index as u8 + 1, [0; 5])]);
     }
+    for (pattern, flag) in [("Py", 1), ("Pwd", 12), ("PTm", 32), ("PymwdThms", 127)] {
+        leaf_compiles_to(pattern, &[(9, flag, [0; 5])]);
+    }
 }
 
 fn integers(leaf: &str, low: i32, high: i32) {

@@ -276,6 +276,7 @@ fn record_2048_needed() {
     refused(8, &nearly_full(" y∈{^True,True}"));
     refused(8, &nearly_full(" y∈{^yyyy-mm-dd}"));
     refused(8, &nearly_full(" y∈{^Thh:mm:ss}"));
+    refused(8, &nearly_full(" y∈{^Pwd}"));
     refused(8, &nearly_full(" y∈{^\"\"}"));
     refused(4, &nearly_full(&format!(" y∈{{^\"{}\"}}", "s".repeat(256))));
     refused(8, &nearly_full(" y∈{*} ^x∈{*}"));

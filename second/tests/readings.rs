@@ -3,7 +3,7 @@
 mod common;
 use common::*;
 use second::api::*;
-use second::{data_faults, text_faults};
+use second::{check, data_faults, judge, merge, name, text_faults};
 
 #[test]
 fn readings_1_to_4_longest_match() {
@@ -136,4 +136,75 @@ fn reading_45_what_the_check_leaves_alone() {
         (4, 0, [5, 5, 0, 0, 0]),
     ];
     assert_eq!(second::check(&made(true, 2, &lines, "\n \0")), CheckAnswer::Passed);
+}
+
+#[test]
+fn readings_52_to_55_duration_patterns() {
+    refused_bytes(2, 25, b"A matches {a matches {Pdd}}");
+    refused_bytes(2, 25, b"A matches {a matches {Pdm}}");
+    assert_eq!(table("A matches {a matches {PmTm}}", false)[74..76], [9, 34]);
+    refused_bytes(2, 2, b"Pd}");
+    refused_bytes(2, 11, b"A matches {Pd}");
+    refused_bytes(2, 32, b"A matches {a existence matches {Pd} matches {*}}");
+    accepted("Pd matches {*}");
+    refused_bytes(2, 25, b"A matches {a matches {Pd}");
+    let sixteen = "A matches {a matches {".repeat(16);
+    refused_bytes(2, 355, format!("{sixteen}Pd}}").as_bytes());
+    for behind in ["Pd", "Pd x", "P}"] {
+        refused_bytes(3, 352, format!("{sixteen}{behind}").as_bytes());
+    }
+    refused_bytes(2, 24, b"A matches {a matches {Pd;}}");
+    // One object, 120 attributes of 16 items, one of 4 and one more: 2,047 records.
+    let items = "0,1,2,3,4,5,6,7,8,9,-1,-2,-3,-4,-5,-6";
+    let mut full = String::from("A matches {");
+    for index in 0..120 {
+        full.push_str(&format!("n{index} matches {{{items}}} "));
+    }
+    full.push_str("y matches {1,2,3,4} z matches {");
+    accepted(&format!("{full}*}}}}"));
+    refused(8, &format!("{full}^Pd}}}}"));
+    refused(8, &format!("{full}^Pd"));
+}
+
+#[test]
+fn readings_56_to_60_and_65_duration_words() {
+    for good in ["P1y2M", "P0000d", "-P0d", "P1y2w3d"] {
+        data_accepted(&format!("<a = <{good}>>"));
+    }
+    for bad in ["P1dt5m", "P00005d", "+P5d"] {
+        data_refused(5, &format!("<a = <^{bad}>>"));
+    }
+    data_refused_bytes(2, 9, b"<a = <p5d>>");
+    data_refused_bytes(2, 13, b"<a = <--P5d>>");
+    verdict("A matches {a matches {Pwd}}", 20, 3, "<a = ^<\"P4w\">>");
+    verdict("A matches {a matches {Pwd}}", 20, 3, "<a = ^<2004>>");
+    verdict("A matches {a matches {Pd}}", 24, 3, "<a = ^<P0y5d>>");
+    valid("A matches {a matches {PymwdThms}}", "<a = <P0d>>");
+    verdict("A matches {a matches {PTm}}", 24, 3, "<a = ^<P5m>>");
+}
+
+#[test]
+fn readings_61_to_64_kind_9_and_other_forms() {
+    let lines = |flag| [(1, 0, [0, 1, 0, 0, 2]), (2, 2, [1, 1, 3, 0, 0]), (9, flag, [0; 5])];
+    for (flag, answer) in [
+        (1, CheckAnswer::Passed),
+        (127, CheckAnswer::Passed),
+        (0, CheckAnswer::Refused { number: 13, place: 3 }),
+        (128, CheckAnswer::Refused { number: 13, place: 3 }),
+        (255, CheckAnswer::Refused { number: 13, place: 3 }),
+    ] {
+        assert_eq!(check(&made(false, 1, &lines(flag), "Aa")), answer, "{flag}");
+    }
+    let led = [(1, 0, [0, 1, 0, 0, 2]), (9, 8, [0; 5])];
+    assert_eq!(check(&made(false, 1, &led, "A")), CheckAnswer::Refused { number: 13, place: 1 });
+    let bytes = made(true, 1, &lines(12), "Aa");
+    assert_eq!(name(&bytes, 3), NameAnswer::Refused { number: 14, place: 3 });
+    assert_eq!(judge(&bytes, 3, b"<>"), JudgeAnswer::Refused { number: 14, place: 3 });
+    let mut out = [0; 172];
+    let done = MergeAnswer::Done { length: 172, record_shift: 3, pool_shift: 2 };
+    assert_eq!(merge(&bytes, &bytes, true, &mut out), done);
+    assert_eq!(out[144..168], bytes[72..96]);
+    refused_bytes(2, 23, b"A matches {a matches {|P1d..P2d|}}");
+    refused_bytes(2, 25, b"A matches {a matches {P1Y}}");
+    refused_bytes(2, 24, b"A matches {a matches {Pw/P4w}}");
 }

@@ -5,7 +5,7 @@ use mathlib.Core.List.{List, [], _∷_}
 use lib.ListN.{replicate}
 use Rattle.lexis.specs.Text.{bytes}
 use Rattle.lexis.proofs.Tables.{wrong}
-use Rattle.meaning.specs.Constraints.{noMore, any, nested, leaf, single, ranges, texts, booleans, integers, datePattern, dates, timePattern}
+use Rattle.meaning.specs.Constraints.{noMore, any, nested, leaf, single, ranges, texts, booleans, integers, datePattern, dates, timePattern, durationPattern}
 use Rattle.meaning.proofs.Trees.{range, item, objectWith, attributeWith, objectList}
 use Rattle.cadl_objects.proofs.Computes.{constraintComputes}
 use Rattle.cadl_objects.proofs.Examples.{Case, accepts, refuses, acceptsFrom, refusesFrom, right}
@@ -27,6 +27,10 @@ cases =
     ∷ refusesFrom (bytes "B matches {b matches {1, 2} c matches {True, False}}") 2043 8 39
     ∷ acceptsFrom (bytes "B matches {b matches {1, 2} c matches {True, False}}") 2042 (objectWith 2042 (bytes "B") [] (attributeWith 2043 2 (bytes "b") (leaf (ranges integers (range 2044 2_147_483_649 2_147_483_649 ∷ range 2045 2_147_483_650 2_147_483_650 ∷ []))) (attributeWith 2046 2 (bytes "c") (leaf (single booleans 2047 3)) noMore)))
     ∷ refusesFrom (bytes "B matches {b matches {C matches {c matches {*}}} d matches {\"x\"}}") 2043 8 60
+    ∷ acceptsFrom (bytes "B matches {b matches {Pd}}") 2045 (objectWith 2045 (bytes "B") [] (attributeWith 2046 2 (bytes "b") (leaf (single durationPattern 2047 8)) noMore))
+    ∷ refusesFrom (bytes "B matches {b matches {Pd}}") 2046 8 22
+    ∷ refusesFrom (bytes "B matches {b matches {Pd x") 2046 8 22
+    ∷ refusesFrom (bytes "B matches {b matches {Pd matches {*}}}") 2046 8 22
     ∷ []
 
 pub none-wrong : wrong right 0 cases ≡ []

@@ -5,7 +5,7 @@ use mathlib.Core.List.{List, [], _∷_}
 use lib.ListN.{replicate}
 use Rattle.lexis.specs.Text.{bytes}
 use Rattle.lexis.proofs.Tables.{wrong}
-use Rattle.meaning.specs.Constraints.{noMore, any, nested, leaf, single, ranges, texts, booleans, integers, datePattern, dates, timePattern}
+use Rattle.meaning.specs.Constraints.{noMore, any, nested, leaf, single, ranges, texts, booleans, integers, datePattern, dates, timePattern, durationPattern}
 use Rattle.meaning.proofs.Trees.{range, item, objectWith, attributeWith, objectList}
 use Rattle.cadl_objects.proofs.Computes.{constraintComputes}
 use Rattle.cadl_objects.proofs.Examples.{Case, accepts, refuses, acceptsFrom, refusesFrom, right}
@@ -18,13 +18,13 @@ cases =
     ∷ refuses (bytes "A matches {a matches {|5.0..6.0|}}") 2 24
     ∷ refuses (bytes "A matches {a matches {.5}}") 2 22
     ∷ refuses (bytes "A matches {a matches {'a'}}") 2 22
-    -- Date_time and Duration
+    -- Date_time, and durations that are no pattern
     ∷ refuses (bytes "A matches {a matches {2004-05-20T10:00:00}}") 2 22
     ∷ refuses (bytes "A matches {a matches {|>2004-05-20T10:00:00|}}") 2 34
     ∷ refuses (bytes "A matches {a matches {yyyy-mm-ddThh:mm:ss}}") 2 32
-    ∷ refuses (bytes "A matches {a matches {Pd}}") 2 24
     ∷ refuses (bytes "A matches {a matches {P1Y}}") 2 25
     ∷ refuses (bytes "A matches {a matches {|P1Y|}}") 2 23
+    ∷ refuses (bytes "A matches {a matches {-P1Y}}") 2 22
     -- times outside patterns
     ∷ refuses (bytes "A matches {a matches {10:00:00}}") 2 24
     ∷ refuses (bytes "A matches {a matches {T10:00:00}}") 2 25
@@ -143,6 +143,9 @@ cases =
     ∷ refuses (bytes "A matches {a matches {|20040-05-20|}}") 2 28
     ∷ refuses (bytes "A matches {a matches {|2004-05-20-1|}}") 2 33
     ∷ refuses (bytes "A matches {a matches {|2004-05--20\n|}}") 2 27
+    ∷ refuses (bytes "A matches {a matches {PdX}}") 2 25
+    ∷ accepts (bytes "A matches {a matches {Pd--X\n}}") (objectWith 1 (bytes "A") [] (attributeWith 2 2 (bytes "a") (leaf (single durationPattern 3 8)) noMore))
+    ∷ refuses (bytes "A matches {a matches {Pd_}}") 2 25
     ∷ []
 
 pub none-wrong : wrong right 0 cases ≡ []

@@ -4,7 +4,7 @@ use mathlib.Core.Path.{_≡_, refl}
 use mathlib.Core.List.{List, [], _∷_}
 use Rattle.lexis.specs.Text.{bytes}
 use Rattle.lexis.proofs.Tables.{wrong}
-use Rattle.meaning.specs.Constraints.{single, ranges, texts, booleans, integers, datePattern, dates, timePattern}
+use Rattle.meaning.specs.Constraints.{single, ranges, texts, booleans, integers, datePattern, dates, timePattern, durationPattern}
 use Rattle.meaning.proofs.Trees.{range, item}
 use Rattle.cadl_items.proofs.Computes.{itemsCompute}
 use Rattle.cadl_items.proofs.Examples.{Case, reads, refuses, right}
@@ -402,6 +402,59 @@ cases =
     ∷ reads (bytes "Thh:??:??}") 1 (single timePattern 1 4) 9
     ∷ reads (bytes " yyyy-mm-dd--\n}") 1 (single datePattern 1 1) 11
     ∷ reads (bytes "yyyy-mm-dd\t}") 1 (single datePattern 1 1) 10
+    -- duration patterns
+    ∷ reads (bytes "Pd}") 1 (single durationPattern 1 8) 2
+    ∷ reads (bytes "Pwd}") 1 (single durationPattern 1 12) 3
+    ∷ reads (bytes "PTm}") 1 (single durationPattern 1 32) 3
+    ∷ reads (bytes "PmTm}") 1 (single durationPattern 1 34) 4
+    ∷ reads (bytes "PymwdThms}") 1 (single durationPattern 1 127) 9
+    ∷ reads (bytes "Pd --c\n}") 1 (single durationPattern 1 8) 2
+    ∷ reads (bytes "Py}") 1 (single durationPattern 1 1) 2
+    ∷ reads (bytes "Pm}") 1 (single durationPattern 1 2) 2
+    ∷ reads (bytes "PTh}") 1 (single durationPattern 1 16) 3
+    ∷ reads (bytes "PTs}") 1 (single durationPattern 1 64) 3
+    ∷ reads (bytes "PThm}") 1 (single durationPattern 1 48) 4
+    ∷ reads (bytes "PwdTm}") 1 (single durationPattern 1 44) 5
+    ∷ reads (bytes " --}\nPd\t}") 1 (single durationPattern 1 8) 7
+    ∷ reads (bytes "PyThms}") 1 (single durationPattern 1 113) 6
+    -- what is no duration pattern, or isn't followed by `}`
+    ∷ refuses (bytes "P}") 1 2 0
+    ∷ refuses (bytes "PT}") 1 2 0
+    ∷ refuses (bytes "PD}") 1 2 0
+    ∷ refuses (bytes "PdT}") 1 2 0
+    ∷ refuses (bytes "Pdm}") 1 2 0
+    ∷ refuses (bytes "Pdd}") 1 2 0
+    ∷ refuses (bytes "P1d}") 1 2 0
+    ∷ refuses (bytes "PdX}") 1 2 0
+    ∷ refuses (bytes "-Pd}") 1 2 0
+    ∷ refuses (bytes "|Pd|}") 1 2 1
+    ∷ refuses (bytes "Pd, Pw}") 1 2 0
+    ∷ refuses (bytes "Pd;}") 1 2 0
+    ∷ refuses (bytes "Pd Pd}") 1 2 0
+    ∷ refuses (bytes "Pd[at1]}") 1 2 0
+    ∷ refuses (bytes "Pd]}") 1 2 0
+    ∷ refuses (bytes "Pd matches {*}}") 1 2 0
+    ∷ refuses (bytes "Pd[at1] matches {*}}") 1 2 0
+    ∷ refuses (bytes "|P1d..P2d|}") 1 2 1
+    ∷ refuses (bytes "Pt}") 1 2 0
+    ∷ refuses (bytes "pd}") 1 2 0
+    ∷ refuses (bytes "PTM}") 1 2 0
+    ∷ refuses (bytes "PTmh}") 1 2 0
+    ∷ refuses (bytes "PTT}") 1 2 0
+    ∷ refuses (bytes "Pd_}") 1 2 0
+    ∷ refuses (bytes "Pdh}") 1 2 0
+    ∷ refuses (bytes "PTd}") 1 2 0
+    ∷ refuses (bytes "Pd 5}") 1 2 0
+    ∷ refuses (bytes "Pd *}") 1 2 0
+    ∷ refuses (bytes "Pd{}") 1 2 0
+    ∷ refuses (bytes "5, Pd}") 1 2 3
+    ∷ refuses (bytes "True, Pd}") 1 2 6
+    ∷ reads (bytes "\"Pd\"}") 1 (texts (item 1 (bytes "Pd") ∷ [])) 4
+    ∷ refuses (bytes "Pd..Pw}") 1 2 0
+    ∷ reads (bytes "yyyy-mm-dd Pd}") 1 (single datePattern 1 1) 10
+    ∷ refuses (bytes "Pwd/|P0w..P50w|}") 1 2 0
+    ∷ refuses (bytes "<Pd|}") 1 2 0
+    ∷ refuses (bytes "Pd --c}") 1 2 0
     -- what is no pattern, or more than one
     ∷ refuses (bytes "yyyy-mm-d}") 1 2 0
     ∷ refuses (bytes "yyyy-mm}") 1 2 0
@@ -496,16 +549,16 @@ cases =
     ∷ reads (bytes "-5.5}") 1 (ranges integers (range 1 2_147_483_643 2_147_483_643 ∷ [])) 2
     ∷ reads (bytes "5.}") 1 (ranges integers (range 1 2_147_483_653 2_147_483_653 ∷ [])) 1
     ∷ refuses (bytes "'a', 'b'}") 1 2 0
-    -- Date_time and Duration
+    -- Date_time, and durations that are no pattern
     ∷ refuses (bytes "2004-05-20T10:00:00}") 1 2 0
     ∷ refuses (bytes "|>2004-05-20T10:00:00|}") 1 2 12
     ∷ reads (bytes "yyyy-mm-ddThh:mm:ss}") 1 (single datePattern 1 1) 10
-    ∷ refuses (bytes "Pd}") 1 2 0
     ∷ refuses (bytes "P1Y}") 1 2 0
     ∷ refuses (bytes "|P1Y|}") 1 2 1
-    ∷ refuses (bytes "PThms}") 1 2 0
+    ∷ refuses (bytes "-P1Y}") 1 2 0
+    ∷ refuses (bytes "PT5M}") 1 2 0
     ∷ refuses (bytes "P1Y, P2Y}") 1 2 0
-    ∷ refuses (bytes "Pw}") 1 2 0
+    ∷ refuses (bytes "|P1Y..P2Y|}") 1 2 1
     -- times outside patterns
     ∷ reads (bytes "10:00:00}") 1 (ranges integers (range 1 2_147_483_658 2_147_483_658 ∷ [])) 2
     ∷ refuses (bytes "T10:00:00}") 1 2 0
@@ -573,6 +626,8 @@ cases =
     ∷ refuses (bytes "yyyy-mm-dd}") 2048 8 0
     ∷ refuses (bytes "Thh:mm:ss}") 2048 8 0
     ∷ reads (bytes "Thh:mm:ss}") 2047 (single timePattern 2047 1) 9
+    ∷ refuses (bytes "Pwd}") 2048 8 0
+    ∷ reads (bytes "Pwd}") 2047 (single durationPattern 2047 12) 3
     ∷ []
 
 pub none-wrong : wrong right 0 cases ≡ []

@@ -5,7 +5,7 @@ use mathlib.Core.List.{List, [], _∷_}
 use lib.ListN.{replicate}
 use Rattle.lexis.specs.Text.{bytes}
 use Rattle.lexis.proofs.Tables.{wrong}
-use Rattle.meaning.specs.Constraints.{noMore, any, nested, leaf, single, ranges, texts, booleans, integers, datePattern, dates, timePattern}
+use Rattle.meaning.specs.Constraints.{noMore, any, nested, leaf, single, ranges, texts, booleans, integers, datePattern, dates, timePattern, durationPattern}
 use Rattle.meaning.proofs.Trees.{range, item, objectWith, attributeWith, objectList}
 use Rattle.cadl_objects.proofs.Computes.{constraintComputes}
 use Rattle.cadl_objects.proofs.Examples.{Case, accepts, refuses, acceptsFrom, refusesFrom, right}
@@ -241,6 +241,32 @@ cases =
     ∷ accepts (bytes "A matches {a matches {Thh:??:XX}}") (objectWith 1 (bytes "A") [] (attributeWith 2 2 (bytes "a") (leaf (single timePattern 3 3)) noMore))
     ∷ accepts (bytes "A matches {a matches {Thh:??:??}}") (objectWith 1 (bytes "A") [] (attributeWith 2 2 (bytes "a") (leaf (single timePattern 3 4)) noMore))
     ∷ accepts (bytes "A matches {a matches { yyyy-mm-dd--\n}}") (objectWith 1 (bytes "A") [] (attributeWith 2 2 (bytes "a") (leaf (single datePattern 3 1)) noMore))
+    -- duration patterns
+    ∷ accepts (bytes "A matches {a matches {Pd}}") (objectWith 1 (bytes "A") [] (attributeWith 2 2 (bytes "a") (leaf (single durationPattern 3 8)) noMore))
+    ∷ accepts (bytes "A matches {a matches {Pwd}}") (objectWith 1 (bytes "A") [] (attributeWith 2 2 (bytes "a") (leaf (single durationPattern 3 12)) noMore))
+    ∷ accepts (bytes "A matches {a matches {PTm}}") (objectWith 1 (bytes "A") [] (attributeWith 2 2 (bytes "a") (leaf (single durationPattern 3 32)) noMore))
+    ∷ accepts (bytes "A matches {a matches {PmTm}}") (objectWith 1 (bytes "A") [] (attributeWith 2 2 (bytes "a") (leaf (single durationPattern 3 34)) noMore))
+    ∷ accepts (bytes "A matches {a matches {PymwdThms}}") (objectWith 1 (bytes "A") [] (attributeWith 2 2 (bytes "a") (leaf (single durationPattern 3 127)) noMore))
+    ∷ accepts (bytes "A matches {a matches {Pd --c\n}}") (objectWith 1 (bytes "A") [] (attributeWith 2 2 (bytes "a") (leaf (single durationPattern 3 8)) noMore))
+    -- what is no duration pattern, or isn't followed by `}`
+    ∷ refuses (bytes "A matches {a matches {P}}") 2 23
+    ∷ refuses (bytes "A matches {a matches {PT}}") 2 24
+    ∷ refuses (bytes "A matches {a matches {PD}}") 2 24
+    ∷ refuses (bytes "A matches {a matches {PdT}}") 2 25
+    ∷ refuses (bytes "A matches {a matches {Pdm}}") 2 25
+    ∷ refuses (bytes "A matches {a matches {Pdd}}") 2 25
+    ∷ refuses (bytes "A matches {a matches {P1d}}") 2 25
+    ∷ refuses (bytes "A matches {a matches {PdX}}") 2 25
+    ∷ refuses (bytes "A matches {a matches {-Pd}}") 2 22
+    ∷ refuses (bytes "A matches {a matches {|Pd|}}") 2 23
+    ∷ refuses (bytes "A matches {a matches {Pd, Pw}}") 2 24
+    ∷ refuses (bytes "A matches {a matches {Pd;}}") 2 24
+    ∷ refuses (bytes "A matches {a matches {Pd Pd}}") 2 25
+    ∷ refuses (bytes "A matches {a matches {Pd[at1]}}") 2 29
+    ∷ refuses (bytes "A matches {a matches {Pd]}}") 2 24
+    ∷ accepts (bytes "A matches {a matches {Pd matches {*}}}") (objectWith 1 (bytes "A") [] (attributeWith 2 2 (bytes "a") (nested (objectWith 3 (bytes "Pd") [] noMore)) noMore))
+    ∷ accepts (bytes "A matches {a matches {Pd[at1] matches {*}}}") (objectWith 1 (bytes "A") [] (attributeWith 2 2 (bytes "a") (nested (objectWith 3 (bytes "Pd") (bytes "at1") noMore)) noMore))
+    ∷ refuses (bytes "A matches {a matches {|P1d..P2d|}}") 2 23
     -- what is no pattern, or more than one
     ∷ refuses (bytes "A matches {a matches {yyyy-mm-d}}") 2 22
     ∷ refuses (bytes "A matches {a matches {yyyy-mm}}") 2 22

@@ -5,7 +5,7 @@ use mathlib.Core.List.{List, [], _∷_}
 use lib.ListN.{replicate}
 use Rattle.lexis.specs.Text.{bytes}
 use Rattle.lexis.proofs.Tables.{wrong}
-use Rattle.meaning.specs.Constraints.{noMore, any, nested, leaf, single, ranges, texts, booleans, integers, datePattern, dates, timePattern}
+use Rattle.meaning.specs.Constraints.{noMore, any, nested, leaf, single, ranges, texts, booleans, integers, datePattern, dates, timePattern, durationPattern}
 use Rattle.meaning.proofs.Trees.{range, item, objectWith, attributeWith, objectList}
 use Rattle.cadl_objects.proofs.Computes.{constraintComputes}
 use Rattle.cadl_objects.proofs.Examples.{Case, accepts, refuses, acceptsFrom, refusesFrom, right}
@@ -65,6 +65,12 @@ cases =
     ∷ refuses (bytes "Thh:mm:ss matches {*}") 2 0
     ∷ refuses (bytes "T matches {a matches {True matches {*}}}") 2 27
     ∷ accepts (bytes "T matches {a matches {True_ matches {*}}}") (objectWith 1 (bytes "T") [] (attributeWith 2 2 (bytes "a") (nested (objectWith 3 (bytes "True_") [] noMore)) noMore))
+    ∷ accepts (bytes "Pd matches {*}") (objectWith 1 (bytes "Pd") [] noMore)
+    ∷ refuses (bytes "Pd") 2 2
+    ∷ refuses (bytes "Pd}") 2 2
+    ∷ refuses (bytes "A matches {Pd}") 2 11
+    ∷ refuses (bytes "A matches {a existence matches {Pd} matches {*}}") 2 32
+    ∷ accepts (bytes "PymwdThms[at1] matches {a matches {PTm matches {b matches {PTm}}}}") (objectWith 1 (bytes "PymwdThms") (bytes "at1") (attributeWith 2 2 (bytes "a") (nested (objectWith 3 (bytes "PTm") [] (attributeWith 4 2 (bytes "b") (leaf (single durationPattern 5 32)) noMore))) noMore))
     -- NAMEs: the keywords are none
     ∷ refuses (bytes "A matches {matches matches {*}}") 2 11
     ∷ refuses (bytes "A matches {existence matches {*}}") 2 11
@@ -92,6 +98,12 @@ cases =
     ∷ refuses (bytes "A matches {a matches {*}") 2 24
     ∷ refuses (bytes "A matches {a matches {B}}") 2 23
     ∷ refuses (bytes "A matches {a matches {B matches {b matches {*}}}") 2 48
+    ∷ accepts (bytes "A matches {a matches {Pd} b matches {Pd matches {*}} c existence matches {0} matches {PThm}}") (objectWith 1 (bytes "A") [] (attributeWith 2 2 (bytes "a") (leaf (single durationPattern 3 8)) (attributeWith 4 2 (bytes "b") (nested (objectWith 5 (bytes "Pd") [] noMore)) (attributeWith 6 0 (bytes "c") (leaf (single durationPattern 7 48)) noMore))))
+    ∷ refuses (bytes "A matches {a matches {Pd} a matches {Pw}}") 9 26
+    ∷ refuses (bytes "A matches {a matches {Pd") 2 24
+    ∷ refuses (bytes "A matches {a matches {Pd}") 2 25
+    ∷ refuses (bytes "A matches {a matches {Pd}}}") 2 26
+    ∷ refuses (bytes "A matches {a matches {Pd --}}") 2 29
     -- names: one that begins like another is another; a repeated one is told where it first comes again
     ∷ accepts (bytes "A matches {a matches {*} ab matches {*}}") (objectWith 1 (bytes "A") [] (attributeWith 2 2 (bytes "a") any (attributeWith 3 2 (bytes "ab") any noMore)))
     ∷ accepts (bytes "A matches {ab matches {*} a matches {*}}") (objectWith 1 (bytes "A") [] (attributeWith 2 2 (bytes "ab") any (attributeWith 3 2 (bytes "a") any noMore)))
@@ -208,6 +220,14 @@ cases =
     ∷ refuses (bytes "Aâ\u{88}\u{88}{aâ\u{88}\u{88}{Aâ\u{88}\u{88}{aâ\u{88}\u{88}{Aâ\u{88}\u{88}{aâ\u{88}\u{88}{Aâ\u{88}\u{88}{aâ\u{88}\u{88}{Aâ\u{88}\u{88}{aâ\u{88}\u{88}{Aâ\u{88}\u{88}{aâ\u{88}\u{88}{Aâ\u{88}\u{88}{aâ\u{88}\u{88}{Aâ\u{88}\u{88}{aâ\u{88}\u{88}{Aâ\u{88}\u{88}{aâ\u{88}\u{88}{Aâ\u{88}\u{88}{aâ\u{88}\u{88}{Aâ\u{88}\u{88}{aâ\u{88}\u{88}{Aâ\u{88}\u{88}{aâ\u{88}\u{88}{Aâ\u{88}\u{88}{aâ\u{88}\u{88}{Aâ\u{88}\u{88}{aâ\u{88}\u{88}{Aâ\u{88}\u{88}{aâ\u{88}\u{88}{Aâ\u{88}\u{88}{aâ\u{88}\u{88}{Abcdefghijklmnopqrstuvwxyz_0123456789_ABCDEFGHIJKLMNOPQRSTUVWXYZ matches{*}}}}}}}}}}}}}}}}}}}}}}}}}}}}}}}}}") 3 160
     ∷ refuses (bytes "Aâ\u{88}\u{88}{aâ\u{88}\u{88}{Aâ\u{88}\u{88}{aâ\u{88}\u{88}{Aâ\u{88}\u{88}{aâ\u{88}\u{88}{Aâ\u{88}\u{88}{aâ\u{88}\u{88}{Aâ\u{88}\u{88}{aâ\u{88}\u{88}{Aâ\u{88}\u{88}{aâ\u{88}\u{88}{Aâ\u{88}\u{88}{aâ\u{88}\u{88}{Aâ\u{88}\u{88}{aâ\u{88}\u{88}{Aâ\u{88}\u{88}{aâ\u{88}\u{88}{Aâ\u{88}\u{88}{aâ\u{88}\u{88}{Aâ\u{88}\u{88}{aâ\u{88}\u{88}{Aâ\u{88}\u{88}{aâ\u{88}\u{88}{Aâ\u{88}\u{88}{aâ\u{88}\u{88}{Aâ\u{88}\u{88}{aâ\u{88}\u{88}{Aâ\u{88}\u{88}{aâ\u{88}\u{88}{Aâ\u{88}\u{88}{aâ\u{88}\u{88}{B") 3 160
     ∷ refuses (bytes "Aâ\u{88}\u{88}{aâ\u{88}\u{88}{Aâ\u{88}\u{88}{aâ\u{88}\u{88}{Aâ\u{88}\u{88}{aâ\u{88}\u{88}{Aâ\u{88}\u{88}{aâ\u{88}\u{88}{Aâ\u{88}\u{88}{aâ\u{88}\u{88}{Aâ\u{88}\u{88}{aâ\u{88}\u{88}{Aâ\u{88}\u{88}{aâ\u{88}\u{88}{Aâ\u{88}\u{88}{aâ\u{88}\u{88}{Aâ\u{88}\u{88}{aâ\u{88}\u{88}{Aâ\u{88}\u{88}{aâ\u{88}\u{88}{Aâ\u{88}\u{88}{aâ\u{88}\u{88}{Aâ\u{88}\u{88}{aâ\u{88}\u{88}{Aâ\u{88}\u{88}{aâ\u{88}\u{88}{Aâ\u{88}\u{88}{aâ\u{88}\u{88}{Aâ\u{88}\u{88}{aâ\u{88}\u{88}{Aâ\u{88}\u{88}{aâ\u{88}\u{88}{b") 2 160
+    ∷ accepts (bytes "Aâ\u{88}\u{88}{aâ\u{88}\u{88}{Aâ\u{88}\u{88}{aâ\u{88}\u{88}{Aâ\u{88}\u{88}{aâ\u{88}\u{88}{Aâ\u{88}\u{88}{aâ\u{88}\u{88}{Aâ\u{88}\u{88}{aâ\u{88}\u{88}{Aâ\u{88}\u{88}{aâ\u{88}\u{88}{Aâ\u{88}\u{88}{aâ\u{88}\u{88}{Aâ\u{88}\u{88}{aâ\u{88}\u{88}{Aâ\u{88}\u{88}{aâ\u{88}\u{88}{Aâ\u{88}\u{88}{aâ\u{88}\u{88}{Aâ\u{88}\u{88}{aâ\u{88}\u{88}{Aâ\u{88}\u{88}{aâ\u{88}\u{88}{Aâ\u{88}\u{88}{aâ\u{88}\u{88}{Aâ\u{88}\u{88}{aâ\u{88}\u{88}{Aâ\u{88}\u{88}{aâ\u{88}\u{88}{Aâ\u{88}\u{88}{aâ\u{88}\u{88}{Pd}}}}}}}}}}}}}}}}}}}}}}}}}}}}}}}}") (objectWith 1 (bytes "A") [] (attributeWith 2 2 (bytes "a") (nested (objectWith 3 (bytes "A") [] (attributeWith 4 2 (bytes "a") (nested (objectWith 5 (bytes "A") [] (attributeWith 6 2 (bytes "a") (nested (objectWith 7 (bytes "A") [] (attributeWith 8 2 (bytes "a") (nested (objectWith 9 (bytes "A") [] (attributeWith 10 2 (bytes "a") (nested (objectWith 11 (bytes "A") [] (attributeWith 12 2 (bytes "a") (nested (objectWith 13 (bytes "A") [] (attributeWith 14 2 (bytes "a") (nested (objectWith 15 (bytes "A") [] (attributeWith 16 2 (bytes "a") (nested (objectWith 17 (bytes "A") [] (attributeWith 18 2 (bytes "a") (nested (objectWith 19 (bytes "A") [] (attributeWith 20 2 (bytes "a") (nested (objectWith 21 (bytes "A") [] (attributeWith 22 2 (bytes "a") (nested (objectWith 23 (bytes "A") [] (attributeWith 24 2 (bytes "a") (nested (objectWith 25 (bytes "A") [] (attributeWith 26 2 (bytes "a") (nested (objectWith 27 (bytes "A") [] (attributeWith 28 2 (bytes "a") (nested (objectWith 29 (bytes "A") [] (attributeWith 30 2 (bytes "a") (nested (objectWith 31 (bytes "A") [] (attributeWith 32 2 (bytes "a") (leaf (single durationPattern 33 8)) noMore))) noMore))) noMore))) noMore))) noMore))) noMore))) noMore))) noMore))) noMore))) noMore))) noMore))) noMore))) noMore))) noMore))) noMore))) noMore))
+    ∷ accepts (bytes "Aâ\u{88}\u{88}{aâ\u{88}\u{88}{Aâ\u{88}\u{88}{aâ\u{88}\u{88}{Aâ\u{88}\u{88}{aâ\u{88}\u{88}{Aâ\u{88}\u{88}{aâ\u{88}\u{88}{Aâ\u{88}\u{88}{aâ\u{88}\u{88}{Aâ\u{88}\u{88}{aâ\u{88}\u{88}{Aâ\u{88}\u{88}{aâ\u{88}\u{88}{Aâ\u{88}\u{88}{aâ\u{88}\u{88}{Aâ\u{88}\u{88}{aâ\u{88}\u{88}{Aâ\u{88}\u{88}{aâ\u{88}\u{88}{Aâ\u{88}\u{88}{aâ\u{88}\u{88}{Aâ\u{88}\u{88}{aâ\u{88}\u{88}{Aâ\u{88}\u{88}{aâ\u{88}\u{88}{Aâ\u{88}\u{88}{aâ\u{88}\u{88}{Aâ\u{88}\u{88}{aâ\u{88}\u{88}{Aâ\u{88}\u{88}{aâ\u{88}\u{88}{Pd--}\n}}}}}}}}}}}}}}}}}}}}}}}}}}}}}}}}") (objectWith 1 (bytes "A") [] (attributeWith 2 2 (bytes "a") (nested (objectWith 3 (bytes "A") [] (attributeWith 4 2 (bytes "a") (nested (objectWith 5 (bytes "A") [] (attributeWith 6 2 (bytes "a") (nested (objectWith 7 (bytes "A") [] (attributeWith 8 2 (bytes "a") (nested (objectWith 9 (bytes "A") [] (attributeWith 10 2 (bytes "a") (nested (objectWith 11 (bytes "A") [] (attributeWith 12 2 (bytes "a") (nested (objectWith 13 (bytes "A") [] (attributeWith 14 2 (bytes "a") (nested (objectWith 15 (bytes "A") [] (attributeWith 16 2 (bytes "a") (nested (objectWith 17 (bytes "A") [] (attributeWith 18 2 (bytes "a") (nested (objectWith 19 (bytes "A") [] (attributeWith 20 2 (bytes "a") (nested (objectWith 21 (bytes "A") [] (attributeWith 22 2 (bytes "a") (nested (objectWith 23 (bytes "A") [] (attributeWith 24 2 (bytes "a") (nested (objectWith 25 (bytes "A") [] (attributeWith 26 2 (bytes "a") (nested (objectWith 27 (bytes "A") [] (attributeWith 28 2 (bytes "a") (nested (objectWith 29 (bytes "A") [] (attributeWith 30 2 (bytes "a") (nested (objectWith 31 (bytes "A") [] (attributeWith 32 2 (bytes "a") (leaf (single durationPattern 33 8)) noMore))) noMore))) noMore))) noMore))) noMore))) noMore))) noMore))) noMore))) noMore))) noMore))) noMore))) noMore))) noMore))) noMore))) noMore))) noMore))
+    ∷ refuses (bytes "Aâ\u{88}\u{88}{aâ\u{88}\u{88}{Aâ\u{88}\u{88}{aâ\u{88}\u{88}{Aâ\u{88}\u{88}{aâ\u{88}\u{88}{Aâ\u{88}\u{88}{aâ\u{88}\u{88}{Aâ\u{88}\u{88}{aâ\u{88}\u{88}{Aâ\u{88}\u{88}{aâ\u{88}\u{88}{Aâ\u{88}\u{88}{aâ\u{88}\u{88}{Aâ\u{88}\u{88}{aâ\u{88}\u{88}{Aâ\u{88}\u{88}{aâ\u{88}\u{88}{Aâ\u{88}\u{88}{aâ\u{88}\u{88}{Aâ\u{88}\u{88}{aâ\u{88}\u{88}{Aâ\u{88}\u{88}{aâ\u{88}\u{88}{Aâ\u{88}\u{88}{aâ\u{88}\u{88}{Aâ\u{88}\u{88}{aâ\u{88}\u{88}{Aâ\u{88}\u{88}{aâ\u{88}\u{88}{Aâ\u{88}\u{88}{aâ\u{88}\u{88}{PD}}}}}}}}}}}}}}}}}}}}}}}}}}}}}}}}") 3 160
+    ∷ refuses (bytes "Aâ\u{88}\u{88}{aâ\u{88}\u{88}{Aâ\u{88}\u{88}{aâ\u{88}\u{88}{Aâ\u{88}\u{88}{aâ\u{88}\u{88}{Aâ\u{88}\u{88}{aâ\u{88}\u{88}{Aâ\u{88}\u{88}{aâ\u{88}\u{88}{Aâ\u{88}\u{88}{aâ\u{88}\u{88}{Aâ\u{88}\u{88}{aâ\u{88}\u{88}{Aâ\u{88}\u{88}{aâ\u{88}\u{88}{Aâ\u{88}\u{88}{aâ\u{88}\u{88}{Aâ\u{88}\u{88}{aâ\u{88}\u{88}{Aâ\u{88}\u{88}{aâ\u{88}\u{88}{Aâ\u{88}\u{88}{aâ\u{88}\u{88}{Aâ\u{88}\u{88}{aâ\u{88}\u{88}{Aâ\u{88}\u{88}{aâ\u{88}\u{88}{Aâ\u{88}\u{88}{aâ\u{88}\u{88}{Aâ\u{88}\u{88}{aâ\u{88}\u{88}{Pd matches{*}}}}}}}}}}}}}}}}}}}}}}}}}}}}}}}}}") 3 160
+    ∷ refuses (bytes "Aâ\u{88}\u{88}{aâ\u{88}\u{88}{Aâ\u{88}\u{88}{aâ\u{88}\u{88}{Aâ\u{88}\u{88}{aâ\u{88}\u{88}{Aâ\u{88}\u{88}{aâ\u{88}\u{88}{Aâ\u{88}\u{88}{aâ\u{88}\u{88}{Aâ\u{88}\u{88}{aâ\u{88}\u{88}{Aâ\u{88}\u{88}{aâ\u{88}\u{88}{Aâ\u{88}\u{88}{aâ\u{88}\u{88}{Aâ\u{88}\u{88}{aâ\u{88}\u{88}{Aâ\u{88}\u{88}{aâ\u{88}\u{88}{Aâ\u{88}\u{88}{aâ\u{88}\u{88}{Aâ\u{88}\u{88}{aâ\u{88}\u{88}{Aâ\u{88}\u{88}{aâ\u{88}\u{88}{Aâ\u{88}\u{88}{aâ\u{88}\u{88}{Aâ\u{88}\u{88}{aâ\u{88}\u{88}{Aâ\u{88}\u{88}{aâ\u{88}\u{88}{Pd") 3 160
+    ∷ refuses (bytes "Aâ\u{88}\u{88}{aâ\u{88}\u{88}{Aâ\u{88}\u{88}{aâ\u{88}\u{88}{Aâ\u{88}\u{88}{aâ\u{88}\u{88}{Aâ\u{88}\u{88}{aâ\u{88}\u{88}{Aâ\u{88}\u{88}{aâ\u{88}\u{88}{Aâ\u{88}\u{88}{aâ\u{88}\u{88}{Aâ\u{88}\u{88}{aâ\u{88}\u{88}{Aâ\u{88}\u{88}{aâ\u{88}\u{88}{Aâ\u{88}\u{88}{aâ\u{88}\u{88}{Aâ\u{88}\u{88}{aâ\u{88}\u{88}{Aâ\u{88}\u{88}{aâ\u{88}\u{88}{Aâ\u{88}\u{88}{aâ\u{88}\u{88}{Aâ\u{88}\u{88}{aâ\u{88}\u{88}{Aâ\u{88}\u{88}{aâ\u{88}\u{88}{Aâ\u{88}\u{88}{aâ\u{88}\u{88}{Aâ\u{88}\u{88}{aâ\u{88}\u{88}{Pd x") 3 160
+    ∷ refuses (bytes "Aâ\u{88}\u{88}{aâ\u{88}\u{88}{Aâ\u{88}\u{88}{aâ\u{88}\u{88}{Aâ\u{88}\u{88}{aâ\u{88}\u{88}{Aâ\u{88}\u{88}{aâ\u{88}\u{88}{Aâ\u{88}\u{88}{aâ\u{88}\u{88}{Aâ\u{88}\u{88}{aâ\u{88}\u{88}{Aâ\u{88}\u{88}{aâ\u{88}\u{88}{Aâ\u{88}\u{88}{aâ\u{88}\u{88}{Aâ\u{88}\u{88}{aâ\u{88}\u{88}{Aâ\u{88}\u{88}{aâ\u{88}\u{88}{Aâ\u{88}\u{88}{aâ\u{88}\u{88}{Aâ\u{88}\u{88}{aâ\u{88}\u{88}{Aâ\u{88}\u{88}{aâ\u{88}\u{88}{Aâ\u{88}\u{88}{aâ\u{88}\u{88}{Aâ\u{88}\u{88}{aâ\u{88}\u{88}{Aâ\u{88}\u{88}{aâ\u{88}\u{88}{P}") 3 160
+    ∷ refuses (bytes "Aâ\u{88}\u{88}{aâ\u{88}\u{88}{Aâ\u{88}\u{88}{aâ\u{88}\u{88}{Aâ\u{88}\u{88}{aâ\u{88}\u{88}{Aâ\u{88}\u{88}{aâ\u{88}\u{88}{Aâ\u{88}\u{88}{aâ\u{88}\u{88}{Aâ\u{88}\u{88}{aâ\u{88}\u{88}{Aâ\u{88}\u{88}{aâ\u{88}\u{88}{Aâ\u{88}\u{88}{aâ\u{88}\u{88}{Aâ\u{88}\u{88}{aâ\u{88}\u{88}{Aâ\u{88}\u{88}{aâ\u{88}\u{88}{Aâ\u{88}\u{88}{aâ\u{88}\u{88}{Aâ\u{88}\u{88}{aâ\u{88}\u{88}{Aâ\u{88}\u{88}{aâ\u{88}\u{88}{Aâ\u{88}\u{88}{aâ\u{88}\u{88}{Aâ\u{88}\u{88}{aâ\u{88}\u{88}{Aâ\u{88}\u{88}{aâ\u{88}\u{88}{Pd}") 2 163
     -- texts over 16,384 bytes, and of that length
     ∷ refuses (replicate 16_385 32) 1 16_384
     ∷ refuses (replicate 16_385 0) 1 16_384

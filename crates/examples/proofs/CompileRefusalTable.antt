@@ -54,6 +54,12 @@ cases =
     ∷ refuses (bytes "A matches {a matches {\"a}}") false (filling 7 60) 2 22
     ∷ refuses (bytes "A[at] matches {*}") true (filling 7 60) 2 1
     ∷ refuses (bytes "A matches {a matches {5.0}}") false (filling 7 60) 2 23
+    ∷ refuses (bytes "A matches {a matches {Pd;}}") true (filling 7 60) 2 24
+    ∷ refuses (bytes "A matches {a matches {PdT}}") false (filling 7 60) 2 25
+    ∷ refuses (bytes "A matches {a matches {Pd, Pw}}") true (filling 7 60) 2 24
+    ∷ refuses (bytes "A matches {a matches {-Pd}}") false (filling 7 60) 2 22
+    ∷ refuses (bytes "A matches {a matches {|P1d..P2d|}}") true (filling 7 60) 2 23
+    ∷ refuses (bytes "Pd}") false (filling 7 60) 2 2
     -- a fault of the text before an output too short
     ∷ refuses (bytes "A matches {a matches {|2004-02-30|}}") false (filling 7 3) 5 23
     ∷ refuses (bytes "A matches {a matches {|>0..<1|}}") false (filling 7 3) 6 29
@@ -65,6 +71,9 @@ cases =
     ∷ refuses (bytes "A matches {a matches {A matches {a matches {A matches {a matches {A matches {a matches {A matches {a matches {A matches {a matches {A matches {a matches {A matches {a matches {A matches {a matches {A matches {a matches {A matches {a matches {A matches {a matches {A matches {a matches {A matches {a matches {A matches {a matches {A matches {a matches {A matches {*}}}}}}}}}}}}}}}}}}}}}}}}}}}}}}}}}") false (filling 7 60) 3 352
     ∷ refuses (bytes "AAAAAAAAAAAAAAAAAAAAAAAAAAAAAAAAAAAAAAAAAAAAAAAAAAAAAAAAAAAAAAAA matches {*}") false (filling 7 60) 4 0
     ∷ refuses (bytes "A matches {a matches {\"xxxxxxxxxxxxxxxxxxxxxxxxxxxxxxxxxxxxxxxxxxxxxxxxxxxxxxxxxxxxxxxxxxxxxxxxxxxxxxxxxxxxxxxxxxxxxxxxxxxxxxxxxxxxxxxxxxxxxxxxxxxxxxxxxxxxxxxxxxxxxxxxxxxxxxxxxxxxxxxxxxxxxxxxxxxxxxxxxxxxxxxxxxxxxxxxxxxxxxxxxxxxxxxxxxxxxxxxxxxxxxxxxxxxxxxxxxxxxxxxxxxxxxxxxxxxxxxx\"}}") false (filling 7 60) 4 22
+    ∷ refuses (bytes "A matches {a matches {A matches {a matches {A matches {a matches {A matches {a matches {A matches {a matches {A matches {a matches {A matches {a matches {A matches {a matches {A matches {a matches {A matches {a matches {A matches {a matches {A matches {a matches {A matches {a matches {A matches {a matches {A matches {a matches {A matches {a matches {Pd") false (filling 7 60) 3 352
+    ∷ refuses (bytes "A matches {a matches {A matches {a matches {A matches {a matches {A matches {a matches {A matches {a matches {A matches {a matches {A matches {a matches {A matches {a matches {A matches {a matches {A matches {a matches {A matches {a matches {A matches {a matches {A matches {a matches {A matches {a matches {A matches {a matches {A matches {a matches {Pd}") false (filling 7 60) 2 355
+    ∷ refuses (bytes "A matches {a matches {A matches {a matches {A matches {a matches {A matches {a matches {A matches {a matches {A matches {a matches {A matches {a matches {A matches {a matches {A matches {a matches {A matches {a matches {A matches {a matches {A matches {a matches {A matches {a matches {A matches {a matches {A matches {a matches {A matches {a matches {PD}}}}}}}}}}}}}}}}}}}}}}}}}}}}}}}}") false (filling 7 60) 3 352
     ∷ []
 
 pub none-wrong : wrong right 0 cases ≡ []

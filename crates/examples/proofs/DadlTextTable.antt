@@ -117,6 +117,11 @@ cases =
     ∷ refuses (bytes "<a=(T-U)<>>") 2 4
     ∷ refuses (bytes "<a=(matches)<>>") 2 4
     ∷ accepts (bytes "(Matches)<>") (datum 9 (some (bytes "Matches")) noMore)
+    ∷ accepts (bytes "(Pd)<>") (datum 4 (some (bytes "Pd")) noMore)
+    ∷ accepts (bytes "(P5d)<>") (datum 5 (some (bytes "P5d")) noMore)
+    ∷ refuses (bytes "(-P5d)<>") 2 1
+    ∷ refuses (bytes "<Pd = <5>>") 2 1
+    ∷ refuses (bytes "<P5d=<5>>") 2 1
     -- NAMEs: a run that opens with a small letter is a NAME or unreadable, and a keyword is none
     ∷ refuses (bytes "<matches=<5>>") 2 1
     ∷ refuses (bytes "<existence=<5>>") 2 1
@@ -220,6 +225,38 @@ cases =
     ∷ accepts (bytes "<a=<08+00>>") (datum 0 none (member (bytes "a") (word 3 (bytes "08+00")) noMore))
     ∷ accepts (bytes "<a=<08+00:00>>") (datum 0 none (member (bytes "a") (word 3 (bytes "08+00:00")) noMore))
     ∷ accepts (bytes "<a=<12-12>>") (datum 0 none (member (bytes "a") (word 3 (bytes "12-12")) noMore))
+    -- words that are durations
+    ∷ accepts (bytes "<a=<P12w3d>>") (datum 0 none (member (bytes "a") (word 3 (bytes "P12w3d")) noMore))
+    ∷ accepts (bytes "<a=<P12W3D>>") (datum 0 none (member (bytes "a") (word 3 (bytes "P12W3D")) noMore))
+    ∷ accepts (bytes "<a=<-P5d>>") (datum 0 none (member (bytes "a") (word 3 (bytes "-P5d")) noMore))
+    ∷ accepts (bytes "<a=<P0d>>") (datum 0 none (member (bytes "a") (word 3 (bytes "P0d")) noMore))
+    ∷ accepts (bytes "<a=<P0005d>>") (datum 0 none (member (bytes "a") (word 3 (bytes "P0005d")) noMore))
+    ∷ accepts (bytes "<a=<PT5M3S>>") (datum 0 none (member (bytes "a") (word 3 (bytes "PT5M3S")) noMore))
+    ∷ accepts (bytes "<a=<P1y2m3w4dT5h6m7s>>") (datum 0 none (member (bytes "a") (word 3 (bytes "P1y2m3w4dT5h6m7s")) noMore))
+    ∷ accepts (bytes "<a=<P9999y9999m9999w9999dT9999h9999m9999s>>") (datum 0 none (member (bytes "a") (word 3 (bytes "P9999y9999m9999w9999dT9999h9999m9999s")) noMore))
+    ∷ accepts (bytes "<a=<-P9999Y9999M9999W9999DT9999H9999M9999S>>") (datum 0 none (member (bytes "a") (word 3 (bytes "-P9999Y9999M9999W9999DT9999H9999M9999S")) noMore))
+    -- words that are nearly durations
+    ∷ refuses (bytes "<a=<P>>") 5 4
+    ∷ refuses (bytes "<a=<PT>>") 5 4
+    ∷ refuses (bytes "<a=<-P>>") 5 4
+    ∷ refuses (bytes "<a=<P5>>") 5 4
+    ∷ refuses (bytes "<a=<P5dT>>") 5 4
+    ∷ refuses (bytes "<a=<Pd>>") 5 4
+    ∷ refuses (bytes "<a=<P00005d>>") 5 4
+    ∷ refuses (bytes "<a=<P1d2w>>") 5 4
+    ∷ refuses (bytes "<a=<P1w1w>>") 5 4
+    ∷ refuses (bytes "<a=<PT1s1h>>") 5 4
+    ∷ refuses (bytes "<a=<P1.5d>>") 5 4
+    ∷ refuses (bytes "<a=<+P5d>>") 5 4
+    ∷ refuses (bytes "<a=<Pt5m>>") 5 4
+    ∷ refuses (bytes "<a=<P5d_>>") 5 4
+    ∷ refuses (bytes "<a=<p5d>>") 2 7
+    ∷ refuses (bytes "<a=<--P5d>>") 2 11
+    ∷ refuses (bytes "<a=<-p5d>>") 5 4
+    ∷ refuses (bytes "<a=<P1h>>") 5 4
+    ∷ refuses (bytes "<a=<PT1d>>") 5 4
+    ∷ refuses (bytes "<a=<PTT5m>>") 5 4
+    ∷ refuses (bytes "<a=<P5dT5>>") 5 4
     -- words that are not
     ∷ refuses (bytes "<a=<TRUE>>") 5 4
     ∷ refuses (bytes "<a=<Tru>>") 5 4

@@ -96,6 +96,12 @@ cases =
     ∷ dataReads (bytes "Z[") (token wordRun 0 1 ∷ token unreadable 1 1 ∷ [])
     ∷ dataReads (bytes "5;") (token wordRun 0 1 ∷ token unreadable 1 1 ∷ [])
     ∷ dataReads (bytes "5/") (token wordRun 0 1 ∷ token unreadable 1 1 ∷ [])
+    ∷ dataReads (bytes "P5d") (token wordRun 0 3 ∷ token textEnd 3 3 ∷ [])
+    ∷ dataReads (bytes "-P5d") (token wordRun 0 4 ∷ token textEnd 4 4 ∷ [])
+    ∷ dataReads (bytes "--P5d") (token textEnd 5 5 ∷ [])
+    ∷ dataReads (bytes "p5d") (token name 0 3 ∷ token textEnd 3 3 ∷ [])
+    ∷ dataReads (bytes "P1.5d") (token wordRun 0 5 ∷ token textEnd 5 5 ∷ [])
+    ∷ dataReads (bytes "<P12w3d>") (token less 0 1 ∷ token wordRun 1 7 ∷ token greater 7 8 ∷ token textEnd 8 8 ∷ [])
     -- strings
     ∷ dataReads (bytes "\"\"") (token string 0 2 ∷ token textEnd 2 2 ∷ [])
     ∷ dataReads (bytes "\"<>()=\" 5") (token string 0 7 ∷ token wordRun 8 9 ∷ token textEnd 9 9 ∷ [])

@@ -1,7 +1,9 @@
 -- Tables of examples, each named by the crate whose definitions it computes.
 pub mod LexisBlankTable
 pub mod LexisByteTable
+pub mod LexisContentTokenTable
 pub mod LexisDataTokenTable
+pub mod LexisDurationTable
 pub mod LexisRunTable
 pub mod LexisTokenTable
 pub mod ValuesNumberTable

@@ -9,7 +9,8 @@ use Rattle.lexis.specs.Bytes.{blank, digit, small, capital, mark, other,
 use Rattle.lexis.specs.Runs.{same, listed}
 use Rattle.lexis.specs.Blanks.{tokenStart}
 use Rattle.lexis.specs.Spelling.{matches, existence, trueWord, falseWord, openBrace, closeBrace, comma, star, bar, dots, less, greater, atMost, atLeast, plusMinus, datePattern, timePattern}
-use Rattle.lexis.specs.Tokens.{tokenAt, spelling, inner, textEnd, unreadable, typeName, name, code, integer, date, string}
+use Rattle.lexis.specs.Durations.{patternSlots, durationPattern}
+use Rattle.lexis.specs.Tokens.{tokenAt, contentTokenAt, spelling, inner, textEnd, unreadable, typeName, name, code, integer, date, string}
 use Rattle.lexis.specs.DataTokens.{dataTokenAt, typeTokenAt, equals, openRound, closeRound, wordRun}
 use Rattle.lexis.specs.declared.Token.{Token}
 
@@ -20,9 +21,9 @@ byte-sorts-apart = refl
 pub token-sorts-apart :
     (textEnd ∷ unreadable ∷ typeName ∷ name ∷ matches ∷ existence ∷ trueWord ∷ falseWord ∷ code ∷ integer ∷ date
     ∷ string ∷ openBrace ∷ closeBrace ∷ comma ∷ star ∷ bar ∷ dots ∷ less ∷ greater ∷ atMost ∷ atLeast ∷ plusMinus
-    ∷ equals ∷ openRound ∷ closeRound ∷ wordRun ∷ datePattern ∷ timePattern ∷ [])
+    ∷ equals ∷ openRound ∷ closeRound ∷ wordRun ∷ datePattern ∷ timePattern ∷ durationPattern ∷ [])
     ≡ (0 ∷ 1 ∷ 2 ∷ 3 ∷ 4 ∷ 5 ∷ 6 ∷ 7 ∷ 8 ∷ 9 ∷ 10 ∷ 11 ∷ 12 ∷ 13 ∷ 14 ∷ 15 ∷ 16 ∷ 17 ∷ 18 ∷ 19 ∷ 20 ∷ 21 ∷ 22 ∷ 23 ∷ 24
-    ∷ 25 ∷ 26 ∷ 30 ∷ 40 ∷ [])
+    ∷ 25 ∷ 26 ∷ 30 ∷ 40 ∷ 100 ∷ [])
 token-sorts-apart = refl
 
 abbrev pub agree : Bool → Bool → Bool
@@ -84,3 +85,17 @@ pub data DataTokenCase : Type 0 where
 unfoldable pub dataTokenRight : DataTokenCase → Bool
 dataTokenRight (dataReads s ts) = same (tokenList (tokensFrom dataTokenAt s (length s + 1) 0)) (tokenList ts)
 dataTokenRight (typeReads s t) = same (tokenList (typeTokenAt s 0 ∷ [])) (tokenList (t ∷ []))
+
+-- a word, and the flag of the Duration pattern that it spells, 0 for none
+pub data DurationCase : Type 0 where
+  patternIs : (word : List ℕ) (flag : ℕ) → DurationCase
+
+unfoldable pub durationRight : DurationCase → Bool
+durationRight (patternIs w flag) = eqb (patternSlots w) flag
+
+-- a constraint text, and the token where a value may stand from a place on
+pub data ContentCase : Type 0 where
+  contentReads : (text : List ℕ) (from : ℕ) (token : Token) → ContentCase
+
+unfoldable pub contentRight : ContentCase → Bool
+contentRight (contentReads s from t) = same (tokenList (contentTokenAt s from ∷ [])) (tokenList (t ∷ []))

@@ -5,7 +5,7 @@ use mathlib.Core.Option.{none, some}
 use mathlib.Core.List.{List, [], _∷_}
 use Rattle.lexis.specs.Text.{bytes}
 use Rattle.lexis.proofs.Tables.{wrong}
-use Rattle.meaning.specs.Constraints.{noMore, any, nested, leaf, single, ranges, texts, booleans, integers, datePattern, dates, timePattern}
+use Rattle.meaning.specs.Constraints.{noMore, any, nested, leaf, single, ranges, texts, booleans, integers, datePattern, dates, timePattern, durationPattern}
 use Rattle.meaning.specs.Data.{datum, member, string, word, block}
 use Rattle.meaning.specs.Data
 use Rattle.meaning.specs.Verdicts.{valid, fails}
@@ -107,6 +107,18 @@ cases =
     ∷ judges (objectWith 1 (bytes "A") [] (attributeWith 2 2 (bytes "a") (leaf (single timePattern 3 1)) noMore)) (datum 0 none (member (bytes "a") (block (datum 3 none (member (bytes "b") (block (datum 6 none Data.noMore)) Data.noMore))) Data.noMore)) (fails 20 3 3)
     ∷ judges (objectWith 1 (bytes "A") [] (attributeWith 2 2 (bytes "a") (leaf (single timePattern 3 1)) noMore)) (datum 0 none (member (bytes "a") (word 3 (bytes "08")) Data.noMore)) (fails 24 3 3)
     ∷ judges (objectWith 1 (bytes "A") [] (attributeWith 2 2 (bytes "a") (leaf (single timePattern 3 1)) noMore)) (datum 0 none (member (bytes "a") (word 3 (bytes "5")) Data.noMore)) (fails 20 3 3)
+    ∷ judges (objectWith 1 (bytes "A") [] (attributeWith 2 2 (bytes "a") (leaf (single durationPattern 3 12)) noMore)) (datum 0 none (member (bytes "a") (block (datum 3 none Data.noMore)) Data.noMore)) (fails 20 3 3)
+    ∷ judges (objectWith 1 (bytes "A") [] (attributeWith 2 2 (bytes "a") (leaf (single durationPattern 3 12)) noMore)) (datum 0 none (member (bytes "a") (block (datum 8 (some (bytes "Pwd")) Data.noMore)) Data.noMore)) (fails 20 3 8)
+    ∷ judges (objectWith 1 (bytes "A") [] (attributeWith 2 2 (bytes "a") (leaf (single durationPattern 3 12)) noMore)) (datum 0 none (member (bytes "a") (word 3 (bytes "P4w")) Data.noMore)) valid
+    ∷ judges (objectWith 1 (bytes "A") [] (attributeWith 2 2 (bytes "a") (leaf (single durationPattern 3 12)) noMore)) (datum 0 none (member (bytes "a") (word 3 (bytes "PT5m")) Data.noMore)) (fails 24 3 3)
+    ∷ judges (objectWith 1 (bytes "A") [] (attributeWith 2 2 (bytes "a") (leaf (single durationPattern 3 12)) noMore)) (datum 0 none (member (bytes "a") (word 3 (bytes "5")) Data.noMore)) (fails 20 3 3)
+    ∷ judges (objectWith 1 (bytes "A") [] (attributeWith 2 2 (bytes "a") (leaf (single durationPattern 3 12)) noMore)) (datum 0 none (member (bytes "a") (string 3 (bytes "P4w")) Data.noMore)) (fails 20 3 3)
+    ∷ judges (objectWith 1 (bytes "Pd") [] noMore) (datum 4 (some (bytes "Pd")) Data.noMore) valid
+    ∷ judges (objectWith 1 (bytes "Pd") [] noMore) (datum 4 (some (bytes "Pw")) Data.noMore) (fails 21 1 4)
+    ∷ judges (objectWith 1 (bytes "Pd") [] noMore) (datum 0 none (member (bytes "a") (word 3 (bytes "P5d")) Data.noMore)) valid
+    ∷ judges (objectWith 1 (bytes "A") [] (attributeWith 2 2 (bytes "a") (nested (objectWith 3 (bytes "Pd") [] noMore)) noMore)) (datum 0 none (member (bytes "a") (block (datum 7 (some (bytes "Pd")) Data.noMore)) Data.noMore)) valid
+    ∷ judges (objectWith 1 (bytes "A") [] (attributeWith 2 2 (bytes "a") (nested (objectWith 3 (bytes "Pd") [] noMore)) noMore)) (datum 0 none (member (bytes "a") (word 3 (bytes "P5d")) Data.noMore)) (fails 20 3 3)
+    ∷ judges (objectWith 1 (bytes "A") [] (attributeWith 2 2 (bytes "a") (nested (objectWith 3 (bytes "Pd") [] noMore)) noMore)) (datum 0 none (member (bytes "a") (block (datum 3 none (member (bytes "x") (word 6 (bytes "P5d")) Data.noMore))) Data.noMore)) valid
     ∷ judges (objectWith 1 (bytes "A") [] (attributeWith 2 2 (bytes "b") any (attributeWith 3 2 (bytes "a") (nested (objectWith 4 (bytes "B") [] (attributeWith 5 2 (bytes "b") any noMore))) noMore))) (datum 0 none (member (bytes "b") (block (datum 3 none Data.noMore)) (member (bytes "a") (word 7 (bytes "5")) Data.noMore))) (fails 20 4 7)
     ∷ judges (objectWith 1 (bytes "A") [] (attributeWith 2 2 (bytes "b") any (attributeWith 3 2 (bytes "a") (nested (objectWith 4 (bytes "B") [] (attributeWith 5 2 (bytes "b") any noMore))) noMore))) (datum 0 none (member (bytes "b") (block (datum 3 none Data.noMore)) (member (bytes "a") (string 7 []) Data.noMore))) (fails 20 4 7)
     ∷ judges (objectWith 1 (bytes "A") [] (attributeWith 2 2 (bytes "b") any (attributeWith 3 2 (bytes "a") (nested (objectWith 4 (bytes "B") [] (attributeWith 5 2 (bytes "b") any noMore))) noMore))) (datum 0 none (member (bytes "b") (word 3 (bytes "5")) (member (bytes "a") (word 11 (bytes "5")) Data.noMore))) (fails 20 4 11)
@@ -183,6 +195,9 @@ cases =
     ∷ judges (objectWith 1 (bytes "A") [] (attributeWith 2 2 (bytes "a") (nested (objectWith 3 (bytes "A") [] (attributeWith 4 2 (bytes "a") (nested (objectWith 5 (bytes "A") [] (attributeWith 6 2 (bytes "a") (nested (objectWith 7 (bytes "A") [] (attributeWith 8 2 (bytes "a") (nested (objectWith 9 (bytes "A") [] (attributeWith 10 2 (bytes "a") (nested (objectWith 11 (bytes "A") [] (attributeWith 12 2 (bytes "a") (nested (objectWith 13 (bytes "A") [] (attributeWith 14 2 (bytes "a") (nested (objectWith 15 (bytes "A") [] (attributeWith 16 2 (bytes "a") (nested (objectWith 17 (bytes "A") [] (attributeWith 18 2 (bytes "a") (nested (objectWith 19 (bytes "A") [] (attributeWith 20 2 (bytes "a") (nested (objectWith 21 (bytes "A") [] (attributeWith 22 2 (bytes "a") (nested (objectWith 23 (bytes "A") [] (attributeWith 24 2 (bytes "a") (nested (objectWith 25 (bytes "A") [] (attributeWith 26 2 (bytes "a") (nested (objectWith 27 (bytes "A") [] (attributeWith 28 2 (bytes "a") (nested (objectWith 29 (bytes "A") [] (attributeWith 30 2 (bytes "a") (nested (objectWith 31 (bytes "A") [] (attributeWith 32 2 (bytes "b") (leaf (ranges integers (range 33 2_147_483_653 2_147_483_653 ∷ []))) noMore))) noMore))) noMore))) noMore))) noMore))) noMore))) noMore))) noMore))) noMore))) noMore))) noMore))) noMore))) noMore))) noMore))) noMore))) noMore)) (datum 0 none (member (bytes "a") (block (datum 3 none (member (bytes "a") (block (datum 6 none (member (bytes "a") (block (datum 9 none (member (bytes "a") (block (datum 12 none (member (bytes "a") (block (datum 15 none (member (bytes "a") (block (datum 18 none (member (bytes "a") (block (datum 21 none (member (bytes "a") (block (datum 24 none (member (bytes "a") (block (datum 27 none (member (bytes "a") (block (datum 30 none (member (bytes "a") (block (datum 33 none (member (bytes "a") (block (datum 36 none (member (bytes "a") (block (datum 39 none (member (bytes "a") (block (datum 42 none (member (bytes "a") (block (datum 45 none (member (bytes "b") (word 48 (bytes "6")) Data.noMore))) Data.noMore))) Data.noMore))) Data.noMore))) Data.noMore))) Data.noMore))) Data.noMore))) Data.noMore))) Data.noMore))) Data.noMore))) Data.noMore))) Data.noMore))) Data.noMore))) Data.noMore))) Data.noMore))) Data.noMore)) (fails 24 33 48)
     ∷ judges (objectWith 1 (bytes "A") [] (attributeWith 2 2 (bytes "a") (nested (objectWith 3 (bytes "A") [] (attributeWith 4 2 (bytes "a") (nested (objectWith 5 (bytes "A") [] (attributeWith 6 2 (bytes "a") (nested (objectWith 7 (bytes "A") [] (attributeWith 8 2 (bytes "a") (nested (objectWith 9 (bytes "A") [] (attributeWith 10 2 (bytes "a") (nested (objectWith 11 (bytes "A") [] (attributeWith 12 2 (bytes "a") (nested (objectWith 13 (bytes "A") [] (attributeWith 14 2 (bytes "a") (nested (objectWith 15 (bytes "A") [] (attributeWith 16 2 (bytes "a") (nested (objectWith 17 (bytes "A") [] (attributeWith 18 2 (bytes "a") (nested (objectWith 19 (bytes "A") [] (attributeWith 20 2 (bytes "a") (nested (objectWith 21 (bytes "A") [] (attributeWith 22 2 (bytes "a") (nested (objectWith 23 (bytes "A") [] (attributeWith 24 2 (bytes "a") (nested (objectWith 25 (bytes "A") [] (attributeWith 26 2 (bytes "a") (nested (objectWith 27 (bytes "A") [] (attributeWith 28 2 (bytes "a") (nested (objectWith 29 (bytes "A") [] (attributeWith 30 2 (bytes "a") (nested (objectWith 31 (bytes "A") [] (attributeWith 32 2 (bytes "b") (leaf (ranges integers (range 33 2_147_483_653 2_147_483_653 ∷ []))) noMore))) noMore))) noMore))) noMore))) noMore))) noMore))) noMore))) noMore))) noMore))) noMore))) noMore))) noMore))) noMore))) noMore))) noMore))) noMore)) (datum 0 none (member (bytes "a") (block (datum 3 none (member (bytes "a") (block (datum 6 none (member (bytes "a") (block (datum 9 none (member (bytes "a") (block (datum 12 none (member (bytes "a") (block (datum 15 none (member (bytes "a") (block (datum 18 none (member (bytes "a") (block (datum 21 none (member (bytes "a") (block (datum 24 none (member (bytes "a") (block (datum 27 none (member (bytes "a") (block (datum 30 none (member (bytes "a") (block (datum 33 none (member (bytes "a") (block (datum 36 none (member (bytes "a") (block (datum 39 none (member (bytes "a") (block (datum 42 none (member (bytes "a") (block (datum 45 none (member (bytes "b") (string 48 (bytes "5")) Data.noMore))) Data.noMore))) Data.noMore))) Data.noMore))) Data.noMore))) Data.noMore))) Data.noMore))) Data.noMore))) Data.noMore))) Data.noMore))) Data.noMore))) Data.noMore))) Data.noMore))) Data.noMore))) Data.noMore))) Data.noMore)) (fails 20 33 48)
     ∷ judges (objectWith 1 (bytes "A") [] (attributeWith 2 2 (bytes "a") (nested (objectWith 3 (bytes "A") [] (attributeWith 4 2 (bytes "a") (nested (objectWith 5 (bytes "A") [] (attributeWith 6 2 (bytes "a") (nested (objectWith 7 (bytes "A") [] (attributeWith 8 2 (bytes "a") (nested (objectWith 9 (bytes "A") [] (attributeWith 10 2 (bytes "a") (nested (objectWith 11 (bytes "A") [] (attributeWith 12 2 (bytes "a") (nested (objectWith 13 (bytes "A") [] (attributeWith 14 2 (bytes "a") (nested (objectWith 15 (bytes "A") [] (attributeWith 16 2 (bytes "a") (nested (objectWith 17 (bytes "A") [] (attributeWith 18 2 (bytes "a") (nested (objectWith 19 (bytes "A") [] (attributeWith 20 2 (bytes "a") (nested (objectWith 21 (bytes "A") [] (attributeWith 22 2 (bytes "a") (nested (objectWith 23 (bytes "A") [] (attributeWith 24 2 (bytes "a") (nested (objectWith 25 (bytes "A") [] (attributeWith 26 2 (bytes "a") (nested (objectWith 27 (bytes "A") [] (attributeWith 28 2 (bytes "a") (nested (objectWith 29 (bytes "A") [] (attributeWith 30 2 (bytes "a") (nested (objectWith 31 (bytes "A") [] (attributeWith 32 2 (bytes "b") (leaf (ranges integers (range 33 2_147_483_653 2_147_483_653 ∷ []))) noMore))) noMore))) noMore))) noMore))) noMore))) noMore))) noMore))) noMore))) noMore))) noMore))) noMore))) noMore))) noMore))) noMore))) noMore))) noMore)) (datum 0 none (member (bytes "a") (block (datum 3 none (member (bytes "a") (block (datum 6 none (member (bytes "a") (block (datum 9 none (member (bytes "a") (block (datum 12 none (member (bytes "a") (block (datum 15 none (member (bytes "a") (block (datum 18 none (member (bytes "a") (block (datum 21 none (member (bytes "a") (block (datum 24 none (member (bytes "a") (block (datum 27 none (member (bytes "a") (block (datum 30 none (member (bytes "a") (block (datum 33 none (member (bytes "a") (block (datum 36 none (member (bytes "a") (block (datum 39 none (member (bytes "a") (block (datum 42 none (member (bytes "a") (block (datum 48 (some (bytes "B")) (member (bytes "b") (word 51 (bytes "5")) Data.noMore))) Data.noMore))) Data.noMore))) Data.noMore))) Data.noMore))) Data.noMore))) Data.noMore))) Data.noMore))) Data.noMore))) Data.noMore))) Data.noMore))) Data.noMore))) Data.noMore))) Data.noMore))) Data.noMore))) Data.noMore)) (fails 21 31 48)
+    ∷ judges (objectWith 1 (bytes "A") [] (attributeWith 2 2 (bytes "a") (nested (objectWith 3 (bytes "A") [] (attributeWith 4 2 (bytes "a") (nested (objectWith 5 (bytes "A") [] (attributeWith 6 2 (bytes "a") (nested (objectWith 7 (bytes "A") [] (attributeWith 8 2 (bytes "a") (nested (objectWith 9 (bytes "A") [] (attributeWith 10 2 (bytes "a") (nested (objectWith 11 (bytes "A") [] (attributeWith 12 2 (bytes "a") (nested (objectWith 13 (bytes "A") [] (attributeWith 14 2 (bytes "a") (nested (objectWith 15 (bytes "A") [] (attributeWith 16 2 (bytes "a") (nested (objectWith 17 (bytes "A") [] (attributeWith 18 2 (bytes "a") (nested (objectWith 19 (bytes "A") [] (attributeWith 20 2 (bytes "a") (nested (objectWith 21 (bytes "A") [] (attributeWith 22 2 (bytes "a") (nested (objectWith 23 (bytes "A") [] (attributeWith 24 2 (bytes "a") (nested (objectWith 25 (bytes "A") [] (attributeWith 26 2 (bytes "a") (nested (objectWith 27 (bytes "A") [] (attributeWith 28 2 (bytes "a") (nested (objectWith 29 (bytes "A") [] (attributeWith 30 2 (bytes "a") (nested (objectWith 31 (bytes "A") [] (attributeWith 32 2 (bytes "b") (leaf (single durationPattern 33 8)) noMore))) noMore))) noMore))) noMore))) noMore))) noMore))) noMore))) noMore))) noMore))) noMore))) noMore))) noMore))) noMore))) noMore))) noMore))) noMore)) (datum 0 none (member (bytes "a") (block (datum 3 none (member (bytes "a") (block (datum 6 none (member (bytes "a") (block (datum 9 none (member (bytes "a") (block (datum 12 none (member (bytes "a") (block (datum 15 none (member (bytes "a") (block (datum 18 none (member (bytes "a") (block (datum 21 none (member (bytes "a") (block (datum 24 none (member (bytes "a") (block (datum 27 none (member (bytes "a") (block (datum 30 none (member (bytes "a") (block (datum 33 none (member (bytes "a") (block (datum 36 none (member (bytes "a") (block (datum 39 none (member (bytes "a") (block (datum 42 none (member (bytes "a") (block (datum 45 none (member (bytes "b") (word 48 (bytes "P5d")) Data.noMore))) Data.noMore))) Data.noMore))) Data.noMore))) Data.noMore))) Data.noMore))) Data.noMore))) Data.noMore))) Data.noMore))) Data.noMore))) Data.noMore))) Data.noMore))) Data.noMore))) Data.noMore))) Data.noMore))) Data.noMore)) valid
+    ∷ judges (objectWith 1 (bytes "A") [] (attributeWith 2 2 (bytes "a") (nested (objectWith 3 (bytes "A") [] (attributeWith 4 2 (bytes "a") (nested (objectWith 5 (bytes "A") [] (attributeWith 6 2 (bytes "a") (nested (objectWith 7 (bytes "A") [] (attributeWith 8 2 (bytes "a") (nested (objectWith 9 (bytes "A") [] (attributeWith 10 2 (bytes "a") (nested (objectWith 11 (bytes "A") [] (attributeWith 12 2 (bytes "a") (nested (objectWith 13 (bytes "A") [] (attributeWith 14 2 (bytes "a") (nested (objectWith 15 (bytes "A") [] (attributeWith 16 2 (bytes "a") (nested (objectWith 17 (bytes "A") [] (attributeWith 18 2 (bytes "a") (nested (objectWith 19 (bytes "A") [] (attributeWith 20 2 (bytes "a") (nested (objectWith 21 (bytes "A") [] (attributeWith 22 2 (bytes "a") (nested (objectWith 23 (bytes "A") [] (attributeWith 24 2 (bytes "a") (nested (objectWith 25 (bytes "A") [] (attributeWith 26 2 (bytes "a") (nested (objectWith 27 (bytes "A") [] (attributeWith 28 2 (bytes "a") (nested (objectWith 29 (bytes "A") [] (attributeWith 30 2 (bytes "a") (nested (objectWith 31 (bytes "A") [] (attributeWith 32 2 (bytes "b") (leaf (single durationPattern 33 8)) noMore))) noMore))) noMore))) noMore))) noMore))) noMore))) noMore))) noMore))) noMore))) noMore))) noMore))) noMore))) noMore))) noMore))) noMore))) noMore)) (datum 0 none (member (bytes "a") (block (datum 3 none (member (bytes "a") (block (datum 6 none (member (bytes "a") (block (datum 9 none (member (bytes "a") (block (datum 12 none (member (bytes "a") (block (datum 15 none (member (bytes "a") (block (datum 18 none (member (bytes "a") (block (datum 21 none (member (bytes "a") (block (datum 24 none (member (bytes "a") (block (datum 27 none (member (bytes "a") (block (datum 30 none (member (bytes "a") (block (datum 33 none (member (bytes "a") (block (datum 36 none (member (bytes "a") (block (datum 39 none (member (bytes "a") (block (datum 42 none (member (bytes "a") (block (datum 45 none (member (bytes "b") (word 48 (bytes "P5w")) Data.noMore))) Data.noMore))) Data.noMore))) Data.noMore))) Data.noMore))) Data.noMore))) Data.noMore))) Data.noMore))) Data.noMore))) Data.noMore))) Data.noMore))) Data.noMore))) Data.noMore))) Data.noMore))) Data.noMore))) Data.noMore)) (fails 24 33 48)
+    ∷ judges (objectWith 1 (bytes "A") [] (attributeWith 2 2 (bytes "a") (nested (objectWith 3 (bytes "A") [] (attributeWith 4 2 (bytes "a") (nested (objectWith 5 (bytes "A") [] (attributeWith 6 2 (bytes "a") (nested (objectWith 7 (bytes "A") [] (attributeWith 8 2 (bytes "a") (nested (objectWith 9 (bytes "A") [] (attributeWith 10 2 (bytes "a") (nested (objectWith 11 (bytes "A") [] (attributeWith 12 2 (bytes "a") (nested (objectWith 13 (bytes "A") [] (attributeWith 14 2 (bytes "a") (nested (objectWith 15 (bytes "A") [] (attributeWith 16 2 (bytes "a") (nested (objectWith 17 (bytes "A") [] (attributeWith 18 2 (bytes "a") (nested (objectWith 19 (bytes "A") [] (attributeWith 20 2 (bytes "a") (nested (objectWith 21 (bytes "A") [] (attributeWith 22 2 (bytes "a") (nested (objectWith 23 (bytes "A") [] (attributeWith 24 2 (bytes "a") (nested (objectWith 25 (bytes "A") [] (attributeWith 26 2 (bytes "a") (nested (objectWith 27 (bytes "A") [] (attributeWith 28 2 (bytes "a") (nested (objectWith 29 (bytes "A") [] (attributeWith 30 2 (bytes "a") (nested (objectWith 31 (bytes "A") [] (attributeWith 32 2 (bytes "b") (leaf (single durationPattern 33 8)) noMore))) noMore))) noMore))) noMore))) noMore))) noMore))) noMore))) noMore))) noMore))) noMore))) noMore))) noMore))) noMore))) noMore))) noMore))) noMore)) (datum 0 none (member (bytes "a") (block (datum 3 none (member (bytes "a") (block (datum 6 none (member (bytes "a") (block (datum 9 none (member (bytes "a") (block (datum 12 none (member (bytes "a") (block (datum 15 none (member (bytes "a") (block (datum 18 none (member (bytes "a") (block (datum 21 none (member (bytes "a") (block (datum 24 none (member (bytes "a") (block (datum 27 none (member (bytes "a") (block (datum 30 none (member (bytes "a") (block (datum 33 none (member (bytes "a") (block (datum 36 none (member (bytes "a") (block (datum 39 none (member (bytes "a") (block (datum 42 none (member (bytes "a") (block (datum 45 none (member (bytes "b") (word 48 (bytes "5")) Data.noMore))) Data.noMore))) Data.noMore))) Data.noMore))) Data.noMore))) Data.noMore))) Data.noMore))) Data.noMore))) Data.noMore))) Data.noMore))) Data.noMore))) Data.noMore))) Data.noMore))) Data.noMore))) Data.noMore))) Data.noMore)) (fails 20 33 48)
     ∷ []
 
 pub none-wrong : wrong right 0 cases ≡ []

@@ -5,7 +5,7 @@ use mathlib.Core.Option.{none, some}
 use mathlib.Core.List.{List, [], _∷_}
 use Rattle.lexis.specs.Text.{bytes}
 use Rattle.lexis.proofs.Tables.{wrong}
-use Rattle.meaning.specs.Constraints.{noMore, any, nested, leaf, single, ranges, texts, booleans, integers, datePattern, dates, timePattern}
+use Rattle.meaning.specs.Constraints.{noMore, any, nested, leaf, single, ranges, texts, booleans, integers, datePattern, dates, timePattern, durationPattern}
 use Rattle.meaning.specs.Data.{datum, member, string, word, block}
 use Rattle.meaning.specs.Data
 use Rattle.meaning.specs.Verdicts.{valid, fails}
@@ -24,6 +24,7 @@ cases =
     ∷ under (single booleans 3 1) (word 3 (bytes "08")) (fails 20 3 3)
     ∷ under (single booleans 3 1) (word 3 (bytes "10:30")) (fails 20 3 3)
     ∷ under (single booleans 3 1) (word 3 (bytes "08:30:00Z")) (fails 20 3 3)
+    ∷ under (single booleans 3 1) (word 3 (bytes "P4w")) (fails 20 3 3)
     ∷ under (single booleans 3 1) (string 3 (bytes "a")) (fails 20 3 3)
     ∷ under (single booleans 3 1) (string 3 []) (fails 20 3 3)
     ∷ under (ranges integers (range 3 2_147_483_653 2_147_483_653 ∷ [])) (word 3 (bytes "True")) (fails 20 3 3)
@@ -34,6 +35,7 @@ cases =
     ∷ under (ranges integers (range 3 2_147_483_653 2_147_483_653 ∷ [])) (word 3 (bytes "08")) (fails 20 3 3)
     ∷ under (ranges integers (range 3 2_147_483_653 2_147_483_653 ∷ [])) (word 3 (bytes "10:30")) (fails 20 3 3)
     ∷ under (ranges integers (range 3 2_147_483_653 2_147_483_653 ∷ [])) (word 3 (bytes "08:30:00Z")) (fails 20 3 3)
+    ∷ under (ranges integers (range 3 2_147_483_653 2_147_483_653 ∷ [])) (word 3 (bytes "P4w")) (fails 20 3 3)
     ∷ under (ranges integers (range 3 2_147_483_653 2_147_483_653 ∷ [])) (string 3 (bytes "a")) (fails 20 3 3)
     ∷ under (ranges integers (range 3 2_147_483_653 2_147_483_653 ∷ [])) (string 3 []) (fails 20 3 3)
     ∷ under (texts (item 3 (bytes "a") ∷ [])) (word 3 (bytes "True")) (fails 20 3 3)
@@ -44,6 +46,7 @@ cases =
     ∷ under (texts (item 3 (bytes "a") ∷ [])) (word 3 (bytes "08")) (fails 20 3 3)
     ∷ under (texts (item 3 (bytes "a") ∷ [])) (word 3 (bytes "10:30")) (fails 20 3 3)
     ∷ under (texts (item 3 (bytes "a") ∷ [])) (word 3 (bytes "08:30:00Z")) (fails 20 3 3)
+    ∷ under (texts (item 3 (bytes "a") ∷ [])) (word 3 (bytes "P4w")) (fails 20 3 3)
     ∷ under (texts (item 3 (bytes "a") ∷ [])) (string 3 (bytes "a")) valid
     ∷ under (texts (item 3 (bytes "a") ∷ [])) (string 3 []) (fails 24 3 3)
     ∷ under (single datePattern 3 3) (word 3 (bytes "True")) (fails 20 3 3)
@@ -54,6 +57,7 @@ cases =
     ∷ under (single datePattern 3 3) (word 3 (bytes "08")) (fails 20 3 3)
     ∷ under (single datePattern 3 3) (word 3 (bytes "10:30")) (fails 20 3 3)
     ∷ under (single datePattern 3 3) (word 3 (bytes "08:30:00Z")) (fails 20 3 3)
+    ∷ under (single datePattern 3 3) (word 3 (bytes "P4w")) (fails 20 3 3)
     ∷ under (single datePattern 3 3) (string 3 (bytes "a")) (fails 20 3 3)
     ∷ under (single datePattern 3 3) (string 3 []) (fails 20 3 3)
     ∷ under (ranges dates (range 3 20_040_520 20_040_520 ∷ [])) (word 3 (bytes "True")) (fails 20 3 3)
@@ -64,6 +68,7 @@ cases =
     ∷ under (ranges dates (range 3 20_040_520 20_040_520 ∷ [])) (word 3 (bytes "08")) (fails 20 3 3)
     ∷ under (ranges dates (range 3 20_040_520 20_040_520 ∷ [])) (word 3 (bytes "10:30")) (fails 20 3 3)
     ∷ under (ranges dates (range 3 20_040_520 20_040_520 ∷ [])) (word 3 (bytes "08:30:00Z")) (fails 20 3 3)
+    ∷ under (ranges dates (range 3 20_040_520 20_040_520 ∷ [])) (word 3 (bytes "P4w")) (fails 20 3 3)
     ∷ under (ranges dates (range 3 20_040_520 20_040_520 ∷ [])) (string 3 (bytes "a")) (fails 20 3 3)
     ∷ under (ranges dates (range 3 20_040_520 20_040_520 ∷ [])) (string 3 []) (fails 20 3 3)
     ∷ under (single timePattern 3 4) (word 3 (bytes "True")) (fails 20 3 3)
@@ -74,8 +79,20 @@ cases =
     ∷ under (single timePattern 3 4) (word 3 (bytes "08")) valid
     ∷ under (single timePattern 3 4) (word 3 (bytes "10:30")) valid
     ∷ under (single timePattern 3 4) (word 3 (bytes "08:30:00Z")) valid
+    ∷ under (single timePattern 3 4) (word 3 (bytes "P4w")) (fails 20 3 3)
     ∷ under (single timePattern 3 4) (string 3 (bytes "a")) (fails 20 3 3)
     ∷ under (single timePattern 3 4) (string 3 []) (fails 20 3 3)
+    ∷ under (single durationPattern 3 44) (word 3 (bytes "True")) (fails 20 3 3)
+    ∷ under (single durationPattern 3 44) (word 3 (bytes "5")) (fails 20 3 3)
+    ∷ under (single durationPattern 3 44) (word 3 (bytes "2004")) (fails 20 3 3)
+    ∷ under (single durationPattern 3 44) (word 3 (bytes "2004-05")) (fails 20 3 3)
+    ∷ under (single durationPattern 3 44) (word 3 (bytes "2004-05-20")) (fails 20 3 3)
+    ∷ under (single durationPattern 3 44) (word 3 (bytes "08")) (fails 20 3 3)
+    ∷ under (single durationPattern 3 44) (word 3 (bytes "10:30")) (fails 20 3 3)
+    ∷ under (single durationPattern 3 44) (word 3 (bytes "08:30:00Z")) (fails 20 3 3)
+    ∷ under (single durationPattern 3 44) (word 3 (bytes "P4w")) valid
+    ∷ under (single durationPattern 3 44) (string 3 (bytes "a")) (fails 20 3 3)
+    ∷ under (single durationPattern 3 44) (string 3 []) (fails 20 3 3)
     -- Booleans
     ∷ under (single booleans 3 1) (word 3 (bytes "True")) valid
     ∷ under (single booleans 3 1) (word 3 (bytes "False")) (fails 24 3 3)
@@ -342,6 +359,50 @@ cases =
     ∷ under (single timePattern 3 4) (word 3 (bytes "24")) (fails 20 3 3)
     ∷ under (single timePattern 3 4) (word 3 (bytes "2004")) (fails 20 3 3)
     ∷ under (single timePattern 3 4) (string 3 (bytes "08:30")) (fails 20 3 3)
+    -- duration patterns: each slot that is filled must be there, the sign is free
+    ∷ under (single durationPattern 3 12) (word 3 (bytes "P4w")) valid
+    ∷ under (single durationPattern 3 12) (word 3 (bytes "P12W3D")) valid
+    ∷ under (single durationPattern 3 12) (word 3 (bytes "-P3d")) valid
+    ∷ under (single durationPattern 3 12) (word 3 (bytes "PT5m")) (fails 24 3 3)
+    ∷ under (single durationPattern 3 12) (word 3 (bytes "P1w2dT3h")) (fails 24 3 3)
+    ∷ under (single durationPattern 3 12) (word 3 (bytes "P5M")) (fails 24 3 3)
+    ∷ under (single durationPattern 3 12) (word 3 (bytes "P0y4w")) (fails 24 3 3)
+    ∷ under (single durationPattern 3 12) (string 3 (bytes "P4w")) (fails 20 3 3)
+    ∷ under (single durationPattern 3 12) (word 3 (bytes "2004")) (fails 20 3 3)
+    ∷ under (single durationPattern 3 32) (word 3 (bytes "P4w")) (fails 24 3 3)
+    ∷ under (single durationPattern 3 32) (word 3 (bytes "P12W3D")) (fails 24 3 3)
+    ∷ under (single durationPattern 3 32) (word 3 (bytes "-P3d")) (fails 24 3 3)
+    ∷ under (single durationPattern 3 32) (word 3 (bytes "PT5m")) valid
+    ∷ under (single durationPattern 3 32) (word 3 (bytes "P1w2dT3h")) (fails 24 3 3)
+    ∷ under (single durationPattern 3 32) (word 3 (bytes "P5M")) (fails 24 3 3)
+    ∷ under (single durationPattern 3 32) (word 3 (bytes "P0y4w")) (fails 24 3 3)
+    ∷ under (single durationPattern 3 32) (string 3 (bytes "P4w")) (fails 20 3 3)
+    ∷ under (single durationPattern 3 32) (word 3 (bytes "2004")) (fails 20 3 3)
+    ∷ under (single durationPattern 3 2) (word 3 (bytes "P4w")) (fails 24 3 3)
+    ∷ under (single durationPattern 3 2) (word 3 (bytes "P12W3D")) (fails 24 3 3)
+    ∷ under (single durationPattern 3 2) (word 3 (bytes "-P3d")) (fails 24 3 3)
+    ∷ under (single durationPattern 3 2) (word 3 (bytes "PT5m")) (fails 24 3 3)
+    ∷ under (single durationPattern 3 2) (word 3 (bytes "P1w2dT3h")) (fails 24 3 3)
+    ∷ under (single durationPattern 3 2) (word 3 (bytes "P5M")) valid
+    ∷ under (single durationPattern 3 2) (word 3 (bytes "P0y4w")) (fails 24 3 3)
+    ∷ under (single durationPattern 3 2) (string 3 (bytes "P4w")) (fails 20 3 3)
+    ∷ under (single durationPattern 3 2) (word 3 (bytes "2004")) (fails 20 3 3)
+    -- a duration pattern of all slots
+    ∷ under (single durationPattern 3 127) (word 3 (bytes "P1y2m3w4dT5h6m7s")) valid
+    ∷ under (single durationPattern 3 127) (word 3 (bytes "-P9999Y9999M9999W9999DT9999H9999M9999S")) valid
+    ∷ under (single durationPattern 3 127) (word 3 (bytes "P0d")) valid
+    ∷ under (single durationPattern 3 127) (word 3 (bytes "PT1s")) valid
+    ∷ under (single durationPattern 3 127) (word 3 (bytes "5")) (fails 20 3 3)
+    -- durations under other leaves
+    ∷ under (ranges integers (range 3 2_147_483_648 2_147_483_657 ∷ [])) (word 3 (bytes "P4w")) (fails 20 3 3)
+    ∷ under (ranges integers (range 3 2_147_483_648 2_147_483_657 ∷ [])) (word 3 (bytes "-PT5M")) (fails 20 3 3)
+    ∷ under (ranges integers (range 3 2_147_483_648 2_147_483_657 ∷ [])) (string 3 (bytes "P4w")) (fails 20 3 3)
+    ∷ under (texts (item 3 (bytes "P4w") ∷ [])) (word 3 (bytes "P4w")) (fails 20 3 3)
+    ∷ under (texts (item 3 (bytes "P4w") ∷ [])) (word 3 (bytes "-PT5M")) (fails 20 3 3)
+    ∷ under (texts (item 3 (bytes "P4w") ∷ [])) (string 3 (bytes "P4w")) valid
+    ∷ under (single booleans 3 1) (word 3 (bytes "P4w")) (fails 20 3 3)
+    ∷ under (single booleans 3 1) (word 3 (bytes "-PT5M")) (fails 20 3 3)
+    ∷ under (single booleans 3 1) (string 3 (bytes "P4w")) (fails 20 3 3)
     -- a date at the edges of an interval; a part of a date isn't in any
     ∷ under (ranges dates (range 3 20_031_231 20_040_229 ∷ [])) (word 3 (bytes "2003-12-30")) (fails 24 3 3)
     ∷ under (ranges dates (range 3 20_031_231 20_040_229 ∷ [])) (word 3 (bytes "2003-12-31")) valid

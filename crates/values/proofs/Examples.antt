@@ -12,7 +12,8 @@ use Rattle.values.specs.Integers.{integerOf, Pair, inside, around, twosC
 use Rattle.values.specs.Calendar.{leap, monthDays, real, dayAfter, dayBefore}
 use Rattle.values.specs.Dates.{Date, dateOf}
 use Rattle.values.specs.Times.{timeOf}
-use Rattle.values.specs.Patterns.{fitsDate, fitsTime}
+use Rattle.values.specs.Durations.{durationOf}
+use Rattle.values.specs.Patterns.{fitsDate, fitsTime, fitsDuration}
 use Rattle.values.specs.Words.{booleanOf, good}
 
 -- a date as the tables spell it: how many of its parts are there, and the day
@@ -25,14 +26,16 @@ dateList (some d) = d .parts ∷ d .day ∷ []
 
 -- a word, what it reads as, and whether it is good
 pub data WordCase : Type 0 where
-  reads : (word : List ℕ) (boolean integer : Option ℕ) (date : Option Date) (time : Option ℕ) (good : Bool) → WordCase
+  reads : (word : List ℕ) (boolean integer : Option ℕ) (date : Option Date) (time duration : Option ℕ) (good : Bool)
+      → WordCase
 
 unfoldable pub wordRight : WordCase → Bool
-wordRight (reads w b i d t answer) =
+wordRight (reads w b i d t u answer) =
     same (orNothing (booleanOf w)) (orNothing b)
     && same (orNothing (integerOf w)) (orNothing i)
     && same (dateList (dateOf w)) (dateList d)
     && same (orNothing (timeOf w)) (orNothing t)
+    && same (orNothing (durationOf w)) (orNothing u)
     && agree (good w) answer
 
 -- numbers of the calendar, values with a distance on either side, and the ends of the ranges
@@ -61,7 +64,7 @@ numberRight (endIs end value) = eqb end value
 
 -- a pattern's flag, a word, and whether the word is a date or a time that the pattern admits
 pub data PatternCase : Type 0 where
-  dateFits timeFits : (flag : ℕ) (word : List ℕ) (answer : Bool) → PatternCase
+  dateFits timeFits durationFits : (flag : ℕ) (word : List ℕ) (answer : Bool) → PatternCase
 
 abbrev pub dateAdmitted : ℕ → Option Date → Bool
 dateAdmitted flag none = false
@@ -71,6 +74,11 @@ abbrev pub timeAdmitted : ℕ → Option ℕ → Bool
 timeAdmitted flag none = false
 timeAdmitted flag (some parts) = fitsTime flag parts
 
+abbrev pub durationAdmitted : ℕ → Option ℕ → Bool
+durationAdmitted flag none = false
+durationAdmitted flag (some filled) = fitsDuration flag filled
+
 unfoldable pub patternRight : PatternCase → Bool
 patternRight (dateFits flag w answer) = agree (dateAdmitted flag (dateOf w)) answer
 patternRight (timeFits flag w answer) = agree (timeAdmitted flag (timeOf w)) answer
+patternRight (durationFits flag w answer) = agree (durationAdmitted flag (durationOf w)) answer

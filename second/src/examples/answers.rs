@@ -126,7 +126,17 @@ fn judge_groups() -> Vec<Group> {
         "<d=<9>e=<\"x\">f=<2004>g=<2005-01-01>h=<08>>",
         "(Ab)<d=<9>e=<\"x\">f=<2004>g=<2005-01-01>h=<08:00>>",
         "(A)<>",
+        "<d=<5>e=<\"\">f=<2004>g=<2004-12-31>h=<10:30>j=<P12w3dT5m>i=<>>",
+        "<d=<5>e=<\"\">f=<2004>g=<2004-12-31>h=<10:30>j=<P1m>i=<>>",
+        "<d=<5>e=<\"\">f=<2004>g=<2004-12-31>h=<10:30>j=<2004>i=<>>",
+        "<d=<5>e=<\"\">f=<2004>g=<2004-12-31>h=<10:30>j=<-PT5M>>",
     ];
+    let duration_data = [
+        "<a=<P4w>>", "<a=<P12W3D>>", "<a=<-P3d>b=<PT5m>>", "<a=<P4w>b=<P5m>>", "<a=<PT5m>>", "<a=<P1w2dT3h>>",
+        "<a=<5>>", "<a=<2004>>", "<a=<\"P4w\">>", "<a=<>>", "<>",
+    ];
+    let durations = compiled("A matches {a matches {Pwd} b existence matches {0..1} matches {PTm}}");
+    let pair = merged(&compiled("A matches {a matches {Pd}}"), &compiled("A matches {a matches {PTm}}"));
     let shared_data = [
         "<b=<b=<5>>>", "<b=<b=<1>>>", "<b=<b=<9>>c=<b=<9>>d=<1>e=<3>f=<5>>", "<b=<b=<9>>c=<b=<4>>>", "<b=<b=<9>>c=<>>",
         "<b=<b=<9>>d=<4>>", "<b=<b=<9>>d=<3>e=<True>>", "<b=<b=<9>>f=<3>>", "<b=<b=<9>>f=<9>>", "<b=(A)<b=<9>>>",
@@ -175,6 +185,15 @@ fn judge_groups() -> Vec<Group> {
                 at(&ordered(&shared(), "bl"), 8, &["<b=<5>>", "<b=<1>>", "<>", "(A)<>"]),
             ],
         ),
+        group(
+            "duration patterns, and two tables of them merged",
+            vec![
+                at(&durations, 1, &duration_data),
+                at(&ordered(&durations, "lb"), 1, &duration_data[2..6]),
+                at(&pair, 4, &["<a = <PT5m>>", "<a=<P5d>>", "<a=<-PT0M>>"]),
+                at(&pair, 1, &["<a=<P5d>>", "<a=<PT5m>>"]),
+            ],
+        ),
         group("attributes of one name, each judged in link order", vec![at(&repeated, 1, &one_name)]),
         group(
             "a root that isn't the first record, and objects that no link leads to",
@@ -221,7 +240,8 @@ fn refusal_groups() -> Vec<Group> {
         "", " ", "<", "<>>", "<a", "<a=<5>", "<a=<5>>x", "()<>", "(t)<>", "(True)<>", "<a=5>", "<a=<5 6>>", "<5>",
         "<a=(T)<5>>", "<matches=<5>>", "<a-b=<5>>", "<a=<\"x>>", "<\x00>", "<a=<5x>>", "<a=<24:00:00>>",
         "<a=<1900-02-29>>", "<a=<007>>", "<a=<12+14:00>>", "<a=<5>a=<6>>", "<a=<b=<>c=<>b=<>>>", "<a=<5x>a=<6>>",
-        "<a=<5>a=<6x>>", "(B)<a=<5x>>",
+        "<a=<5>a=<6x>>", "(B)<a=<5x>>", "<a=<P>>", "<a=<P5dT>>", "<a=<P1d2w>>", "<a=<P00005d>>", "<a=<+P5d>>",
+        "<a=<p5d>>", "<a=<--P5d>>", "<Pd = <5>>",
     ];
     let deep = format!("{}{}", "<a=".repeat(16) + "<", ">".repeat(17));
     let long = format!("<{}=<5>>", "a".repeat(64));
@@ -288,10 +308,11 @@ const FILL: u8 = 3;
 const ROOM: usize = 300;
 
 /// A text with data for it.
-const TEXTS: [(&str, &[&str]); 3] = [
+const TEXTS: [(&str, &[&str]); 4] = [
     ("A matches {*}", &["(B)<>"]),
     ("A matches {a matches {B matches {b matches {5, 7} c existence matches {0} matches {*}}} d existence matches {0..1} matches {\"x\", \"\"}}", &["<a=<b=<7>>d=<\"\">>", "<a=<b=<6>>>", "<a=<b=<5>c=<>>>", "<a=<5>>"]),
     ("A[at1] matches {a matches {|2004-01-01|} b matches {*}}", &["<a=<2004-01-01>>", "<a=<5x>>", "(B)<>"]),
+    ("Pd matches {a matches {Pwd} b existence matches {0..1} matches {PTm}}", &["(Pd)<a=<P4w>b=<-PT5M>>", "<a=<P4w>b=<P5m>>", "<a=<5>>"]),
 ];
 
 fn list_group() -> Group {

@@ -17,7 +17,7 @@ fn at_hand(record: Record, others: &[u8], pool: &[u8]) -> Table {
 fn sample(kind: u8) -> Record {
     match kind {
         1 | 2 => record(kind, 0, [0, 1, 0, 0, 0]),
-        3 | 6 | 8 => record(kind, 1, [0; 5]),
+        3 | 6 | 8 | 9 => record(kind, 1, [0; 5]),
         7 => record(7, 0, [101, 101, 0, 0, 0]),
         _ => record(kind, 0, [0; 5]),
     }
@@ -52,8 +52,8 @@ fn links(about: &'static str, kind: u8, field: usize) -> Group {
         each.numbers[field] = number;
         at_hand(each, others, POOL)
     };
-    let kinds = [1, 2, 3, 4, 5, 6, 7, 8];
-    let mut all: Vec<Table> = (3..11).map(|number| of(number, &kinds)).collect();
+    let kinds = [1, 2, 3, 4, 5, 6, 7, 8, 9];
+    let mut all: Vec<Table> = (3..12).map(|number| of(number, &kinds)).collect();
     all.extend([0, 1, 2].map(|number| of(number, &[kind])));
     all.extend([4, 5, 65_539, u32::MAX].map(|number| of(number, &[kind])));
     // the kind that it needs stands before it
@@ -218,11 +218,11 @@ pub fn groups() -> Vec<Group> {
         ),
         check_group(
             "kinds with the fields that one of them needs",
-            [0, 1, 2, 3, 6, 8, 9, 16].into_iter().map(|kind| at_hand(record(kind, 1, [0; 5]), &[], POOL)).collect(),
+            [0, 1, 2, 3, 6, 8, 9, 10, 16].into_iter().map(|kind| at_hand(record(kind, 1, [0; 5]), &[], POOL)).collect(),
         ),
         check_group(
             "an object's type in another kind",
-            [0, 1, 2, 4, 5, 7, 9]
+            [0, 1, 2, 4, 5, 7, 9, 10]
                 .into_iter()
                 .map(|kind| at_hand(record(kind, 0, [0, 1, 0, 0, 0]), &[], POOL))
                 .collect(),
@@ -267,6 +267,13 @@ pub fn groups() -> Vec<Group> {
         flags("flags of a date pattern", 6, 5),
         flags("flags of a date interval", 7, 0),
         flags("flags of a time pattern", 8, 4),
+        check_group(
+            "flags of a duration pattern: 1 to 127",
+            [0, 1, 2, 7, 8, 12, 15, 16, 32, 48, 64, 112, 126, 127, 128, 129, 136, 254, 255]
+                .into_iter()
+                .map(|flag| at_hand(Record { flag, ..sample(9) }, &[], POOL))
+                .collect(),
+        ),
         unnamed("fields that an attribute doesn't name", 2, &[4]),
         unnamed("fields that Booleans don't name", 3, &[0, 1, 2, 3, 4]),
         unnamed("fields that an integer doesn't name", 4, &[2, 3]),
@@ -274,6 +281,7 @@ pub fn groups() -> Vec<Group> {
         unnamed("fields that a date pattern doesn't name", 6, &[0, 1, 2, 3, 4]),
         unnamed("fields that a date interval doesn't name", 7, &[2, 3]),
         unnamed("fields that a time pattern doesn't name", 8, &[0, 1, 2, 3, 4]),
+        unnamed("fields that a duration pattern doesn't name", 9, &[0, 1, 2, 3, 4]),
         parts("an object's type in the pool", 1, 0, &name),
         parts("an object's code in the pool", 1, 2, &code),
         parts("an attribute's name in the pool", 2, 0, &name),
@@ -299,6 +307,9 @@ pub fn groups() -> Vec<Group> {
             ordered(&at_hand(record(5, 0, [1, 2, 0, 0, 0]), &[], POOL), "lbl"),
             ordered(&at_hand(record(3, 4, [0; 5]), &[], POOL), "lbl"),
             ordered(&at_hand(record(3, 3, [0, 0, 0, 0, 1]), &[], POOL), "lbl"),
+            ordered(&at_hand(record(9, 127, [0; 5]), &[], POOL), "lbl"),
+            ordered(&at_hand(record(9, 128, [0; 5]), &[], POOL), "lbl"),
+            ordered(&at_hand(record(9, 8, [0, 0, 0, 0, 1]), &[], POOL), "bbl"),
         ],
     ));
     all

@@ -120,8 +120,9 @@ fn compile_groups() -> Vec<Group> {
             &["|2004-02-29|", "|2004-01-01..2004-12-31|", "|>2003-12-31|", "|<2004-03-01|", "|<2005-01-01|", "|<=2004-02-28|", "|>=0000-01-01|", "|>2004-02-28..<2004-03-01|", "|2004-01-01|, |>=2006-01-01|, |2005-05-05|"],
         ),
         leaves("time patterns", &["Thh:mm:ss", "Thh:mm:XX", "Thh:??:XX", "Thh:??:??"]),
+        leaves("duration patterns", &["Pd", "Pwd", "PTm", "PTm", "Pm", "PThm", "PmTm", "PymwdThms", "Pd --c\n", "Pd matches {*}"]),
         leaves("`*`", &["*", "*"]),
-        both("every kind of record", &["Ab[at1] matches {a existence matches {0} matches {C matches {*}} bc existence matches {0..1} matches {True} d matches {-1, |5..9|} e matches {\"x\", \"\", \"yz\"} f matches {yyyy-??-XX} g matches {|2004-02-29..2005-01-01|, |9999-12-31|} h matches {Thh:mm:XX} i matches {*}}"], 2),
+        both("every kind of record", &["Ab[at1] matches {a existence matches {0} matches {C matches {*}} bc existence matches {0..1} matches {True} d matches {-1, |5..9|} e matches {\"x\", \"\", \"yz\"} f matches {yyyy-??-XX} g matches {|2004-02-29..2005-01-01|, |9999-12-31|} h matches {Thh:mm:XX} j existence matches {0..1} matches {PwdTm} i matches {*}}"], 2),
     ]
 }
 
@@ -133,7 +134,7 @@ fn refusal_groups() -> Vec<Group> {
             short.push(case(text.as_bytes(), room % 2 == 1, FILL, room));
         }
     }
-    let faults: [&str; 20] = [
+    let faults: [&str; 26] = [
         "",
         "A",
         "A matches",
@@ -154,6 +155,12 @@ fn refusal_groups() -> Vec<Group> {
         "A matches {a matches {\"a}}",
         "A[at] matches {*}",
         "A matches {a matches {5.0}}",
+        "A matches {a matches {Pd;}}",
+        "A matches {a matches {PdT}}",
+        "A matches {a matches {Pd, Pw}}",
+        "A matches {a matches {-Pd}}",
+        "A matches {a matches {|P1d..P2d|}}",
+        "Pd}",
     ];
     let mut kept = Vec::new();
     for (index, text) in faults.iter().enumerate() {
@@ -163,7 +170,14 @@ fn refusal_groups() -> Vec<Group> {
     let deep = format!("{}*{}", "A matches {a matches {".repeat(16) + "A matches {", "}".repeat(33));
     let long = format!("{} matches {{*}}", "A".repeat(64));
     let long_string = format!("A matches {{a matches {{\"{}\"}}}}", "x".repeat(256));
-    let limits = [deep, long, long_string].iter().map(|text| case(text.as_bytes(), false, FILL, 60)).collect();
+    let x = "A matches {a matches {".repeat(16);
+    let pattern = format!("{x}Pd");
+    let closed = format!("{x}Pd}}");
+    let capital = format!("{x}PD{}", "}".repeat(32));
+    let limits = [deep, long, long_string, pattern, closed, capital]
+        .iter()
+        .map(|text| case(text.as_bytes(), false, FILL, 60))
+        .collect();
     vec![
         Group { about: "an output too short, at the text's end; and long enough", cases: short },
         Group { about: "faults of the text: the output is kept", cases: kept },

@@ -13,7 +13,7 @@ const USES: &[&str] = &[
     "lib.ListN.{replicate}",
     "Rattle.lexis.specs.Text.{bytes}",
     "Rattle.lexis.proofs.Tables.{wrong}",
-    "Rattle.meaning.specs.Constraints.{noMore, any, nested, leaf, single, ranges, texts, booleans, integers, datePattern, dates, timePattern}",
+    "Rattle.meaning.specs.Constraints.{noMore, any, nested, leaf, single, ranges, texts, booleans, integers, datePattern, dates, timePattern, durationPattern}",
     "Rattle.meaning.proofs.Trees.{range, item, objectWith, attributeWith, objectList}",
     "Rattle.cadl_objects.proofs.Computes.{constraintComputes}",
     "Rattle.cadl_objects.proofs.Examples.{Case, accepts, refuses, acceptsFrom, refusesFrom, right}",
@@ -60,7 +60,7 @@ fn case(text: &[u8]) -> String {
 fn counted() -> Vec<Group> {
     let long_type = [TYPE_63, b"Z matches {*}"].concat();
     let long_name = [b"B matches {", NAME_63, b"Z matches {*}}"].concat();
-    let records: [(&[u8], u32); 14] = [
+    let records: [(&[u8], u32); 18] = [
         (b"B matches {*}", 2_047),
         (b"B matches {*}", 2_048),
         (&long_type, 2_048),
@@ -75,6 +75,10 @@ fn counted() -> Vec<Group> {
         (b"B matches {b matches {1, 2} c matches {True, False}}", 2_043),
         (b"B matches {b matches {1, 2} c matches {True, False}}", 2_042),
         (b"B matches {b matches {C matches {c matches {*}}} d matches {\"x\"}}", 2_043),
+        (b"B matches {b matches {Pd}}", 2_045),
+        (b"B matches {b matches {Pd}}", 2_046),
+        (b"B matches {b matches {Pd x", 2_046),
+        (b"B matches {b matches {Pd matches {*}}}", 2_046),
     ];
     vec![Group {
         about: "record 2,048",
@@ -183,6 +187,12 @@ fn texts() -> Vec<Inputs> {
                 b"Thh:mm:ss matches {*}",
                 b"T matches {a matches {True matches {*}}}",
                 b"T matches {a matches {True_ matches {*}}}",
+                b"Pd matches {*}",
+                b"Pd",
+                b"Pd}",
+                b"A matches {Pd}",
+                b"A matches {a existence matches {Pd} matches {*}}",
+                b"PymwdThms[at1] matches {a matches {PTm matches {b matches {PTm}}}}",
             ],
         ),
         inputs(
@@ -218,6 +228,12 @@ fn texts() -> Vec<Inputs> {
                 b"A matches {a matches {*}",
                 b"A matches {a matches {B}}",
                 b"A matches {a matches {B matches {b matches {*}}}",
+                b"A matches {a matches {Pd} b matches {Pd matches {*}} c existence matches {0} matches {PThm}}",
+                b"A matches {a matches {Pd} a matches {Pw}}",
+                b"A matches {a matches {Pd",
+                b"A matches {a matches {Pd}",
+                b"A matches {a matches {Pd}}}",
+                b"A matches {a matches {Pd --}}",
             ],
         ),
         inputs(
@@ -306,6 +322,14 @@ fn texts() -> Vec<Inputs> {
                 nested(16, &[TYPE_63, b"Z matches{*}"].concat()),
                 [&b"A\xE2\x88\x88{a\xE2\x88\x88{".repeat(16)[..], b"B"].concat(),
                 [&b"A\xE2\x88\x88{a\xE2\x88\x88{".repeat(16)[..], b"b"].concat(),
+                nested(16, b"Pd"),
+                nested(16, b"Pd--}\n"),
+                nested(16, b"PD"),
+                nested(16, b"Pd matches{*}"),
+                [&b"A\xE2\x88\x88{a\xE2\x88\x88{".repeat(16)[..], b"Pd"].concat(),
+                [&b"A\xE2\x88\x88{a\xE2\x88\x88{".repeat(16)[..], b"Pd x"].concat(),
+                [&b"A\xE2\x88\x88{a\xE2\x88\x88{".repeat(16)[..], b"P}"].concat(),
+                [&b"A\xE2\x88\x88{a\xE2\x88\x88{".repeat(16)[..], b"Pd}"].concat(),
             ],
         ),
         made_inputs(
@@ -405,6 +429,9 @@ fn fault_texts() -> Vec<Inputs> {
                 b"A matches {a matches {|20040-05-20|}}",
                 b"A matches {a matches {|2004-05-20-1|}}",
                 b"A matches {a matches {|2004-05--20\n|}}",
+                b"A matches {a matches {PdX}}",
+                b"A matches {a matches {Pd--X\n}}",
+                b"A matches {a matches {Pd_}}",
             ],
         ),
     ]);

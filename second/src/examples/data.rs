@@ -96,7 +96,8 @@ fn texts() -> Vec<Inputs> {
             &[
                 b"(True)<>", b"(False)<>", b"(TRUE)<>", b"(T_1b)<>", b"(t)<>", b"(T-U)<>", b"(T.U)<>", b"(T:U)<>",
                 b"(T+)<>", b"(_T)<>", b"(5)<>", b"(\"T\")<>", b"(T U)<>", b"(List<T>)<>", b"(T>", b"<a=(True)<>>",
-                b"<a=(t)<>>", b"<a=(T-U)<>>", b"<a=(matches)<>>", b"(Matches)<>",
+                b"<a=(t)<>>", b"<a=(T-U)<>>", b"<a=(matches)<>>", b"(Matches)<>", b"(Pd)<>", b"(P5d)<>", b"(-P5d)<>",
+                b"<Pd = <5>>", b"<P5d=<5>>",
             ],
         ),
         inputs(
@@ -131,6 +132,20 @@ fn texts() -> Vec<Inputs> {
                 b"0000-01-01", b"9999-12-31", b"10:30", b"10:30:59", b"23:59:59", b"00:00:00", b"08Z", b"08:30Z",
                 b"08:30:00Z", b"08+05", b"08+05:30", b"08:30+05", b"08:30:00+05:30", b"08+13", b"08+13:59", b"08-12",
                 b"08-12:59", b"08-00:30", b"08-00:01", b"08-01", b"08-01:00", b"08+00", b"08+00:00", b"12-12",
+            ],
+        ),
+        leaves(
+            "words that are durations",
+            &[
+                b"P12w3d", b"P12W3D", b"-P5d", b"P0d", b"P0005d", b"PT5M3S", b"P1y2m3w4dT5h6m7s",
+                b"P9999y9999m9999w9999dT9999h9999m9999s", b"-P9999Y9999M9999W9999DT9999H9999M9999S",
+            ],
+        ),
+        leaves(
+            "words that are nearly durations",
+            &[
+                b"P", b"PT", b"-P", b"P5", b"P5dT", b"Pd", b"P00005d", b"P1d2w", b"P1w1w", b"PT1s1h", b"P1.5d",
+                b"+P5d", b"Pt5m", b"P5d_", b"p5d", b"--P5d", b"-p5d", b"P1h", b"PT1d", b"PTT5m", b"P5dT5",
             ],
         ),
         leaves(

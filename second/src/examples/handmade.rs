@@ -46,9 +46,9 @@ pub fn compiled(text: &str) -> Table {
     }
 }
 
-/// A table with a record of every kind, each reached from the root: its kinds are 1 to 8 in turn, and 2 again before each leaf.
+/// A table with a record of every kind, each reached from the root: its kinds are 1 to 9 in turn, and 2 again before each leaf.
 pub fn every_kind() -> Table {
-    compiled("Ab[at1] matches {a existence matches {0} matches {C matches {*}} bc existence matches {0..1} matches {True} d matches {-1, |5..9|} e matches {\"x\", \"\", \"yz\"} f matches {yyyy-??-XX} g matches {|2004-02-29..2005-01-01|, |9999-12-31|} h matches {Thh:mm:XX} i matches {*}}")
+    compiled("Ab[at1] matches {a existence matches {0} matches {C matches {*}} bc existence matches {0..1} matches {True} d matches {-1, |5..9|} e matches {\"x\", \"\", \"yz\"} f matches {yyyy-??-XX} g matches {|2004-02-29..2005-01-01|, |9999-12-31|} h matches {Thh:mm:XX} j existence matches {0..1} matches {PwdTm} i matches {*}}")
 }
 
 /// Two attributes share one object, two others one list, whose second item a fifth takes for its first; the last two have one name.
@@ -85,6 +85,7 @@ pub fn unreached() -> Table {
             record(1, 0, [0, 2, 0, 0, 0]),
             record(7, 0, [20_040_229, 20_040_301, 0, 0, 0]),
             record(3, 2, [0; 5]),
+            record(9, 40, [0; 5]),
         ],
         b"Aa",
     )

@@ -43,7 +43,7 @@ const TREES: &[&str] = &[
     WRONG,
     COMPUTE,
     HEX,
-    "Rattle.meaning.specs.Constraints.{noMore, any, nested, leaf, single, ranges, texts, booleans, integers, datePattern, dates, timePattern}",
+    "Rattle.meaning.specs.Constraints.{noMore, any, nested, leaf, single, ranges, texts, booleans, integers, datePattern, dates, timePattern, durationPattern}",
     "Rattle.meaning.proofs.Trees.{range, item, objectWith, attributeWith, objectList}",
     "Rattle.table.proofs.Examples.{TreeCase, tree, noTree, treeRight}",
 ];
@@ -171,6 +171,8 @@ fn records() -> Group {
         record(6, 5, [0; 5]),
         record(7, 0, [101, 99_991_231, 0, 0, 1_024]),
         record(8, 4, [0; 5]),
+        record(9, 12, [0; 5]),
+        record(9, 127, [0; 5]),
         record(255, 254, [0x0102_0304, 0x0506_0708, 0x090A_0B0C, 0x0D0E_0F10, 0x1112_1314]),
     ];
     let case = |each: &Record| {
@@ -242,6 +244,20 @@ fn sound() -> Vec<Table> {
         ],
         b"Aa",
     ));
+    // duration patterns of one slot and of all, the second shared
+    all.push(table(
+        1,
+        &[
+            record(1, 0, [0, 1, 0, 0, 2]),
+            record(2, 0, [1, 1, 5, 3, 0]),
+            record(2, 2, [2, 1, 6, 4, 0]),
+            record(2, 1, [3, 1, 6, 0, 0]),
+            record(9, 1, [0; 5]),
+            record(9, 127, [0; 5]),
+        ],
+        b"Aabc",
+    ));
+    all.push(ordered(&compiled("A matches {a matches {Pwd} b matches {PTm}}"), "bl"));
     // a root that isn't the first record, and parts that overlap
     all.push(table(2, &[record(3, 1, [0; 5]), record(1, 0, [0, 3, 1, 2, 0])], b"ABC"));
     all.push(table(2, &[record(1, 0, [0, 1, 0, 0, 0]), record(1, 0, [2, 1, 0, 0, 0])], b"A\xFF\x00"));
@@ -283,7 +299,7 @@ fn headers() -> Group {
     for mark in [[0, 0], [0xC0, 0xC0], [0xAD, 0xAD], [0xC0, 0xAC], [0xC1, 0xAD], [0x40, 0xAD]] {
         all.push(changed(&base, 0, |header| header.mark = mark));
     }
-    for kind in 1..=9 {
+    for kind in 1..=10 {
         all.push(changed(&base, 0, |header| header.kind = kind));
     }
     for flag in [1, 2, 255] {
@@ -381,6 +397,13 @@ fn before() -> Group {
         changed(&base, 5, |record| record.mark = [0, 0]),
         changed(&base, 5, |record| record.flag = 5),
         changed(&base, 5, |record| record.kind = 2),
+        changed(&base, 9, |record| record.flag = 0),
+        changed(&base, 9, |record| record.flag = 128),
+        changed(&changed(&base, 9, |record| record.flag = 128), 8, |record| record.flag = 0),
+        changed(&changed(&base, 5, |record| *record = Record { kind: 9, flag: 255, ..*record }), 9, |record| {
+            record.flag = 0
+        }),
+        changed(&base, 5, |record| record.kind = 10),
     ];
     expect(check_group("the lowest broken record is told, and 12 before 13", all), "refuses")
 }
@@ -433,6 +456,7 @@ fn name_groups() -> Vec<Group> {
         ),
         all_names("an empty string, and parts that overlap", &ordered(&small, "lb")),
         all_names("shared records", &shared()),
+        all_names("duration patterns hold no name", &compiled("A matches {a matches {Pd} b matches {PThm}}")),
         Group {
             about: "a table that is refused, before 14",
             cases: faults.iter().map(|(each, number)| name_case(&each.bytes(), *number)).collect(),
@@ -472,6 +496,7 @@ impl Trees<'_> {
             Some(rules::Record::Boolean { flag }) => format!("(single booleans {n} {flag})"),
             Some(rules::Record::DatePattern { flag }) => format!("(single datePattern {n} {flag})"),
             Some(rules::Record::TimePattern { flag }) => format!("(single timePattern {n} {flag})"),
+            Some(rules::Record::DurationPattern { flag }) => format!("(single durationPattern {n} {flag})"),
             Some(rules::Record::Integer { .. }) => format!("(ranges integers {})", self.items(number)),
             Some(rules::Record::Text { .. }) => format!("(texts {})", self.items(number)),
             Some(rules::Record::DateInterval { .. }) => format!("(ranges dates {})", self.items(number)),
@@ -543,6 +568,24 @@ fn tree_groups() -> Vec<Group> {
     vec![
         all_trees("the smallest table", &smallest()),
         all_trees("a table with every kind of record, in mixed orders", &ordered(&every_kind(), "lbb")),
+        all_trees(
+            "duration patterns, one of them shared, and a TYPE of a pattern's spelling",
+            &ordered(
+                &table(
+                    1,
+                    &[
+                        record(1, 0, [0, 2, 0, 0, 2]),
+                        record(2, 2, [2, 1, 5, 3, 0]),
+                        record(2, 1, [3, 1, 6, 4, 0]),
+                        record(2, 0, [4, 1, 6, 0, 0]),
+                        record(9, 8, [0; 5]),
+                        record(9, 127, [0; 5]),
+                    ],
+                    b"Pdabc",
+                ),
+                "blb",
+            ),
+        ),
         all_trees("objects inside each other", &nested),
         all_trees("the same in mixed orders", &ordered(&nested, "bl")),
         all_trees("shared records, a link into the middle of a list, one name twice", &ordered(&shared(), "bbl")),

@@ -69,6 +69,9 @@ fn compile_cases() -> Vec<String> {
         case("A matches {a matches {5, 5}}", false, 0),
         case("A matches {a matches {|5..4|}}", true, 9),
         case("A matches", false, 60),
+        case("A matches {a matches {Pwd}}", true, 98),
+        case("A matches {a matches {Pwd;}}", false, 98),
+        case("A matches {a matches {PD}}", false, 98),
     ]
 }
 
@@ -85,7 +88,9 @@ fn check_cases() -> Vec<String> {
     vec![
         case(&small),
         case(&small[1..]),
+        case(&changed(&every, 5, |record| record.kind = 10).bytes()),
         case(&changed(&every, 5, |record| record.kind = 9).bytes()),
+        case(&changed(&every, 5, |record| (record.kind, record.flag) = (9, 128)).bytes()),
         case(&ordered(&every, "bl").bytes()),
     ]
 }
@@ -104,6 +109,7 @@ fn merge_cases() -> Vec<String> {
     let small = compiled("A matches {*}").bytes();
     let other = compiled("Abc[at1] matches {de matches {\"x\"}}");
     let broken = changed(&other, 2, |record| record.flag = 3).bytes();
+    let durations = |pattern: &str| compiled(&format!("A matches {{a matches {{{pattern}}}}}")).bytes();
     vec![
         case(&small, &small, false, 74),
         case(&other.bytes(), &small, true, 200),
@@ -113,6 +119,7 @@ fn merge_cases() -> Vec<String> {
         case(&small, &small[..48], false, 200),
         case(&broken, &small[..48], false, 200),
         case(&small, &broken, true, 200),
+        case(&durations("Pd"), &durations("PTm"), false, 172),
     ]
 }
 
@@ -128,6 +135,7 @@ fn judge_cases() -> Vec<String> {
         format!("judges {inputs} {}", numbers(&told))
     };
     let whole = table.bytes();
+    let durations = compiled("A matches {a matches {Pwd}}").bytes();
     vec![
         case(&whole, 1, "<a=<b=<5>>>"),
         case(&whole, 3, "<b=<5>>"),
@@ -142,6 +150,11 @@ fn judge_cases() -> Vec<String> {
         case(&whole, 9, "<>"),
         case(&whole[1..], 1, "<>"),
         case(&changed(&table, 4, |record| record.kind = 8).bytes(), 1, "<"),
+        case(&durations, 1, "<a=<P4w>>"),
+        case(&durations, 1, "<a=<PT5m>>"),
+        case(&durations, 1, "<a=<5>>"),
+        case(&durations, 1, "<a=<P4>>"),
+        case(&durations, 3, "<a=<P4w>>"),
     ]
 }
 
@@ -157,6 +170,7 @@ fn name_cases() -> Vec<String> {
     let whole = table.bytes();
     let mut all: Vec<String> = (0..8).map(|record| case(&whole, record)).collect();
     all.push(case(&whole[1..], 1));
+    all.push(case(&compiled("A matches {a matches {Pwd}}").bytes(), 3));
     all.push(case(&changed(&table, 2, |record| record.flag = 3).bytes(), 1));
     all
 }

@@ -5,14 +5,14 @@ use super::table::{groups, Group, Table};
 use super::term;
 use crate::constraint::{self, Leaf, Value};
 use crate::faults::Fault;
-use crate::tokens::{token_at, Kind};
+use crate::tokens::{token_at, value_token_at, Kind};
 
 const USES: &[&str] = &[
     "mathlib.Core.Path.{_≡_, refl}",
     "mathlib.Core.List.{List, [], _∷_}",
     "Rattle.lexis.specs.Text.{bytes}",
     "Rattle.lexis.proofs.Tables.{wrong}",
-    "Rattle.meaning.specs.Constraints.{single, ranges, texts, booleans, integers, datePattern, dates, timePattern}",
+    "Rattle.meaning.specs.Constraints.{single, ranges, texts, booleans, integers, datePattern, dates, timePattern, durationPattern}",
     "Rattle.meaning.proofs.Trees.{range, item}",
     "Rattle.cadl_items.proofs.Computes.{itemsCompute}",
     "Rattle.cadl_items.proofs.Examples.{Case, reads, refuses, right}",
@@ -36,7 +36,7 @@ pub fn tables() -> Vec<Table> {
 
 /// Leaves whose records come to the limit of a table.
 fn counted() -> Group {
-    let records: [(&[u8], u32); 14] = [
+    let records: [(&[u8], u32); 16] = [
         (b"5}", 2_047),
         (b"5}", 2_048),
         (b"1, 2}", 2_047),
@@ -51,6 +51,8 @@ fn counted() -> Group {
         (b"yyyy-mm-dd}", 2_048),
         (b"Thh:mm:ss}", 2_048),
         (b"Thh:mm:ss}", 2_047),
+        (b"Pwd}", 2_048),
+        (b"Pwd}", 2_047),
     ];
     let cases = records.iter().map(|(text, number)| case(text, *number)).collect();
     Group { about: "record 2,048", cases }
@@ -67,7 +69,7 @@ fn case(text: &[u8], number: u32) -> String {
 /// The leaf at the front of a text and the place behind it, or its fault. Where a token that can't follow stands behind
 /// the leaf, the leaf is read without the rest.
 fn leaf_of(text: &[u8], number: u32) -> Result<(String, usize), Fault> {
-    let first = token_at(text, 0);
+    let first = value_token_at(text, 0);
     if matches!(first.kind, Kind::Star | Kind::Type) {
         // In a whole text these may stand there, yet no leaf begins with them.
         return Err(Fault { number: 2, place: first.start as u64 });

@@ -15,7 +15,7 @@ const USES: &[&str] = &[
     "mathlib.Core.List.{List, [], _∷_}",
     "Rattle.lexis.specs.Text.{bytes}",
     "Rattle.lexis.proofs.Tables.{wrong}",
-    "Rattle.meaning.specs.Constraints.{noMore, any, nested, leaf, single, ranges, texts, booleans, integers, datePattern, dates, timePattern}",
+    "Rattle.meaning.specs.Constraints.{noMore, any, nested, leaf, single, ranges, texts, booleans, integers, datePattern, dates, timePattern, durationPattern}",
     "Rattle.meaning.specs.Data.{datum, member, string, word, block}",
     "Rattle.meaning.specs.Data",
     "Rattle.meaning.specs.Verdicts.{valid, fails}",
@@ -103,13 +103,14 @@ fn pairs(about: &'static str, all: &[(&str, &[&str])]) -> Group {
 }
 
 /// Values of every sort that data has.
-const SORTS: &[&str] = &["True", "5", "2004", "2004-05", "2004-05-20", "08", "10:30", "08:30:00Z", "\"a\"", "\"\""];
+const SORTS: &[&str] =
+    &["True", "5", "2004", "2004-05", "2004-05-20", "08", "10:30", "08:30:00Z", "P4w", "\"a\"", "\"\""];
 
 fn leaf_groups() -> Vec<Group> {
     vec![
         crossed(
             "a value of every sort under a leaf of every kind",
-            &["True", "5", "\"a\"", "yyyy-??-??", "|2004-05-20|", "Thh:??:??"],
+            &["True", "5", "\"a\"", "yyyy-??-??", "|2004-05-20|", "Thh:??:??", "PwdTm"],
             SORTS,
         ),
         crossed(
@@ -159,6 +160,17 @@ fn leaf_groups() -> Vec<Group> {
             &["08", "08:30", "08:30:59", "23Z", "08:30+05", "08:30:59-12:59", "24", "2004", "\"08:30\""],
         ),
         crossed(
+            "duration patterns: each slot that is filled must be there, the sign is free",
+            &["Pwd", "PTm", "Pm"],
+            &["P4w", "P12W3D", "-P3d", "PT5m", "P1w2dT3h", "P5M", "P0y4w", "\"P4w\"", "2004"],
+        ),
+        crossed(
+            "a duration pattern of all slots",
+            &["PymwdThms"],
+            &["P1y2m3w4dT5h6m7s", "-P9999Y9999M9999W9999DT9999H9999M9999S", "P0d", "PT1s", "5"],
+        ),
+        crossed("durations under other leaves", &["|0..9|", "\"P4w\"", "True"], &["P4w", "-PT5M", "\"P4w\""]),
+        crossed(
             "a date at the edges of an interval; a part of a date isn't in any",
             &["|2003-12-31..2004-02-29|", "|>2003-12-30..<2004-03-01|", "|2004-01-01|"],
             &[
@@ -207,6 +219,9 @@ fn levels() -> Group {
         (nested_text(LEVELS, inner), nested_data(LEVELS, "b=<6>")),
         (nested_text(LEVELS, inner), nested_data(LEVELS, "b=<\"5\">")),
         (nested_text(LEVELS, inner), nested_data(LEVELS - 1, "a=(B)<b=<5>>")),
+        (nested_text(LEVELS, "b matches {Pd}"), nested_data(LEVELS, "b=<P5d>")),
+        (nested_text(LEVELS, "b matches {Pd}"), nested_data(LEVELS, "b=<P5w>")),
+        (nested_text(LEVELS, "b matches {Pd}"), nested_data(LEVELS, "b=<5>")),
     ];
     let cases = all.iter().map(|(text, data)| judges(text.as_bytes(), data.as_bytes())).collect();
     Group { about: "objects and blocks inside each other", cases }
@@ -248,6 +263,9 @@ fn object_groups() -> Vec<Group> {
                 ("A matches {a matches {True, False}}", &["<a=<>>", "<a=<1>>"]),
                 ("A matches {a matches {yyyy-mm-dd}}", &["<a=(B)<>>", "<a=<2004>>", "<a=<5>>"]),
                 ("A matches {a matches {Thh:mm:ss}}", &["<a=<b=<>>>", "<a=<08>>", "<a=<5>>"]),
+                ("A matches {a matches {Pwd}}", &["<a=<>>", "<a=(Pwd)<>>", "<a=<P4w>>", "<a=<PT5m>>", "<a=<5>>", "<a=<\"P4w\">>"]),
+                ("Pd matches {*}", &["(Pd)<>", "(Pw)<>", "<a=<P5d>>"]),
+                ("A matches {a matches {Pd matches {*}}}", &["<a=(Pd)<>>", "<a=<P5d>>", "<a=<x=<P5d>>>"]),
                 ("A matches {b matches {*} a matches {B matches {b matches {*}}}}", &["<b=<>a=<5>>", "<b=<>a=<\"\">>", "<b=<5> a = <5> >"]),
             ],
         ),

@@ -253,6 +253,22 @@ fn list_leaves() -> Vec<Leaves> {
             &[b"yyyy-mm-dd\t"],
         ),
         leaves(
+            "duration patterns",
+            &[b"Pd", b"Pwd", b"PTm", b"PmTm", b"PymwdThms", b"Pd --c\n"],
+            &[b"Py", b"Pm", b"PTh", b"PTs", b"PThm", b"PwdTm", b" --}\nPd\t", b"PyThms"],
+        ),
+        leaves(
+            "what is no duration pattern, or isn't followed by `}`",
+            &[
+                b"P", b"PT", b"PD", b"PdT", b"Pdm", b"Pdd", b"P1d", b"PdX", b"-Pd", b"|Pd|", b"Pd, Pw", b"Pd;",
+                b"Pd Pd", b"Pd[at1]", b"Pd]", b"Pd matches {*}", b"Pd[at1] matches {*}", b"|P1d..P2d|",
+            ],
+            &[
+                b"Pt", b"pd", b"PTM", b"PTmh", b"PTT", b"Pd_", b"Pdh", b"PTd", b"Pd 5", b"Pd *", b"Pd{", b"5, Pd",
+                b"True, Pd", b"\"Pd\"", b"Pd..Pw", b"yyyy-mm-dd Pd", b"Pwd/|P0w..P50w|", b"<Pd|", b"Pd --c",
+            ],
+        ),
+        leaves(
             "what is no pattern, or more than one",
             &[
                 b"yyyy-mm-d", b"yyyy-mm", b"yyyy-mm-ddx", b"yyyy-mm-ddThh:mm:ss", b"yyyy-??-dd", b"Thh", b"Thh:mm",
@@ -311,9 +327,9 @@ pub fn left_out() -> Vec<Leaves> {
     vec![
         leaves("Real and Character", &[b"5.0", b"5.5", b"|5.0..6.0|", b".5", b"'a'"], &[b"-5.5", b"5.", b"'a', 'b'"]),
         leaves(
-            "Date_time and Duration",
-            &[b"2004-05-20T10:00:00", b"|>2004-05-20T10:00:00|", b"yyyy-mm-ddThh:mm:ss", b"Pd", b"P1Y", b"|P1Y|"],
-            &[b"PThms", b"P1Y, P2Y", b"Pw"],
+            "Date_time, and durations that are no pattern",
+            &[b"2004-05-20T10:00:00", b"|>2004-05-20T10:00:00|", b"yyyy-mm-ddThh:mm:ss", b"P1Y", b"|P1Y|", b"-P1Y"],
+            &[b"PT5M", b"P1Y, P2Y", b"|P1Y..P2Y|"],
         ),
         leaves("times outside patterns", &[b"10:00:00", b"T10:00:00"], &[b"|10:00..11:00|"]),
         leaves(

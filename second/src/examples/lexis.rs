@@ -3,7 +3,8 @@
 use super::table::{groups, inputs, made_inputs, Group, Inputs, Table};
 use super::term;
 use crate::bytes::{is_blank, is_identifier, is_name, is_run, is_string, is_type, skip_separators, string_length};
-use crate::tokens::{token_at, Kind};
+use crate::durations;
+use crate::tokens::{token_at, value_token_at, Kind};
 
 const PATH: &str = "mathlib.Core.Path.{_≡_, refl}";
 const BOOL: &str = "mathlib.Core.Bool.{true, false}";
@@ -18,6 +19,7 @@ const TOKENS: &str =
 const DATA_SPELLING: &str = "Rattle.lexis.specs.Spelling.{less, greater}";
 const DATA_TOKENS: &str = "Rattle.lexis.specs.Tokens.{token, textEnd, unreadable, typeName, name, string}";
 const ROUNDS: &str = "Rattle.lexis.specs.DataTokens.{equals, openRound, closeRound, wordRun}";
+const DURATIONS: &str = "Rattle.lexis.specs.Durations.{durationPattern}";
 const WRONG: &str = "Rattle.lexis.proofs.Tables.{wrong}";
 const COMPUTES: &str = "Rattle.lexis.proofs.Computes.{lexisComputes}";
 
@@ -74,6 +76,28 @@ pub fn tables() -> Vec<Table> {
             right: "dataTokenRight",
             unfolding: "tokensFrom lexisComputes",
             groups: data_groups(),
+        },
+        Table {
+            holder: "lexis",
+            module: "DurationTable",
+            about: "Words of capital and small letters with the flag of the Duration pattern that each is, 0 for none.",
+            uses: &[PATH, LIST, TEXT, WRONG, COMPUTES, "Rattle.lexis.proofs.Examples.{DurationCase, patternIs, durationRight}"],
+            case: "DurationCase",
+            right: "durationRight",
+            unfolding: "lexisComputes",
+            groups: groups(&duration_texts(), duration_case),
+        },
+        Table {
+            holder: "lexis",
+            module: "ContentTokenTable",
+            about: "Constraint texts and the token where a value may stand, from a place on.",
+            uses: &[
+                PATH, LIST, NUMBERS, TEXT, SPELLING, TOKENS, DURATIONS, WRONG, COMPUTES, "Rattle.lexis.proofs.Examples.{ContentCase, contentReads, contentRight}",
+            ],
+            case: "ContentCase",
+            right: "contentRight",
+            unfolding: "lexisComputes",
+            groups: content_groups(),
         },
     ]
 }
@@ -234,7 +258,8 @@ fn token_texts() -> Vec<Inputs> {
                 b"yyyy-mm-XXX", b"yyyy-mm-??x", b"yyyy-mm-?", b"yyyy-??-dd", b"yyyy-XX-XX", b"yyyy-mm-xx",
                 b"xyyyy-mm-dd", b"yyyyy-mm-dd", b"yyyy_mm-dd", b"yyyy-mm-ddThh:mm:ss", b"yyyy-mm-dd,yyyy-??-XX",
                 b"Thh", b"Thh:mm", b"Thh:mm:s", b"Thh:mm:ssx", b"Thh:mm:??", b"Thh:??:ss", b"Thh:??:?", b"Thh:XX:XX",
-                b"Thhx", b"TThh:mm:ss", b"thh:mm:ss", b"hh:mm:ss", b"Thh:mm:ssThh:mm:XX", b"YYYY-MM-DD",
+                b"Thhx", b"TThh:mm:ss", b"thh:mm:ss", b"hh:mm:ss", b"Thh:mm:ssThh:mm:XX", b"YYYY-MM-DD", b"Pd",
+                b"Pwd}", b"PTm }", b"PdX", b"P1d", b"-Pd", b"Pd;", b"{Pd}",
             ],
         ),
         inputs(
@@ -301,6 +326,126 @@ fn token_texts() -> Vec<Inputs> {
     ]
 }
 
+fn duration_case(word: &[u8]) -> String {
+    format!("patternIs {} {}", term::bytes(word), durations::pattern(word).unwrap_or(0))
+}
+
+/// The spelling of the pattern of a flag, its rule written out a second time.
+fn pattern_spelling(flag: u8) -> Vec<u8> {
+    let letters = b"ymwdhms";
+    let chosen = |bits: std::ops::Range<usize>| bits.filter(|bit| flag >> bit & 1 == 1).map(|bit| letters[bit]);
+    let mut word = vec![b'P'];
+    word.extend(chosen(0..4));
+    word.extend((flag >= 16).then_some(b'T'));
+    word.extend(chosen(4..7));
+    word
+}
+
+fn duration_texts() -> Vec<Inputs> {
+    let all = || (1..=127).map(pattern_spelling);
+    let followed = |byte: u8| {
+        move |mut word: Vec<u8>| -> Vec<u8> {
+            word.push(byte);
+            word
+        }
+    };
+    let some = || all().step_by(5);
+    vec![
+        made_inputs("all 127", all().collect()),
+        inputs(
+            "no letter, none behind a T, and other beginnings",
+            &[
+                b"", b"P", b"PT", b"PdT", b"PyT", b"PymwdT", b"PTT", b"PTTm", b"PTmT", b"PdTT", b"PdTTm", b"PdTmT",
+                b"PdThTm", b"PP", b"PPd", b"PdP", b"T", b"Tm", b"TPd", b"d", b"y", b"dP", b"ymwdThms", b"APd", b"Xd",
+                b"Qd", b"Od", b"True", b"False", b"Thh", b"A", b"Pt", b"Pdt", b"Pth", b"PdtH", b"Pdthm",
+            ],
+        ),
+        inputs(
+            "capital letters",
+            &[
+                b"PD", b"PW", b"PY", b"PM", b"PTH", b"PTM", b"PTS", b"PTHMS", b"PYMWD", b"PwD", b"PWd", b"PTHm",
+                b"PThM", b"PdTH", b"PDTh", b"PYMWDTHMS", b"PymwdTHMS", b"PYmwdThms", b"PymwdThmS",
+            ],
+        ),
+        inputs(
+            "other orders, and letters twice",
+            &[
+                b"Pdm", b"Pdd", b"Pdw", b"Pdy", b"Pwm", b"Pwy", b"Pmy", b"Pyy", b"Pmm", b"Pww", b"Pymm", b"Pymdw",
+                b"Pwdd", b"Pywm", b"Pdwmy", b"PTsh", b"PTmh", b"PTsm", b"PThh", b"PTmm", b"PTss", b"PThsm", b"PThmsh",
+                b"PmThmm", b"Pymym", b"PThmThm",
+            ],
+        ),
+        inputs(
+            "letters on the wrong side of the T, and other letters",
+            &[
+                b"Ph", b"Ps", b"Pdh", b"Phms", b"Pds", b"PTy", b"PTw", b"PTd", b"PThd", b"PTdh", b"PTymwd", b"PTmd",
+                b"Pa", b"Px", b"Pz", b"Pe", b"Pc", b"Pn", b"Pl", b"Pv", b"PTg", b"PTi", b"PTt", b"PTr", b"Pdx", b"PdX",
+                b"PxTm", b"PdTx", b"PTmx", b"Pddx", b"PdTmm",
+            ],
+        ),
+        inputs(
+            "digits, underscores and other bytes",
+            &[
+                b"P1d", b"Pd1", b"P1", b"P_d", b"Pd_", b"P_", b"PT1m", b"PTm1", b"Pd ", b" Pd", b"P d", b"Pd}", b"-Pd",
+                b"P-d", b"Pd-", b"Pd.", b"P?", b"P??", b"PXX", b"p", b"pd", b"pT", b"pTm", b"Pd[at1]",
+            ],
+        ),
+        made_inputs("a small letter behind some", some().map(followed(b'y')).collect()),
+        made_inputs("a T behind some", some().map(followed(b'T')).collect()),
+        made_inputs("a capital letter behind some", some().map(followed(b'S')).collect()),
+    ]
+}
+
+fn content_case(text: &[u8], from: usize) -> String {
+    let token = value_token_at(text, from);
+    let term = token_term(&token_sort(token.kind), token.start, token.end);
+    format!("contentReads {} {from} ({term})", term::bytes(text))
+}
+
+fn content_groups() -> Vec<Group> {
+    let mut all = groups(
+        &[
+            inputs(
+                "patterns before a `}`, past blanks and comments",
+                &[
+                    b"Pd}", b"Pwd}", b"PTm}", b"Pm}", b"PThm}", b"PmTm}", b"PymwdThms}", b"Py}", b"Pw}", b"PTh}",
+                    b"PTs}", b"Pd }", b" \tPd\r\n}", b"Pd --c\n}", b"Pd--c\n}", b"Pd--}\r}", b"--c\nPd--\r--\n }",
+                    b"Pd}}", b"Pd}\xFF", b"Pd} matches {*}",
+                ],
+            ),
+            inputs(
+                "patterns before something else are TYPEs",
+                &[
+                    b"Pd", b"Pd ", b"Pd --}", b"Pd--}", b"Pd;", b"Pd;}", b"Pd,", b"Pd, Pw}", b"Pd Pd}",
+                    b"Pd matches {*}}", b"Pd[at1] matches {*}}", b"Pd[at1]}", b"Pd]}", b"Pd]", b"Pd[}", b"Pd{}",
+                    b"Pd*}", b"Pd..}", b"Pd\"\"}", b"Pd-}", b"Pd- -}", b"Pd\xE2\x88\x88{*}}", b"Pd\x00}", b"Pd\x0B}",
+                    b"PTm\xE2}", b"Pd>}", b"Pd+/-}",
+                ],
+            ),
+            inputs(
+                "TYPEs that are no patterns",
+                &[
+                    b"P}", b"PT}", b"PD}", b"PdT}", b"Pdm}", b"Pdd}", b"Pt}", b"P1d}", b"PdX}", b"Pd_}", b"Pd1}",
+                    b"PTM}", b"Pdh}", b"PTd}", b"PdPd}", b"P d}", b"PymwdThmsx}", b"A}", b"Thh}", b"PYMWDTHMS}",
+                ],
+            ),
+            inputs(
+                "other tokens before a `}`",
+                &[
+                    b"}", b"", b" ", b"*}", b"5}", b"True}", b"False}", b"yyyy-mm-dd}", b"Thh:mm:ss}", b"\"Pd\"}",
+                    b"\"Pd}", b"pd}", b"-Pd}", b"|Pd|}", b"[at1]}", b"matches}", b"2004-05-20}", b"-5}", b"{Pd}",
+                    b";}",
+                ],
+            ),
+        ],
+        |text| content_case(text, 0),
+    );
+    let text = b"A matches {a matches {Pwd}}";
+    let places = [0, 1, 2, 10, 11, 13, 21, 22, 23, 24, 25, 26, 27];
+    all.push(Group { about: "from other places on", cases: places.map(|from| content_case(text, from)).to_vec() });
+    all
+}
+
 /// The token of data text that starts behind a place: how the definition names its sort, its start and its end.
 fn data_token(text: &[u8], place: usize, behind_round: bool) -> (&'static str, usize, usize) {
     let start = skip_separators(text, place);
@@ -361,7 +506,7 @@ fn data_groups() -> Vec<Group> {
                     b"a=<5>", b"a =\t< 5 >", b"a\"b\"", b"5\"b\"", b"5/6", b"5,6", b"5*", b"A[at1]", b"a|b",
                     b"yyyy-mm-dd", b"Thh:mm:ss", b"Thh:??:??", b"a;", b"{", b"}", b",", b"*", b"|", b"[", b"/",
                     b"\xE2\x88\x88", b"\x00", b"5\x00", b"5\x0B", b"@", b"`", b"5@A", b"5`", b"z{", b"Z[", b"5;",
-                    b"5/",
+                    b"5/", b"P5d", b"-P5d", b"--P5d", b"p5d", b"P1.5d", b"<P12w3d>",
                 ],
             ),
             inputs(

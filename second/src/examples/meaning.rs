@@ -8,12 +8,13 @@ use crate::constraint;
 use crate::limits;
 use std::fmt::Write;
 
-const TEXTS: [&[u8]; 6] = [
+const TEXTS: [&[u8]; 7] = [
     b"A matches {*}",
     b"AB[at1.2] matches {a matches {*} bc matches {*}}",
     b"A matches {a matches {True} b matches {1, |5..9|, 20} c matches {\"x\", \"\", \"yz\"}}",
     b"A matches {a matches {yyyy-mm-dd} b matches {Thh:??:XX} c matches {|2004-01-01|, |>=2005-01-01|} d matches {False}}",
     b"A[at1] matches {a matches {B[at2] matches {b matches {C matches {c matches {\"x\", \"y\"}}} d existence matches {0} matches {*}}} e existence matches {0..1} matches {7}}",
+    b"Pd[at1] matches {a matches {Pwd} b matches {PTm matches {c matches {PmTm}}} d matches {\"x\"}}",
     b"A matches {a matches {B matches {*}} b matches {C matches {a matches {1, 2} b matches {*}}} c matches {\"z\"}}",
 ];
 
@@ -33,7 +34,7 @@ pub fn file() -> File {
     for line in [
         "mathlib.Core.Path.{_≡_, refl}",
         "mathlib.Core.List.{List, [], _∷_}",
-        "Rattle.meaning.specs.Constraints.{prohibited, optional, required, Object, noMore, any, nested, leaf, single, ranges, texts, booleans, integers, datePattern, dates, timePattern}",
+        "Rattle.meaning.specs.Constraints.{prohibited, optional, required, Object, noMore, any, nested, leaf, single, ranges, texts, booleans, integers, datePattern, dates, timePattern, durationPattern}",
         "Rattle.meaning.specs.Counting.{objectRecords, objectPool, objectNumbers}",
         "Rattle.meaning.proofs.Trees.{range, item, objectWith, attributeWith, each}",
     ] {

@@ -125,6 +125,11 @@ fn inside() -> Table {
     compiled("C matches {f matches {-5, |7..9|} g matches {D matches {h matches {|2004-01-01|, |2005-01-01|}}}}")
 }
 
+/// An object whose attribute holds a duration pattern.
+fn duration(pattern: &str) -> Table {
+    compiled(&format!("A matches {{a matches {{{pattern}}}}}"))
+}
+
 fn merge_groups() -> Vec<Group> {
     let small = smallest();
     let every = every_kind();
@@ -136,6 +141,7 @@ fn merge_groups() -> Vec<Group> {
             record(4, 0, [u32::MAX, 5, 0, 0, 0]),
             record(1, 0, [0, 1, 0, 0, 0]),
             record(6, 2, [0; 5]),
+            record(9, 12, [0; 5]),
         ],
         b"Z",
     );
@@ -167,6 +173,10 @@ fn merge_groups() -> Vec<Group> {
             ]),
         },
         Group { about: "shared records, one name twice, a link into the middle of a list", cases: pairs(&[(&shared(), &small, 0), (&small, &ordered(&shared(), "lb"), 0)]) },
+        Group {
+            about: "duration patterns: nothing in them moves",
+            cases: pairs(&[(&duration("Pd"), &duration("PTm"), 0), (&ordered(&duration("Pwd"), "lb"), &small, 2), (&strings(), &duration("PymwdThms"), 0)]),
+        },
         Group { about: "a table with itself", cases: pairs(&[(&strings(), &strings(), 1), (&shared(), &shared(), 0), (&empty, &empty, 0)]) },
         Group { about: "the output kept behind the table", cases: pairs(&[(&small, &small, 1), (&small, &bare, 30), (&strings(), &small, 9)]) },
     ]
@@ -177,6 +187,7 @@ fn refusal_groups() -> Vec<Group> {
     let no_root = changed(&mixed, 0, |header| header.numbers[2] = 2);
     let broken = changed(&mixed, 3, |record| record.numbers[2] = 1);
     let lower = changed(&broken, 2, |record| record.flag = 3);
+    let no_slot = changed(&duration("Pd"), 3, |record| record.flag = 0);
     let tables = [&small, &mixed, &no_root, &broken, &lower];
     let mut tested = Vec::new();
     for first in tables {
@@ -201,7 +212,14 @@ fn refusal_groups() -> Vec<Group> {
         }
     }
     let mut order = Vec::new();
-    for (first, second) in [(&small, &broken), (&broken, &small), (&no_root, &small), (&small, &no_root)] {
+    for (first, second) in [
+        (&small, &broken),
+        (&broken, &small),
+        (&no_root, &small),
+        (&small, &no_root),
+        (&small, &no_slot),
+        (&no_slot, &broken),
+    ] {
         order.push(case(&first.bytes(), &second.bytes(), true, FILL, 10));
     }
     vec![
@@ -372,6 +390,11 @@ pub fn lists() -> Vec<Vec<Step>> {
             step(&ordered(&shared(), "bl"), false, false, 600),
             with_itself(false, false, 100),
             step(&unreached(), false, true, 900),
+        ],
+        vec![
+            step(&duration("Pd"), false, true, 500),
+            step(&changed(&duration("Pd"), 3, |record| record.flag = 128), false, false, 500),
+            step(&duration("PTm"), true, false, 700),
         ],
     ]
 }

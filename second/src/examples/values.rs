@@ -3,6 +3,7 @@
 use super::table::{groups, inputs, made_inputs, Group, Inputs, Table};
 use super::term;
 use crate::calendar::{days_in_month, is_leap, Date};
+use crate::durations;
 use crate::numbers;
 use crate::patterns::{admits_date, admits_time};
 use crate::words::{self, PartialDate, PartialTime};
@@ -22,7 +23,7 @@ pub fn tables() -> Vec<Table> {
         Table {
             holder: "values",
             module: "WordTable",
-            about: "Words, what each reads as, a Boolean, an integer, a date, a time, and whether it is good.",
+            about: "Words, what each reads as, a Boolean, an integer, a date, a time, a duration, and whether it is good.",
             uses: &[PATH, BOOL, OPTION, LIST, TEXT, WRONG, COMPUTE, "Rattle.values.proofs.Examples.{WordCase, reads, date, wordRight}"],
             case: "WordCase",
             right: "wordRight",
@@ -53,7 +54,7 @@ pub fn tables() -> Vec<Table> {
             holder: "values",
             module: "PatternTable",
             about: "Each pattern against words.",
-            uses: &[PATH, BOOL, LIST, TEXT, WRONG, COMPUTE, "Rattle.values.proofs.Examples.{PatternCase, dateFits, timeFits, patternRight}"],
+            uses: &[PATH, BOOL, LIST, TEXT, WRONG, COMPUTE, "Rattle.values.proofs.Examples.{PatternCase, dateFits, timeFits, durationFits, patternRight}"],
             case: "PatternCase",
             right: "patternRight",
             unfolding: "valuesCompute",
@@ -85,7 +86,9 @@ fn word_case(word: &[u8]) -> String {
     let integer = term::option(numbers::integer(word).map(term::distance));
     let date = term::option(words::date(word).and_then(|date| date_term(word, date)));
     let time = term::option(words::time(word).map(|time| time_parts(time).to_string()));
-    format!("reads {} {boolean} {integer} {date} {time} {}", term::bytes(word), term::truth(words::is_good(word)))
+    let duration = term::option(durations::word(word).map(|filled| filled.to_string()));
+    let good = term::truth(words::is_good(word));
+    format!("reads {} {boolean} {integer} {date} {time} {duration} {good}", term::bytes(word))
 }
 
 fn word_texts() -> Vec<Inputs> {
@@ -135,6 +138,48 @@ fn word_texts() -> Vec<Inputs> {
             &[
                 b"Z", b"z", b"+05", b"-05:00", b"+05:30", b"08ZZ", b"08Z1", b"08+05Z", b"08Z+05", b"08+05+05",
                 b"08:30Z:15", b"08z", b"2004Z", b"5Z", b"24Z", b"24+05", b"True+05", b"08:60Z", b"08:30:60+05",
+            ],
+        ),
+        inputs(
+            "durations: each slot alone, in either case, and all of them",
+            &[
+                b"P1y", b"P1m", b"P1w", b"P1d", b"PT1h", b"PT1m", b"PT1s", b"P1Y", b"P1M", b"P1W", b"P1D", b"PT1H",
+                b"PT1M", b"PT1S", b"P12w3d", b"P12W3D", b"P12w3D", b"-P5d", b"-PT5m", b"P1y2m3w4d", b"PT5h6m7s",
+                b"P1y2m3w4dT5h6m7s", b"-P1Y2M3W4DT5H6M7S", b"P1mT1m", b"P5M3DT5M3S", b"PT5M3S", b"P1yT1s", b"P1y4d",
+            ],
+        ),
+        inputs(
+            "durations: one to four digits to a slot, nought and leading zeros",
+            &[
+                b"P0d", b"-P0d", b"P00d", b"P0005d", b"P0000d", b"P9999d", b"P00005d", b"P10000d", b"P12345y",
+                b"PT00000s", b"PT9999s", b"P1y99999d", b"P99999y1d", b"P9999y9999m9999w9999dT9999h9999m9999s",
+                b"-P9999y9999m9999w9999dT9999h9999m9999s", b"-P9999y9999m9999w9999dT9999h9999m99999s",
+            ],
+        ),
+        inputs(
+            "no durations: no slot, no digits, no letter, nothing behind a T",
+            &[
+                b"P", b"PT", b"-P", b"-PT", b"P5", b"PT5", b"P1y5", b"P5dT", b"P5dT5", b"P5dTh", b"Pd", b"PTm", b"Pwd",
+                b"P1wd", b"Pw1d", b"PTT5m", b"PT5mT", b"PT5mT5s", b"P5dT5mT5s", b"P5dP5d", b"PP5d", b"P1d1", b"5d",
+                b"T5m", b"-T5m", b"PT5",
+            ],
+        ),
+        inputs(
+            "no durations: slots out of order, twice, or on the wrong side of the T",
+            &[
+                b"P1d2w", b"P1w1w", b"P1m1y", b"P1w1m", b"P1d1y", b"P1m1m", b"PT1s1h", b"PT1m1h", b"PT1s1m", b"PT1h1h",
+                b"PT1s1S", b"P1D1d", b"P1h", b"P1s", b"P1d1h", b"PT1d", b"PT1y", b"PT1w", b"PT1h1d", b"P1h1dT1m",
+                b"P1m1d1m", b"P1mT1m1m",
+            ],
+        ),
+        inputs(
+            "no durations: other letters, signs, dots and small letters for P and T",
+            &[
+                b"P1.5d", b"P1,5d", b"P.5d", b"P5.d", b"+P5d", b"--P5d", b"P-5d", b"P+5d", b"P1y-5d", b"P5d-", b"P5d_",
+                b"P5dZ", b"P5d.", b"P5d:", b"P5_d", b"_P5d", b"Pt5m", b"P1dt5m", b"p5d", b"-p5d", b"pT5m", b"P5x",
+                b"P5q", b"P5T", b"P5Td", b"P5a", b"PT5n", b"P5e", b"P5c", b"P5z", b"P5P", b"P 5d", b"P5 d", b"P5d ",
+                b"P:5d", b"P/5d", b"D5d", b"Q5d", b"O5d", b"PU5m", b"PS5m", b"P1dS5m", b"P12w3d5", b"P1D2", b"P5\xC4",
+                b"P5\xE4", b"P5$", b"P5[",
             ],
         ),
     ]
@@ -276,6 +321,69 @@ fn bits_case(value: &i32) -> String {
     format!("bitsAre {} {}", term::distance(*value), term::number(u64::from(*value as u32)))
 }
 
+/// Words that fill no slot as a duration does.
+const NO_DURATIONS: [&[u8]; 11] =
+    [b"P", b"PT", b"5", b"Pd", b"p5d", b"P00005d", b"P1d2w", b"P5dT", b"2004-05-20", b"08:30", b"True"];
+
+/// A duration that fills the slots of a flag, each with the next digit.
+fn duration(flag: u8, letters: [&[u8; 7]; 2], sign: &str) -> Vec<u8> {
+    let mut word = [sign.as_bytes(), b"P"].concat();
+    for bit in 0..7 {
+        if bit == 4 && flag >= 16 {
+            word.push(b'T');
+        }
+        if flag >> bit & 1 == 1 {
+            word.extend([b'1' + bit, letters[usize::from(bit % 2)][usize::from(bit)]]);
+        }
+    }
+    word
+}
+
+/// The slots that the words of a pattern's cases fill: the pattern's own, one less, one more, others and all.
+fn tried(flag: u8) -> Vec<u8> {
+    let lowest = flag & flag.wrapping_neg();
+    let missing = !flag & 127;
+    let one_more = missing & missing.wrapping_neg();
+    let top_more = if missing == 0 { 0 } else { 1 << missing.ilog2() };
+    let all = [
+        flag,
+        flag & !lowest,
+        lowest,
+        flag | one_more,
+        top_more,
+        flag | top_more,
+        missing,
+        lowest | one_more,
+        flag.rotate_left(3) & 127,
+        flag.wrapping_mul(37) & 127,
+        flag & 0b0101_0101,
+    ];
+    let mut out: Vec<u8> = Vec::new();
+    for filled in all {
+        if filled != 0 && !out.contains(&filled) {
+            out.push(filled);
+        }
+    }
+    out
+}
+
+/// A pattern against words of its own slots and of others, small, capital and mixed, with and without a sign, and one that is no duration.
+fn duration_cases(flag: u8) -> Vec<String> {
+    let (small, capital) = (b"ymwdhms", b"YMWDHMS");
+    let spellings = [[small, small], [capital, capital], [small, capital], [capital, small]];
+    let mut all = Vec::new();
+    for (index, filled) in tried(flag).into_iter().enumerate() {
+        let turn = index + usize::from(flag);
+        all.push(duration(filled, spellings[turn % 4], if turn.is_multiple_of(3) { "-" } else { "" }));
+    }
+    all.push(NO_DURATIONS[usize::from(flag) % NO_DURATIONS.len()].to_vec());
+    let case = |word: &Vec<u8>| {
+        let fits = durations::word(word).is_some_and(|filled| durations::admits(flag, filled));
+        format!("durationFits {flag} {} {}", term::bytes(word), term::truth(fits))
+    };
+    all.iter().map(case).collect()
+}
+
 fn pattern_groups() -> Vec<Group> {
     let dates: [&[u8]; 7] = [b"2004", b"2004-05", b"2004-05-20", b"0000", b"2004-13", b"2004-02-30", b"True"];
     let times: [&[u8]; 12] = [
@@ -309,5 +417,6 @@ fn pattern_groups() -> Vec<Group> {
             about: "time patterns by flag, 1 to 4; no other flag admits anything",
             cases: (0..=5).flat_map(time).collect(),
         },
+        Group { about: "duration patterns by flag, 1 to 127", cases: (1..=127).flat_map(duration_cases).collect() },
     ]
 }

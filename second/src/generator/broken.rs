@@ -141,8 +141,8 @@ fn break_record(random: &mut Random, table: &mut Table) {
     let record = &mut table.records[at];
     match random.below(8) {
         0 => break_mark(random, record),
-        1 => record.kind = random.one_of(&[0, 9, 10, 255, 1, 2, 3, 4, 5, 6, 7, 8]),
-        2 => record.flag = random.one_of(&[0, 1, 2, 3, 4, 5, 6, 128, 255]),
+        1 => record.kind = random.one_of(&[0, 10, 255, 1, 2, 3, 4, 5, 6, 7, 8, 9, 9]),
+        2 => record.flag = random.one_of(&[0, 1, 2, 3, 4, 5, 6, 127, 128, 255]),
         3 => unnamed_field(random, record),
         _ => match record.kind {
             1 | 2 | 5 if random.coin() => break_pair(random, record, pool),
@@ -154,6 +154,7 @@ fn break_record(random: &mut Random, table: &mut Table) {
             1 => record.numbers[4] = wrong_link,
             2 => record.numbers[if random.coin() { 2 } else { 3 }] = wrong_link,
             5 => record.numbers[4] = wrong_link,
+            9 => record.flag = random.one_of(&[0, 128, 129, 255]),
             _ => record.flag = random.one_of(&[0, 4, 5, 6, 255]),
         },
     }
@@ -183,7 +184,7 @@ fn unnamed_field(random: &mut Random, record: &mut Record) {
     let fields: &[usize] = match record.kind {
         1 => &[4],
         2 => &[4],
-        3 | 6 | 8 => &[0, 1, 2, 3, 4],
+        3 | 6 | 8 | 9 => &[0, 1, 2, 3, 4],
         _ => &[2, 3],
     };
     let field = random.one_of(fields);

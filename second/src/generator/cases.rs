@@ -2,14 +2,16 @@
 
 use super::broken::broken;
 use super::damage::{any_bytes, cut, edit_bytes, pad, splice};
-use super::data::{data, DataPlan, STRANGERS as DATA_STRANGERS};
+use super::data::{any_word, data, DataPlan, STRANGERS as DATA_STRANGERS};
 use super::handmade::{large_table, small_table, table as handmade};
 use super::random::Random;
 use super::rules::merged_length;
-use super::shape::{crowded_object, object, records_of, wide_object, Object, Plan};
-use super::spelling::{spell, Spelling, STRANGERS as TEXT_STRANGERS};
+use super::shape::{
+    clean_leaf, crowded_object, duration_flag, object, records_of, wide_object, Attribute, Object, Plan, Value,
+};
+use super::spelling::{duration_pattern, spell, Spelling, NEAR_DURATIONS, STRANGERS as TEXT_STRANGERS};
 use super::tables::{any_order, mixed, shape_of, table_of, Table, MOST_POOL, MOST_RECORDS, RECORD};
-use super::tokens::{any_style, Style};
+use super::tokens::{any_style, Style, Tokens};
 
 /// The longest table that passes the check.
 pub const LONGEST_TABLE: usize = RECORD * MOST_RECORDS + MOST_POOL;
@@ -174,8 +176,10 @@ impl Maker {
 
     pub fn judge(&self, number: u64) -> JudgeCase {
         let random = &mut Random::new(self.seed, JUDGE, number);
-        if random.percent(60) {
-            return judge_shape(random);
+        match random.below(100) {
+            0..=54 => return judge_shape(random),
+            55..=64 => return judge_leaf(random),
+            _ => {}
         }
         let shape = clean_shape(random);
         let bytes = self.any_table(random, &shape);
@@ -322,14 +326,15 @@ fn any_number(random: &mut Random, count: usize) -> u32 {
 /// damaged, near a limit, or any bytes.
 fn made_text(random: &mut Random) -> MadeText {
     match random.below(1000) {
-        0..=3 => wide_text(random),
-        4..=10 => {
+        0..=12 => wide_text(random),
+        13..=24 => {
             let mut made = clean_text(random);
             pad(random, &mut made.text);
             made.clean = false;
             made
         }
-        11..=759 => clean_text(random),
+        25..=734 => clean_text(random),
+        735..=759 => duration_text(random),
         760..=789 => crowded_text(random),
         790..=889 => faulty_text(random),
         890..=929 => edited_text(random),
@@ -375,6 +380,52 @@ fn crowded_text(random: &mut Random) -> MadeText {
     }
     let style = any_style(random);
     let text = tokens.text(random, style, false);
+    MadeText { text, shape, clean: false }
+}
+
+/// A Duration pattern or a token close to one, with what may stand behind it, where a value may stand or where a
+/// TYPE may, at any level and around the 17th.
+fn duration_text(random: &mut Random) -> MadeText {
+    let flag = duration_flag(random);
+    let levels = if random.coin() { 1 + random.below(3) } else { 15 + random.below(3) };
+    let own = duration_pattern(flag);
+    let token: &[u8] = if random.one_in(3) { random.one_of(&NEAR_DURATIONS) } else { &own };
+    let behind: &[&[u8]] = match random.below(12) {
+        0 => &[b"matches", b"{", b"*", b"}"],
+        1 => &[b"[at1]", b"matches", b"{", b"*", b"}"],
+        2 => &[b"[at1]"],
+        3 => &[b";"],
+        4 => &[b",", b"Pd"],
+        5 => &[b"Pd"],
+        6 => &[b"x"],
+        _ => &[],
+    };
+    let mut tokens = Tokens::new();
+    for level in 0..levels {
+        let is_type = level == 0 && random.one_in(12);
+        tokens.push(if is_type { &own } else { b"A" });
+        for part in [&b"matches"[..], b"{", b"a", b"matches", b"{"] {
+            tokens.push(part);
+        }
+    }
+    tokens.push(token);
+    for part in behind {
+        tokens.push(part);
+    }
+    let ends = if random.one_in(4) { random.below(2 * levels + 2) } else { 2 * levels };
+    for _ in 0..ends {
+        tokens.push(b"}");
+    }
+    let style = any_style(random);
+    let text = tokens.text(random, style, false);
+    let mut shape = Value::DurationPattern(flag);
+    for _ in 0..levels {
+        let attribute = Attribute { name: b"a".to_vec(), existence: 2, value: shape };
+        shape = Value::Object(Object { type_name: b"A".to_vec(), code: None, attributes: vec![attribute] });
+    }
+    let Value::Object(shape) = shape else {
+        return crowded_text(random);
+    };
     MadeText { text, shape, clean: false }
 }
 
@@ -432,10 +483,20 @@ pub fn data_text(random: &mut Random, shape: &Object) -> Vec<u8> {
             splice(random, &mut text, &other);
         }
         19 | 20 => text = any_bytes(random, 60),
-        21 => pad(random, &mut text),
+        21..=23 => pad(random, &mut text),
         _ => {}
     }
     text
+}
+
+/// The table of one leaf, judged with a word that it admits or doesn't.
+fn judge_leaf(random: &mut Random) -> JudgeCase {
+    let value = if random.one_in(3) { Value::DurationPattern(duration_flag(random)) } else { clean_leaf(random) };
+    let word = any_word(random, &value);
+    let attribute = Attribute { name: b"a".to_vec(), existence: 2, value };
+    let shape = Object { type_name: b"A".to_vec(), code: None, attributes: vec![attribute] };
+    let table = compiled_table(random, &shape);
+    JudgeCase { table, root: 1, data: [b"<a=<", &word[..], b">>"].concat() }
 }
 
 /// A shape's table judged at its root, or at another number at times.

@@ -1,5 +1,6 @@
-//! How often each refusal and reason was met, job by job.
+//! How often each refusal and reason was met, and each kind of record, job by job.
 
+use super::tables::Table;
 use std::fmt;
 
 /// The jobs that are counted.
@@ -29,6 +30,8 @@ const NUMBERS: [usize; 20] = [0, 1, 2, 3, 4, 5, 6, 7, 8, 9, 10, 11, 12, 13, 14, 
 #[derive(Clone, Debug, Default)]
 pub struct Counts {
     met: [[u64; 32]; 6],
+    /// How many tables of a job had a record of a kind.
+    kinds: [[u64; 10]; 6],
 }
 
 impl Counts {
@@ -36,11 +39,25 @@ impl Counts {
         self.met[job as usize][number.min(31) as usize] += 1;
     }
 
+    /// Counts the kinds 1 to 9 that a table has, each once, of records with a mark. The table may be any bytes.
+    pub fn meet(&mut self, job: Job, table: &[u8]) {
+        let mut met = [false; 10];
+        for record in Table::read(table).records.iter().skip(1).filter(|record| record.has_mark()) {
+            if let Some(kind) = met.get_mut(usize::from(record.kind)) {
+                *kind = true;
+            }
+        }
+        for (count, met) in self.kinds[job as usize].iter_mut().zip(met) {
+            *count += u64::from(met);
+        }
+    }
+
     pub fn add_all(&mut self, other: &Counts) {
         for (own, others) in self.met.iter_mut().zip(&other.met) {
-            for (a, b) in own.iter_mut().zip(others) {
-                *a += b;
-            }
+            add_row(own, others);
+        }
+        for (own, others) in self.kinds.iter_mut().zip(&other.kinds) {
+            add_row(own, others);
         }
     }
 
@@ -69,6 +86,12 @@ impl Counts {
     }
 }
 
+fn add_row(own: &mut [u64], others: &[u64]) {
+    for (a, b) in own.iter_mut().zip(others) {
+        *a += b;
+    }
+}
+
 impl fmt::Display for Counts {
     fn fmt(&self, out: &mut fmt::Formatter<'_>) -> fmt::Result {
         write!(out, "{:>8}", "number")?;
@@ -83,6 +106,16 @@ impl fmt::Display for Counts {
                     write!(out, "{:>12}", "-")?;
                 } else {
                     write!(out, "{:>12}", row[number])?;
+                }
+            }
+        }
+        for kind in 1..10 {
+            write!(out, "\n{:>8}", format!("kind {kind}"))?;
+            for (job, row) in self.kinds.iter().enumerate() {
+                if job == Job::Meaning as usize {
+                    write!(out, "{:>12}", "-")?;
+                } else {
+                    write!(out, "{:>12}", row[kind])?;
                 }
             }
         }

@@ -3,7 +3,7 @@
 use super::random::Random;
 
 /// Bytes that mean something somewhere.
-const TELLING: &[u8] = b"{},*|.<>=+/-\"\\[]()_:?XTZatAz019 \t\r\n\x00\x1f\x7f\x80\xE2\x88\xff";
+const TELLING: &[u8] = b"{},*|.<>=+/-\"\\[]()_:?XTZPatAzwdm019; \t\r\n\x00\x1f\x7f\x80\xE2\x88\xff";
 
 /// The longest text that is read.
 pub const LONGEST_TEXT: usize = 16_384;

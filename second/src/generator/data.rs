@@ -2,31 +2,36 @@
 
 use super::calendar::{spelled, LAST_DAY};
 use super::random::Random;
-use super::shape::{Object, Value, HIGHEST, LOWEST, NAMES, TYPES};
+use super::shape::{duration_flag, Object, Value, HIGHEST, LOWEST, NAMES, TYPES};
+use super::spelling::SLOTS;
 use super::tokens::Tokens;
 
 /// Tokens that may turn up at any place when a data text is damaged.
-pub const STRANGERS: [&[u8]; 40] = [
+pub const STRANGERS: [&[u8]; 46] = [
     b"<", b">", b"=", b"(", b")", b"<>", b"(A)", b"a", b"A", b"\"a\"", b"\"\"", b"True", b"5", b"-5", b"2004",
     b"08:30", b"a-b", b"a.b", b"matches", b"existence", b"\"", b"\"\\\"", b"--x\n", b"--", b"{", b"|", b",", b"*",
-    b"+5", b".", b"_", b"\x80", b"\x00", b"/", b"5--3", b"T08:30", b"[at1]", b"(True)", b"(a)", b"\"\t\"",
+    b"+5", b".", b"_", b"\x80", b"\x00", b"/", b"5--3", b"T08:30", b"[at1]", b"(True)", b"(a)", b"\"\t\"", b"P5d",
+    b"-PT5m", b"Pd", b"p5d", b"--P5d", b"(Pd)",
 ];
 
 /// Words of every form, good ones first.
-const GOOD_WORDS: [&[u8]; 44] = [
+const GOOD_WORDS: [&[u8]; 54] = [
     b"True", b"False", b"0", b"-1", b"2147483647", b"-2147483648", b"2004", b"0000", b"9999", b"2004-05",
     b"2004-02-29", b"2000-02-29", b"0000-01-01", b"9999-12-31", b"00", b"08", b"23", b"24", b"23:59", b"23:59:59",
     b"00:00:00Z", b"08Z", b"08+01", b"08-01", b"08:30+13:59", b"08:30-12:59", b"08:30:15-00:30", b"08+00", b"08+00:00",
     b"08-05", b"08:30+13", b"08:30-12", b"08:30:15+00:30", b"1", b"10", b"-10", b"2004-12-31", b"1900-02-28",
-    b"08:30:15Z", b"0000-12", b"2004-01", b"20", b"19", b"12:00:00+05:30",
+    b"08:30:15Z", b"0000-12", b"2004-01", b"20", b"19", b"12:00:00+05:30", b"P12w3d", b"P12W3D", b"-P5d", b"P0d",
+    b"P0005d", b"PT5M3S", b"P5m", b"PT5m", b"P1y2m3w4dT5h6m7s", b"-P9999y9999m9999w9999dT9999h9999m9999s",
 ];
 
-const BAD_WORDS: [&[u8]; 44] = [
+const BAD_WORDS: [&[u8]; 70] = [
     b"24:00:00", b"24:00", b"08:60", b"08:30:60", b"08:30:15:00", b"8:30", b"08:3", b"08:30:", b"08:30+14",
     b"08:30+14:00", b"08:30-13", b"08:30-00", b"08-00:00", b"08:30-00:00", b"08:30z", b"08:30+1", b"08:30+01:60",
     b"08:30+0130", b"2004-13", b"2004-00", b"2004-02-30", b"1900-02-29", b"2004-5", b"20040506", b"2004-05-",
     b"99999999999", b"2147483648", b"-2147483649", b"-0", b"00012", b"-01", b"+5", b"TRUE", b"Tru", b"Truee",
-    b"T08:30", b".", b":", b"1.5", b"1_000", b"_", b"5--3", b"-", b"08:30+01:00Z",
+    b"T08:30", b".", b":", b"1.5", b"1_000", b"_", b"5--3", b"-", b"08:30+01:00Z", b"P", b"PT", b"-P", b"P5", b"P5dT",
+    b"Pd", b"PTm", b"P00005d", b"P1d2w", b"P1w1w", b"P1w1W", b"PT1s1h", b"P1.5d", b"+P5d", b"Pt5m", b"P5d_", b"P1h",
+    b"PT1d", b"P5dT5", b"PTT5m", b"P-5d", b"PP5d", b"P5dt5m", b"-p5d", b"P5x", b"P12345y",
 ];
 
 const STRINGS: [&[u8]; 8] = [b"", b"a", b"ab", b"A", b" ", b"--", b"<>", b"b"];
@@ -310,8 +315,34 @@ fn word(random: &mut Random, value: &Value, wrong: bool) -> String {
             let parts = parts(random, time_parts(*flag), wrong);
             time_word(random, parts)
         }
+        Value::DurationPattern(flag) => duration_word(random, *flag, wrong),
         Value::Any | Value::Object(_) | Value::Strings(_) => String::from("5"),
     }
+}
+
+/// A duration that fills some slots of a pattern, or, if wrong, perhaps others too.
+fn duration_word(random: &mut Random, flag: u8, wrong: bool) -> String {
+    let some = flag & random.byte();
+    let filled = match (wrong, random.below(3)) {
+        (true, 0) => duration_flag(random),
+        (true, 1) => !flag & 127,
+        (true, _) => some | 1 << random.below(7),
+        (false, 0) => some,
+        (false, _) => flag,
+    };
+    let filled = if filled & 127 == 0 { flag } else { filled & 127 };
+    let mut word = String::from(if random.one_in(4) { "-P" } else { "P" });
+    for (bit, letter) in SLOTS.into_iter().enumerate() {
+        if bit == 4 && filled > 15 {
+            word.push('T');
+        }
+        if filled & (1 << bit) != 0 {
+            let letter = if random.one_in(3) { letter.to_ascii_uppercase() } else { letter };
+            word.push_str(random.one_of(&["0", "1", "5", "12", "00", "0005", "040", "9999"]));
+            word.push(char::from(letter));
+        }
+    }
+    word
 }
 
 /// A value in one of the pairs, at an end in most cases, or just outside one.

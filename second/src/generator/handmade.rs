@@ -3,10 +3,11 @@
 
 use super::calendar::{packed, LAST_DAY};
 use super::random::Random;
+use super::shape::duration_flag;
 use super::tables::{any_order, Record, Table, MOST_POOL, MOST_RECORDS};
 
 /// Record numbers of the records made so far, by kind.
-type Made = [Vec<u32>; 9];
+type Made = [Vec<u32>; 10];
 
 /// A sound table with so many records (header counted, 2 and more) and pool bytes (1 and more).
 pub fn table(random: &mut Random, count: usize, pool: usize) -> Table {
@@ -15,7 +16,8 @@ pub fn table(random: &mut Random, count: usize, pool: usize) -> Table {
     let mut records = vec![Record::new(0, 0, [0; 5]); count];
     for number in (1..count).rev() {
         let last_chance = number == 1 && made[1].is_empty();
-        let kind = if last_chance { 1 } else { random.one_of(&[1, 1, 1, 2, 2, 2, 2, 2, 3, 4, 4, 5, 5, 6, 7, 7, 8]) };
+        let kind =
+            if last_chance { 1 } else { random.one_of(&[1, 1, 1, 2, 2, 2, 2, 2, 3, 4, 4, 5, 5, 6, 7, 7, 8, 9, 9]) };
         records[number] = record(random, kind, &pool, &made);
         made[usize::from(kind)].push(number as u32);
     }
@@ -70,7 +72,7 @@ fn record(random: &mut Random, kind: u8, pool: &[u8], made: &Made) -> Record {
         }
         2 => {
             let (a, b) = pair(random, pool, 1, 63, u8::is_ascii_lowercase);
-            let kinds = [1, 1, 1, 3, 4, 5, 6, 7, 8];
+            let kinds = [1, 1, 1, 3, 4, 5, 6, 7, 8, 9];
             let below = random.one_of(&kinds);
             let below = link(random, &made[below]);
             Record::new(2, random.one_of(&[0, 1, 1, 2, 2]), [a, b, below, link(random, same), 0])
@@ -90,7 +92,8 @@ fn record(random: &mut Random, kind: u8, pool: &[u8], made: &Made) -> Record {
             let high = (low + random.one_of(&[0, 1, 31, 366])).min(LAST_DAY);
             Record::new(7, 0, [packed(low), packed(high), 0, 0, link(random, same)])
         }
-        _ => Record::new(8, 1 + random.below(4) as u8, [0; 5]),
+        8 => Record::new(8, 1 + random.below(4) as u8, [0; 5]),
+        _ => Record::new(9, duration_flag(random), [0; 5]),
     }
 }
 

@@ -125,6 +125,7 @@ fn compiled(case: &ListCase, bench: &mut Bench) -> Result<Option<Vec<u8>>, Strin
             let length = length as usize;
             ensure(bench.kept(case.fill, length), || format!("compile: {length} bytes done, bytes past them changed"))?;
             let table = bench.out[..length].to_vec();
+            bench.counts.meet(Job::Compile, &table);
             sound_start(case, bench, &table)?;
             other_room(case, bench, &table)?;
             Ok(Some(table))
@@ -197,6 +198,7 @@ fn other_room(case: &ListCase, bench: &mut Bench, table: &[u8]) -> Outcome {
 pub(super) fn checked(bench: &mut Bench, table: &[u8], expected: CheckAnswer) -> Outcome {
     let answer = (bench.jobs.check)(table);
     bench.counts.add(Job::Check, if let CheckAnswer::Refused { number, .. } = answer { number } else { 0 });
+    meet(bench, Job::Check, table, answer);
     ensure(answer == expected && rules::check(table) == expected, || {
         format!("check: {answer:?}, the rules say {:?}, expected {expected:?}", rules::check(table))
     })
@@ -247,6 +249,8 @@ pub(super) fn merged_rightly(
     bench.fill(fill, room);
     let answer = (bench.jobs.merge)(first.0, second.0, little, &mut bench.out);
     bench.counts.add(Job::Merge, if let MergeAnswer::Refused { number, .. } = answer { number } else { 0 });
+    meet(bench, Job::Merge, first.0, first.1);
+    meet(bench, Job::Merge, second.0, second.1);
     ensure(answer == expected, || format!("merge: {answer:?}, the rules say {expected:?}"))?;
     let MergeAnswer::Done { length, record_shift, .. } = answer else {
         ensure(bench.kept(fill, 0), || format!("merge: {answer:?} and the output changed"))?;
@@ -275,6 +279,7 @@ fn judged(case: &ListCase, bench: &mut Bench, carried: &[u8], sum: u32) -> Outco
         };
         let answer = (bench.jobs.judge)(carried, 1 + sum, data);
         count_judge(bench, answer);
+        meet(bench, Job::Judge, carried, CheckAnswer::Passed);
         ensure(answer == expected, || format!("data {index}: judge at {}: {answer:?}, meant {expected:?}", 1 + sum))?;
         ensure(rules::can_be_meant(carried, data, answer), || format!("data {index}: {answer:?} cannot be meant"))?;
         if index == 0 {
@@ -298,6 +303,7 @@ fn named(bench: &mut Bench, table: &[u8]) -> Outcome {
 pub(super) fn name_asked(bench: &mut Bench, table: &[u8], verdict: CheckAnswer, number: u32) -> Outcome {
     let answer = (bench.jobs.name)(table, number);
     bench.counts.add(Job::Name, if let NameAnswer::Refused { number, .. } = answer { number } else { 0 });
+    meet(bench, Job::Name, table, verdict);
     let expected = rules::name(table, verdict, number);
     ensure(answer == expected, || format!("name of {number}: {answer:?}, the rules say {expected:?}"))
 }
@@ -309,6 +315,7 @@ fn asked(case: &ListCase, bench: &mut Bench, table: &[u8], verdict: CheckAnswer)
         let data: &[u8] = case.data.first().map_or(b"<>", |data| data);
         let answer = (bench.jobs.judge)(table, number, data);
         count_judge(bench, answer);
+        meet(bench, Job::Judge, table, verdict);
         match rules::judge_before_data(table, verdict, number) {
             Some(expected) => {
                 ensure(answer == expected, || format!("judge at {number}: {answer:?}, the rules say {expected:?}"))?;
@@ -329,6 +336,13 @@ fn asked(case: &ListCase, bench: &mut Bench, table: &[u8], verdict: CheckAnswer)
 
 fn is_refusal(answer: JudgeAnswer) -> bool {
     matches!(answer, JudgeAnswer::Refused { .. })
+}
+
+/// Counts the kinds of a table that a job was given, if it passed the check.
+pub(super) fn meet(bench: &mut Bench, job: Job, table: &[u8], verdict: CheckAnswer) {
+    if verdict == CheckAnswer::Passed {
+        bench.counts.meet(job, table);
+    }
 }
 
 pub(super) fn count_judge(bench: &mut Bench, answer: JudgeAnswer) {

@@ -11,7 +11,7 @@ use super::shape::{clean_leaf, Attribute, Object, Value, HIGHEST, LOWEST};
 use super::shapes::smaller_value;
 use super::shrink::{smaller_bytes, Candidates, Smaller};
 use super::single::Single;
-use super::spelling::{spell, Spelling, DATE_PATTERNS, TIME_PATTERNS};
+use super::spelling::{spell, Spelling, DATE_PATTERNS, SLOTS, TIME_PATTERNS};
 use super::tokens::Style;
 use crate::api::{CompileAnswer, JudgeAnswer, MeaningAnswer};
 
@@ -39,7 +39,7 @@ pub fn leaf_case(seed: u64, number: u64) -> LeafCase {
 fn any_string(random: &mut Random, value: &Value) -> Vec<u8> {
     match value {
         Value::Strings(list) if random.coin() => random.pick(list).clone(),
-        _ => random.one_of(&[&b"a"[..], b"", b"ab", b"True", b"5", b"2000-01-01"]).to_vec(),
+        _ => random.one_of(&[&b"a"[..], b"", b"ab", b"True", b"5", b"2000-01-01", b"P4w"]).to_vec(),
     }
 }
 
@@ -48,7 +48,9 @@ fn word(random: &mut Random, value: &Value) -> Vec<u8> {
     let mut word = any_word(random, value);
     for _ in 0..random.below(3).saturating_sub(random.below(2)) {
         let at = random.below(word.len() + 1);
-        let byte = random.one_of(b"00112345689--++::.ZT_Z");
+        let duration = matches!(value, Value::DurationPattern(_)) && random.coin();
+        let bytes: &[u8] = if duration { b"PTTymwdhmsYMWDHMS0459-" } else { b"00112345689--++::.ZT_Z" };
+        let byte = random.one_of(bytes);
         match random.below(3) {
             0 => word.insert(at, byte),
             1 if at < word.len() => word[at] = byte,
@@ -98,6 +100,7 @@ impl LeafCase {
             (Value::Dates(list), false) => Some(date(leaf)?.1.is_some_and(|day| within(list, day))),
             (Value::DatePattern(flag), false) => Some(parts_fit(DATE_PATTERNS[usize::from(*flag) - 1], date(leaf)?.0)),
             (Value::TimePattern(flag), false) => Some(parts_fit(TIME_PATTERNS[usize::from(*flag) - 1], time(leaf)?)),
+            (Value::DurationPattern(flag), false) => Some(duration(leaf)?.iter().all(|slot| flag & (1 << slot) != 0)),
             _ => None,
         }
     }
@@ -118,7 +121,11 @@ fn parts_fit(pattern: &[u8], count: usize) -> bool {
 }
 
 fn is_good(word: &[u8]) -> bool {
-    boolean(word).is_some() || integer(word).is_some() || date(word).is_some() || time(word).is_some()
+    boolean(word).is_some()
+        || integer(word).is_some()
+        || date(word).is_some()
+        || time(word).is_some()
+        || duration(word).is_some()
 }
 
 fn boolean(word: &[u8]) -> Option<bool> {
@@ -192,6 +199,31 @@ fn is_zone(zone: &[u8]) -> bool {
     hours.is_some_and(|n| n <= most) && minutes.is_some_and(|n| n <= 59) && !(nought && zone[0] == b'-')
 }
 
+/// The numbers of the slots that a duration fills, from 0 for years to 6 for seconds. The word is cut at its
+/// letters; each piece must name a slot behind the one before it.
+fn duration(word: &[u8]) -> Option<Vec<usize>> {
+    let text = std::str::from_utf8(word).ok()?;
+    let text = text.strip_prefix('-').unwrap_or(text).strip_prefix('P')?;
+    let mut slots: Vec<usize> = Vec::new();
+    let mut is_time = false;
+    for piece in text.split_inclusive(|letter: char| !letter.is_ascii_digit()) {
+        if piece == "T" && !is_time {
+            is_time = true;
+            continue;
+        }
+        let letter = piece.bytes().last().filter(u8::is_ascii_alphabetic)?.to_ascii_lowercase();
+        let part = if is_time { 4..7 } else { 0..4 };
+        let slot = part.clone().find(|slot| SLOTS[*slot] == letter)?;
+        let follows = slots.last().is_none_or(|last| *last < slot);
+        if !follows || !(2..=5).contains(&piece.len()) {
+            return None;
+        }
+        slots.push(slot);
+    }
+    let last = *slots.last()?;
+    (!is_time || last >= 4).then_some(slots)
+}
+
 impl Single for LeafCase {
     fn run(&self, bench: &mut Bench) -> Outcome {
         let (text, data) = self.parts();
@@ -202,7 +234,10 @@ impl Single for LeafCase {
         let CompileAnswer::Done { length } = answer else {
             return Err(format!("compile: {answer:?}"));
         };
-        let judged = (bench.jobs.judge)(&out[..length as usize], 1, &data);
+        let table = &out[..length as usize];
+        bench.counts.meet(Job::Compile, table);
+        let judged = (bench.jobs.judge)(table, 1, &data);
+        bench.counts.meet(Job::Judge, table);
         let meant = (bench.jobs.meaning)(&text, &data);
         count_judge(bench, judged);
         count_meaning(bench, meant);

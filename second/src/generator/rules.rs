@@ -67,7 +67,7 @@ fn is_sound(bytes: &[u8], number: usize, count: usize, pool: usize) -> bool {
     record.has_mark()
         && match record.kind {
             1 => flag == 0 && pair(a, b, 1, 63) && pair(c, d, 0, 31) && link(e, &[2]),
-            2 => flag <= 2 && pair(a, b, 1, 63) && link(c, &[1, 3, 4, 5, 6, 7, 8]) && link(d, &[2]) && e == 0,
+            2 => flag <= 2 && pair(a, b, 1, 63) && link(c, &[1, 3, 4, 5, 6, 7, 8, 9]) && link(d, &[2]) && e == 0,
             3 => (1..=3).contains(&flag) && record.numbers == [0; 5],
             4 => flag == 0 && c == 0 && d == 0 && a as i32 <= b as i32 && link(e, &[4]),
             5 => flag == 0 && c == 0 && d == 0 && pair(a, b, 0, 255) && link(e, &[5]),
@@ -77,6 +77,7 @@ fn is_sound(bytes: &[u8], number: usize, count: usize, pool: usize) -> bool {
                 flag == 0 && c == 0 && d == 0 && real && a <= b && link(e, &[7])
             }
             8 => (1..=4).contains(&flag) && record.numbers == [0; 5],
+            9 => (1..=127).contains(&flag) && record.numbers == [0; 5],
             _ => false,
         }
 }
@@ -183,10 +184,10 @@ pub fn can_be_meant(table: &[u8], data: &[u8], answer: JudgeAnswer) -> bool {
             let known = (record as usize) < sizes(table).0;
             let kind = if known { kind(table, record as usize) } else { 0 };
             let kinds: &[u8] = match reason {
-                20 => &[1, 3, 4, 5, 6, 7, 8],
+                20 => &[1, 3, 4, 5, 6, 7, 8, 9],
                 21 => &[1],
                 22 | 23 => &[2],
-                24 => &[3, 4, 5, 6, 7, 8],
+                24 => &[3, 4, 5, 6, 7, 8, 9],
                 _ => &[],
             };
             kinds.contains(&kind) && data.get(place as usize) == Some(&b'<')

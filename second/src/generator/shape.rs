@@ -34,6 +34,8 @@ pub enum Value {
     DatePattern(u8),
     Dates(Vec<(i64, i64)>),
     TimePattern(u8),
+    /// The flag of its slots.
+    DurationPattern(u8),
 }
 
 /// What a random shape may hold.
@@ -54,9 +56,9 @@ pub const NAMES: [&[u8]; 18] = [
     b"yyyy", b"mm", b"at0001", b"true", b"x9Z_",
 ];
 
-pub const TYPES: [&[u8]; 18] = [
+pub const TYPES: [&[u8]; 26] = [
     b"A", b"B", b"C", b"AB", b"ABC", b"A1", b"A_b", b"ELEMENT", b"True1", b"Tru", b"Falsey", b"TRUE", b"FALSE", b"T",
-    b"Thh", b"XX", b"X", b"Z",
+    b"Thh", b"XX", b"X", b"Z", b"Pd", b"Pwd", b"PTm", b"PymwdThms", b"P", b"PT", b"PD", b"PdX",
 ];
 
 const CODES: [&[u8]; 7] = [b"at0000", b"at0001", b"at1", b"at0001.1", b"at0.0.1", b"at0000.0.0.12", b"at00000000"];
@@ -144,13 +146,24 @@ fn value(random: &mut Random, plan: &mut Plan, level: usize) -> Value {
 }
 
 fn leaf(random: &mut Random, plan: &mut Plan) -> Value {
-    match random.below(15) {
+    match random.below(18) {
         0 | 1 => Value::Booleans(booleans(random, plan)),
         2..=5 => Value::Integers(integers(random, plan)),
         6..=8 => Value::Strings(strings(random, plan)),
         9 | 10 => Value::DatePattern(1 + random.below(5) as u8),
         11 | 12 => Value::Dates(dates(random, plan)),
-        _ => Value::TimePattern(1 + random.below(4) as u8),
+        13 | 14 => Value::TimePattern(1 + random.below(4) as u8),
+        _ => Value::DurationPattern(duration_flag(random)),
+    }
+}
+
+/// The flag of a Duration pattern, of one or two slots in most cases.
+pub fn duration_flag(random: &mut Random) -> u8 {
+    let slot = |random: &mut Random| 1 << random.below(7);
+    match random.below(5) {
+        0 | 1 => slot(random),
+        2 | 3 => slot(random) | slot(random),
+        _ => 1 + random.below(127) as u8,
     }
 }
 
@@ -174,7 +187,7 @@ fn booleans(random: &mut Random, plan: &Plan) -> Vec<bool> {
 
 /// How many items a list gets: few in most cases, 15 or 16 at times, 17 and more only as a fault.
 fn item_count(random: &mut Random, plan: &mut Plan) -> usize {
-    let count = if plan.fault(random) || (plan.faults > 0 && random.one_in(40)) {
+    let count = if plan.fault(random) || (plan.faults > 0 && random.one_in(6)) {
         16 + random.below(4)
     } else if random.one_in(60) {
         15 + random.below(2)
@@ -381,10 +394,14 @@ fn wide_value(random: &mut Random, left: usize) -> Value {
     if most == 0 {
         return Value::Any;
     }
+    if most == 1 && random.coin() {
+        return Value::DurationPattern(duration_flag(random));
+    }
     match random.below(24) {
         0 => Value::Booleans(vec![true]),
         1 => Value::Object(Object { type_name: b"B".to_vec(), code: None, attributes: Vec::new() }),
-        2 | 3 => Value::Strings((0..most).map(|i| vec![b'a' + i as u8]).collect()),
+        2 => Value::DurationPattern(duration_flag(random)),
+        3 | 4 => Value::Strings((0..most).map(|i| vec![b'a' + i as u8]).collect()),
         _ => Value::Integers((0..most as i64).map(|i| (i, i)).collect()),
     }
 }
@@ -398,7 +415,7 @@ fn records_of_value(value: &Value) -> usize {
     match value {
         Value::Any => 0,
         Value::Object(object) => records_of(object),
-        Value::Booleans(_) | Value::DatePattern(_) | Value::TimePattern(_) => 1,
+        Value::Booleans(_) | Value::DatePattern(_) | Value::TimePattern(_) | Value::DurationPattern(_) => 1,
         Value::Integers(list) | Value::Dates(list) => list.len(),
         Value::Strings(list) => list.len(),
     }

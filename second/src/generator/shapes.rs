@@ -60,7 +60,9 @@ impl Single for ShapeCase {
         if out[..expected.len()] != expected[..] {
             return Err(String::from("compile: another table than the shape's"));
         }
+        bench.counts.meet(Job::Compile, &expected);
         let judged = (jobs.judge)(&expected, 1, &data);
+        bench.counts.meet(Job::Judge, &expected);
         let meant = (jobs.meaning)(&text, &data);
         count_judge(bench, judged);
         count_meaning(bench, meant);
@@ -99,6 +101,10 @@ pub(super) fn smaller_value(value: &Value) -> Candidates<'_, Value> {
         Value::Strings(list) => any_or_fewer(list, Value::Strings),
         Value::Booleans(list) => any_or_fewer(list, Value::Booleans),
         Value::DatePattern(_) | Value::TimePattern(_) => Box::new(std::iter::once(Value::Any)),
+        Value::DurationPattern(flag) => {
+            let fewer = (0..7).map(move |bit| flag & !(1 << bit)).filter(move |less| *less != 0 && less < flag);
+            Box::new(std::iter::once(Value::Any).chain(fewer.map(Value::DurationPattern)))
+        }
     }
 }
 

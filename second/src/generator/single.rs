@@ -1,7 +1,8 @@
 //! Single cases of each kind held against the rules.
 
 use super::cases::{CheckCase, CompileCase, JudgeCase, ListCase, MergeCase, NameCase, Room};
-use super::law::{checked, count_judge, count_meaning, ensure, merged_rightly, name_asked, Bench, Outcome};
+use super::counts::Job;
+use super::law::{checked, count_judge, count_meaning, ensure, meet, merged_rightly, name_asked, Bench, Outcome};
 use super::random::Random;
 use super::rules;
 use super::spelling::{spell, Spelling};
@@ -63,6 +64,7 @@ impl Single for JudgeCase {
         let verdict = rules::check(&self.table);
         let answer = (bench.jobs.judge)(&self.table, self.root, &self.data);
         count_judge(bench, answer);
+        meet(bench, Job::Judge, &self.table, verdict);
         if let Some(expected) = rules::judge_before_data(&self.table, verdict, self.root) {
             return ensure(answer == expected, || format!("judge: {answer:?}, the rules say {expected:?}"));
         }

@@ -8,16 +8,41 @@ use super::tokens::Tokens;
 pub const DATE_PATTERNS: [&[u8]; 5] = [b"yyyy-mm-dd", b"yyyy-mm-??", b"yyyy-??-??", b"yyyy-mm-XX", b"yyyy-??-XX"];
 pub const TIME_PATTERNS: [&[u8]; 4] = [b"Thh:mm:ss", b"Thh:mm:XX", b"Thh:??:XX", b"Thh:??:??"];
 
+/// The letters of a Duration pattern's slots, lowest bit of the flag first.
+pub const SLOTS: [u8; 7] = *b"ymwdhms";
+
+/// The Duration pattern with a flag.
+pub fn duration_pattern(flag: u8) -> Vec<u8> {
+    let mut pattern = vec![b'P'];
+    for (bit, letter) in SLOTS.into_iter().enumerate() {
+        if bit == 4 && flag > 15 {
+            pattern.push(b'T');
+        }
+        if flag & (1 << bit) != 0 {
+            pattern.push(letter);
+        }
+    }
+    pattern
+}
+
+/// Tokens that are close to a Duration pattern, or to its end.
+pub const NEAR_DURATIONS: [&[u8]; 40] = [
+    b"P", b"PT", b"PD", b"PW", b"PTM", b"PdT", b"PymwdT", b"Pdm", b"Pdd", b"Pdw", b"Pmy", b"PTmh", b"PTss", b"Pt",
+    b"Ptm", b"Pdt", b"P1d", b"PT5m", b"P4w", b"-P5d", b"PdX", b"Pd_", b"Pd1", b"PTmx", b"Pdh", b"PTd", b"PThd",
+    b"PTTm", b"PThTm", b"PPd", b"PdP", b"pd", b"pTm", b"-Pd", b"+Pd", b"Pwd/", b"Td", b"PymwdThmss", b"PXX", b"P??",
+];
+
 /// The other spelling of `matches`.
 pub const ELEMENT_OF: &[u8] = b"\xE2\x88\x88";
 
 /// Tokens that may turn up at any place when a text is damaged.
-pub const STRANGERS: [&[u8]; 58] = [
+pub const STRANGERS: [&[u8]; 68] = [
     b"{", b"}", b",", b"*", b"|", b"..", b"<", b">", b"<=", b">=", b"+/-", b"matches", ELEMENT_OF, b"existence",
     b"True", b"False", b"A", b"a", b"[at0001]", b"[at0001.1]", b"[ at1]", b"[ac1]", b"[at1.]", b"[at]", b"at1", b"0",
     b"1", b"-1", b"007", b"-0", b"00", b"2147483648", b"2000-02-29", b"1900-02-29", b"0000-00-00", b"2000-1-1",
     b"\"a\"", b"\"", b"\"\\\"", b"\"\t\"", b"yyyy-mm-dd", b"yyyy-??-mm", b"yyyy-XX-XX", b"Thh:mm:ss", b"Thh:??:ss",
     b"Thh:mm:??", b"Thh:XX:XX", b"1.5", b"...", b".", b"+", b"/", b"-", b"=", b"_a", b"\x80", b"\xE2\x88", b"\x00",
+    b"Pd", b"Pwd", b"PTm", b"PymwdThms", b"P", b"PT", b"PD", b"Pdm", b"P1d", b";",
 ];
 
 /// How a shape is spelled.
@@ -131,6 +156,25 @@ fn spell_value(random: &mut Random, value: &Value, how: Spelling, out: &mut Toke
         }
         Value::DatePattern(flag) => out.push(DATE_PATTERNS[usize::from(*flag) - 1]),
         Value::TimePattern(flag) => out.push(TIME_PATTERNS[usize::from(*flag) - 1]),
+        Value::DurationPattern(flag) if how.fault(random) => spoiled_duration(random, *flag, out),
+        Value::DurationPattern(flag) => out.push(&duration_pattern(*flag)),
+    }
+}
+
+/// A Duration pattern with a fault: something behind it or before it, or another token close to it.
+fn spoiled_duration(random: &mut Random, flag: u8, out: &mut Tokens) {
+    let pattern = duration_pattern(flag);
+    match random.below(12) {
+        0 => push_all(out, &[&pattern, b",", b"Pw"]),
+        1 => push_all(out, &[&pattern, b";"]),
+        2 => push_all(out, &[&pattern, b"Pd"]),
+        3 => push_all(out, &[&pattern, b"matches", b"{", b"*", b"}"]),
+        4 => push_all(out, &[&pattern, b"[at1]", b"matches", b"{", b"*", b"}"]),
+        5 => push_all(out, &[&pattern, b"[at1]"]),
+        6 => push_all(out, &[&pattern, b"]"]),
+        7 => between_bars(out, &[&pattern]),
+        8 => push_all(out, &[b"-", &pattern]),
+        _ => out.push(random.one_of(&NEAR_DURATIONS)),
     }
 }
 

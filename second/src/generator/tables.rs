@@ -193,6 +193,7 @@ fn add_attribute(table: &mut Table, attribute: &Attribute) {
             }
         }
         Value::TimePattern(flag) => table.records.push(Record::new(8, *flag, [0; 5])),
+        Value::DurationPattern(flag) => table.records.push(Record::new(9, *flag, [0; 5])),
     }
 }
 
@@ -265,6 +266,7 @@ fn value_at(table: &Table, number: usize, level: usize, left: &mut usize) -> Val
         6 => Value::DatePattern(record.flag.clamp(1, 5)),
         7 => Value::Dates(chain(table, number, |r| Some((unpacked(r.numbers[0])?, unpacked(r.numbers[1])?)))),
         8 => Value::TimePattern(record.flag.clamp(1, 4)),
+        9 => Value::DurationPattern(record.flag.clamp(1, 127)),
         _ => Value::Any,
     }
     .or_any()

@@ -152,7 +152,7 @@ fn merge_that_slips(first: &[u8], second: &[u8], little: bool, out: &mut [u8]) -
 fn a_slip_in_merging_is_found_and_made_small() {
     let mut jobs = Jobs::library();
     jobs.merge = merge_that_slips;
-    let maker = Maker::new(2);
+    let maker = Maker::new(7);
     let mut bench = Bench::new(jobs);
     let case = (0..5_000).map(|number| maker.list(number)).find(|case| bench.run(case).is_err());
     let case = case.expect("the slip is found");
@@ -170,4 +170,58 @@ fn a_compiler_that_refuses_all_is_found() {
     let maker = Maker::new(2);
     let mut bench = Bench::new(jobs);
     assert!((0..20).any(|number| bench.run(&maker.list(number)).is_err()));
+}
+
+#[test]
+fn kind_9_is_met_by_each_job_and_by_its_verdicts() {
+    let maker = Maker::new(12);
+    let jobs = Jobs::library();
+    let mut counts = Counts::default();
+    let mut verdicts = [0u32; 32];
+    for number in 0..4_000 {
+        let check = maker.check(number);
+        counts.meet(Job::Check, &check.table);
+        let case = maker.judge(number);
+        if let crate::api::JudgeAnswer::Verdict { reason, record, .. } =
+            (jobs.judge)(&case.table, case.root, &case.data)
+        {
+            if rules::kind(&case.table, record as usize) == 9 {
+                verdicts[reason as usize] += 1;
+            }
+        }
+    }
+    assert!(verdicts[20] > 10 && verdicts[24] > 10, "{} and {}", verdicts[20], verdicts[24]);
+    let shown = counts.to_string();
+    let row = shown.lines().find(|line| line.trim_start().starts_with("kind 9")).unwrap_or_default();
+    let met: Vec<&str> = row.split_whitespace().collect();
+    assert_eq!(met.len(), 8, "{row}");
+    assert!(met[3].parse::<u32>().is_ok_and(|count| count > 500), "{row}");
+}
+
+#[test]
+fn kinds_are_counted_once_a_table_and_only_under_a_mark() {
+    let attribute =
+        |name: &[u8], flag| Attribute { name: name.to_vec(), existence: 2, value: Value::DurationPattern(flag) };
+    let attributes = vec![attribute(b"a", 1), attribute(b"b", 127)];
+    let object = Object { type_name: b"A".to_vec(), code: None, attributes };
+    let mut table = table_of(&object);
+    let row = |counts: &Counts, kind: usize| {
+        let shown = counts.to_string();
+        let line = shown.lines().find(|line| line.contains(&format!("kind {kind}"))).unwrap_or_default();
+        line.split_whitespace().skip(2).map(String::from).collect::<Vec<_>>()
+    };
+    let mut counts = Counts::default();
+    counts.meet(Job::Merge, &table.bytes());
+    table.records[3].set_order(true);
+    table.records[5].mark = [0, 0];
+    counts.meet(Job::Merge, &table.bytes());
+    counts.meet(Job::Merge, b"");
+    counts.meet(Job::Merge, &[0xFF; 100]);
+    let mut sum = Counts::default();
+    sum.add_all(&counts);
+    sum.add_all(&counts);
+    assert_eq!(row(&counts, 9), ["0", "0", "2", "0", "0", "-"]);
+    assert_eq!(row(&sum, 9), ["0", "0", "4", "0", "0", "-"]);
+    assert_eq!(row(&sum, 8), ["0", "0", "0", "0", "0", "-"]);
+    assert_eq!(row(&sum, 2), ["0", "0", "4", "0", "0", "-"]);
 }

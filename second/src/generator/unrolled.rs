@@ -99,7 +99,8 @@ fn value(table: &Table, number: usize, level: usize, numbers: &mut Vec<u32>) -> 
         5 => Value::Strings(distinct(records.map(|r| part(table, r).to_vec()).collect())?),
         6 => Value::DatePattern(record.flag),
         7 => Value::Dates(apart(records.map(|r| Some((unpacked(r.numbers[0])?, unpacked(r.numbers[1])?))).collect())?),
-        _ => Value::TimePattern(record.flag),
+        8 => Value::TimePattern(record.flag),
+        _ => Value::DurationPattern(record.flag),
     })
 }
 

@@ -46,21 +46,24 @@ fn add_all(stream: &mut Stream, title: &str, text: &str, data: &str) {
 }
 
 /// Every form of a word, and words that are nearly one.
-const WORDS: [&str; 76] = [
+const WORDS: [&str; 103] = [
     "True", "False", "TRUE", "Truex", "0", "-0", "00", "5", "+5", "-5", "-05", "05", "007", "2147483647", "2147483648",
     "-2147483648", "-2147483649", "99999999999999999999", "0000", "2004", "-2004", "9999", "10000", "2004-05",
     "2004-5", "2004-00", "2004-13", "2004-05-20", "2004-05-32", "2004-02-29", "1900-02-29", "2000-02-29", "2004-04-31",
     "2004-05-20x", "00:00", "08", "23", "24", "25", "23:59", "23:60", "24:00", "23:59:59", "23:59:60", "24:00:00",
     "12:30Z", "12Z", "12+01", "12+13", "12+13:59", "12+14", "12+14:00", "12-12", "12-12:59", "12-13", "12-00",
     "12-00:00", "12-00:30", "12-00:01", "12+00", "12+00:00", "12:30:15-03:30", "12:30:15+0930", "12:30:15+9",
-    "12:30:15z", "1:30", "12:3", "12.5", "P1D", "2004-05-20T10:00:00", "_x", "-", "+", "5--3", "Tr.ue", "A:B",
+    "12:30:15z", "1:30", "12:3", "12.5", "P1D", "2004-05-20T10:00:00", "_x", "-", "+", "5--3", "Tr.ue", "A:B", "P4w",
+    "P12W3D", "-P5d", "P0d", "P0005d", "P5M", "PT5m", "PT5M3S", "P1w2dT3h", "P1y2m3w4dT5h6m7s",
+    "-P9999y9999m9999w9999dT9999h9999m9999s", "P", "PT", "-P", "P5", "P5dT", "Pd", "P00005d", "P1d2w", "P1w1w",
+    "PT1s1h", "P1.5d", "+P5d", "Pt5m", "P5d_", "P1h", "PT1d",
 ];
 
 /// A leaf of each kind, and `*`.
-const LEAVES: [&str; 20] = [
+const LEAVES: [&str; 24] = [
     "*", "True", "False", "True, False", "5", "|0..9|, 24", "|>=-5|", "2004, 24", "\"5\"", "\"\"", "yyyy-mm-dd",
     "yyyy-mm-??", "yyyy-??-??", "yyyy-mm-XX", "yyyy-??-XX", "|2004-05-20..2004-12-31|", "Thh:mm:ss", "Thh:mm:XX",
-    "Thh:??:XX", "Thh:??:??",
+    "Thh:??:XX", "Thh:??:??", "Pwd", "PTm", "Pm", "PymwdThms",
 ];
 
 fn words(stream: &mut Stream) {
@@ -69,7 +72,7 @@ fn words(stream: &mut Stream) {
         for word in WORDS {
             add(stream, &format!("{word} under {leaf}"), &table, 1, format!("<a=<{word}>>").as_bytes());
         }
-        for string in ["\"\"", "\"5\"", "\"True\"", "\"2004-05-20\""] {
+        for string in ["\"\"", "\"5\"", "\"True\"", "\"2004-05-20\"", "\"P4w\""] {
             add(stream, &format!("{string} under {leaf}"), &table, 1, format!("<a=<{string}>>").as_bytes());
         }
         add(stream, &format!("a block under {leaf}"), &table, 1, b"<a=<>>");
@@ -77,7 +80,7 @@ fn words(stream: &mut Stream) {
 }
 
 /// Constraint texts with data texts: existence, types, members that nobody names, beginnings of names, the first failure.
-const MEMBERS: [(&str, &[&str]); 8] = [
+const MEMBERS: [(&str, &[&str]); 10] = [
     ("A matches {*}", &["<>", "(A)<>", "(B)<>", "( A ) < >", "<a=<5>>", "<a=<> b=(T)<c=<\"x\">>>"]),
     (
         "A matches {a matches {5}}",
@@ -94,6 +97,8 @@ const MEMBERS: [(&str, &[&str]); 8] = [
     ),
     ("A matches {a matches {1, 2, |5..9|} b matches {\"p\", \"q\"}}", &["<a=<2> b=<\"q\">>", "<a=<9> b=<\"p\">>", "<a=<10> b=<\"p\">>", "<a=<4> b=<\"r\">>", "<a=<7> b=<\"r\">>", "<b=<\"q\"> a=<3>>"]),
     ("Pulse matches {rate matches {|100..160|} when existence matches {0..1} matches {yyyy-mm-dd}}", &["<rate=<130>>", "<rate=<72>>", "(Pulse)<rate=<160> when=<2004-05-20>>", "<rate=<161> when=<2004-05>>", "<rate=<160> when=<2004-05>>"]),
+    ("Pregnancy matches {gestation matches {Pwd} cycle existence matches {0..1} matches {PTm}}", &["<gestation=<P12w3d>>", "<gestation=<P12W3D> cycle=<PT5m>>", "<gestation=<P3m>>", "<gestation=<PT5m>>", "<gestation=<-P4w> cycle=<P5m>>", "<gestation=<12>>", "<gestation=<\"P4w\">>", "<gestation=<>>", "<gestation=<P12w3>>", "<cycle=<PT5m>>"]),
+    ("Pd matches {a matches {PTm matches {b matches {PmTm}}}}", &["(Pd)<a=(PTm)<b=<P1mT1m>>>", "(PTm)<>", "<a=(Pd)<>>", "<a=<PT5m>>", "<a=<b=<P1y>>>", "<Pd=<5>>"]),
     ("A matches {a matches {*} b existence matches {0..0} matches {5} c matches {yyyy-??-XX}}", &["<a=<x> c=<2004>>", "<a=<> c=<2004-05>>", "<a=<5> c=<2004-05-06>>", "<a=<5> b=<5> c=<2004>>", "<c=<2004>>", "<a=<5> c=<20:04>>"]),
 ];
 
@@ -122,14 +127,15 @@ fn members(stream: &mut Stream) {
 }
 
 /// Data texts that are refused, or nearly: blanks and comments, unreadable tokens, repeated names, places.
-const TEXTS: [&str; 52] = [
+const TEXTS: [&str; 58] = [
     "", " ", "-- only a comment", "<", ">", "<>>", "<> <>", "<> -- behind", "-- before\n<>", "--\r<>", "-<>",
     "< -- inside\n>", "<a>", "<a=>", "<a=<>", "<a=<5>", "<a=5>", "<a=<5>>x", "<5>", "<\"x\">", "<a=<5 6>>",
     "<a=<\"x\" \"y\">>", "<a=<\"x>>", "<a=<\"x\\\">>", "<a=<\"\t\">>", "<a=(T)<5>>", "<a=(T)<>>", "<a=(t)<>>",
     "<a=(True)<>>", "<a=()<>>", "<a=(T<>>", "<a=(T)>", "(T)", "(T", "(T)<a=<5>>", "<A=<5>>", "<a-b=<5>>",
     "<matches=<5>>", "<existence=<5>>", "<a=<5> a=<6>>", "<a=<5> b=<5> b=<5> a=<5>>", "<a=<a=<5>> b=<a=<5>>>",
     "<a=<5> a", "<a=<5> a=<", "<a=<b>>", "<a=<bad>>", "<a=<x5>>", "<a = < 5 > >", "<a=<5--c\n>>", "<a=<5 --c\n>>",
-    "<a=<\u{1}>>", "<a=<5>;b=<6>>",
+    "<a=<\u{1}>>", "<a=<5>;b=<6>>", "<a=<p5d>>", "<a=<--P5d>>", "<a=<--P5d\n-P5d>>", "(Pd)<>", "<Pd = <5>>",
+    "<a=<P5d P5d>>",
 ];
 
 fn texts(stream: &mut Stream) {
@@ -142,6 +148,8 @@ fn texts(stream: &mut Stream) {
         add(stream, &format!("byte {byte:02X} in a block"), &table, 1, &[b'<', byte, b'>']);
         add(stream, &format!("byte {byte:02X} in a string"), &table, 1, &[&b"<a=<\""[..], &[byte], b"\">>"].concat());
         add(stream, &format!("byte {byte:02X} behind a digit"), &table, 1, &[&b"<a=<5"[..], &[byte], b">>"].concat());
+        let slot = [&b"<a=<P5"[..], &[byte], b">>"].concat();
+        add(stream, &format!("byte {byte:02X} behind a duration's digit"), &table, 1, &slot);
     }
 }
 

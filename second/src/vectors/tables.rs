@@ -73,6 +73,7 @@ fn named() -> Vec<(&'static str, Table)> {
         ("shared records", shared()),
         ("unreached records", unreached()),
         ("empty string", compiled("A matches {a matches {\"\"}}")),
+        ("durations", compiled("A matches {a matches {Pwd} b matches {PTm}}")),
         ("nested", compiled("A matches {a matches {B[at1.2] matches {b matches {C matches {c matches {\"\", \"x\"}}}}} d matches {1, 2}}")),
     ]
 }
@@ -115,7 +116,7 @@ fn under(records: &[Record], pool: &[u8]) -> Table {
 fn record_cases() -> Vec<(String, Table)> {
     let mut all = Vec::new();
     let mut add = |title: String, each: Table| all.push((title, each));
-    for (kind, flags) in [(3, [0, 1, 3, 4]), (6, [0, 1, 5, 6]), (8, [0, 1, 4, 5])] {
+    for (kind, flags) in [(3, [0, 1, 3, 4]), (6, [0, 1, 5, 6]), (8, [0, 1, 4, 5]), (9, [0, 1, 127, 128])] {
         for flag in flags {
             add(format!("kind {kind} with flag {flag}"), under(&[record(kind, flag, [0; 5])], b"Aa"));
         }
@@ -146,12 +147,15 @@ fn record_cases() -> Vec<(String, Table)> {
         );
     }
     for (field, letter) in ["a", "b", "c", "d", "e"].into_iter().enumerate() {
-        for kind in [3, 6, 8] {
+        for kind in [3, 6, 8, 9] {
             let each = changed(&under(&[record(kind, 1, [0; 5])], b"Aa"), 3, |record| record.numbers[field] = 1);
             add(format!("kind {kind} with {letter} = 1"), each);
         }
     }
-    for kind in [0, 2, 9, 255] {
+    for flag in [2, 12, 64, 129, 255] {
+        add(format!("kind 9 with flag {flag}"), under(&[record(9, flag, [0; 5])], b"Aa"));
+    }
+    for kind in [0, 2, 9, 10, 255] {
         add(format!("a value of kind {kind}"), under(&[record(kind, 0, [0; 5])], b"Aa"));
     }
     all

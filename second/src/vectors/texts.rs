@@ -109,6 +109,12 @@ const TEXTS: &[&str] = &[
     "A matches {True matches {*}}",
     "A matches {a cardinality matches {0..1} matches {*}}",
     "A matches {a matches {B occurrences matches {0..1} matches {*}}}",
+    "Pd",
+    "Pd}",
+    "Pd matches {*}",
+    "A matches {Pd}",
+    "A matches {a existence matches {Pd} matches {*}}",
+    "A matches {a matches {Pd} b matches {Pd matches {c matches {PTs}}} a matches {Pw}}",
     "A[id1] matches {*}",
     "A[at1 ] matches {*}",
 ];
@@ -167,8 +173,38 @@ const LEAVES: &[&str] = &[
     "yyyy-mm-ddThh:mm:ss",
     "yyyy-mm-dd, yyyy-mm-??",
     "Pd",
+    "Pm",
+    "PTm",
+    "Pwd",
+    "PThm",
+    "PmTm",
+    "PymwdThms",
+    "P",
+    "PT",
+    "PD",
+    "PdT",
+    "Pdm",
+    "Pdd",
+    "Pt",
+    "PTM",
+    "PdX",
+    "P1d",
     "P1D",
     "|P1D|",
+    "-Pd",
+    "|Pd|",
+    "|P1d..P2d|",
+    "Pwd/|P0w..P50w|",
+    "Pd, Pw",
+    "Pd;",
+    "Pd; P1d",
+    "Pd]",
+    "Pd Pd",
+    "Pd matches {*}",
+    "Pd[at1] matches {*}",
+    "Pd[at1]",
+    "Pd --c\n",
+    "Pd --c",
     "[at1]",
     "[ac1]",
     "[ac1; at2]",
@@ -349,6 +385,14 @@ fn levels(stream: &mut Stream) {
             add_text(stream, &format!("{levels} levels and {inside}"), &nested(levels, inside));
         }
     }
+    for inside in ["Pd}}", "Pd--\n}}", "Pd", "Pd x", "P}", "Pd}", "Pd matches {*}}}", "PD}}"] {
+        let closed = if inside.ends_with("}}") { "}".repeat(30) } else { String::new() };
+        add_text(
+            stream,
+            &format!("{} behind 16 levels", inside.escape_default()),
+            &format!("{}{inside}{closed}", "A matches {a matches {".repeat(16)),
+        );
+    }
     add_text(
         stream,
         "a 17th level of 64 bytes",
@@ -392,6 +436,17 @@ fn wide(count: usize) -> String {
 fn records(stream: &mut Stream) {
     for count in [limits::RECORDS - 1, limits::RECORDS, limits::RECORDS + 1, limits::RECORDS + 17] {
         add_long(stream, &format!("{count} records"), &wide(count));
+    }
+    let nearly = wide(limits::RECORDS - 1);
+    let nearly = &nearly[..nearly.len() - 1];
+    for more in ["zz matches {Pd}}", "zz matches {Pd", "zz matches {P}}", "zz matches {*}}"] {
+        add(
+            stream,
+            &format!("2,047 records and {more}"),
+            format!("{nearly} {more}").as_bytes(),
+            false,
+            &filling(FILL, 100),
+        );
     }
     let full = wide(limits::RECORDS);
     let full = &full[..full.len() - 1];
@@ -476,6 +531,7 @@ fn lists(stream: &mut Stream) {
     ];
     let texts = [
         ("Pulse matches {rate matches {|40..180|} note existence matches {0..1} matches {\"ok\", \"\"}}", ["<rate=<72>>", "<rate=<10>>", "<rate=<72> note=<\"bad\">>", "<note=<\"ok\">>"]),
+        ("Pregnancy matches {gestation matches {Pwd} contraction existence matches {0..1} matches {PTms}}", ["<gestation=<P12w3d>>", "<gestation=<P3m>>", "<gestation=<P12w3d> contraction=<PT1h>>", "<gestation=<12>>"]),
         ("Newborn[at7] matches {pulse matches {Pulse matches {rate matches {|100..160|}}} born matches {yyyy-mm-dd}}", ["<pulse=<rate=<120>> born=<2004-05-20>>", "<pulse=<rate=<72>> born=<2004-05-20>>", "<pulse=(Pulse)<rate=<120>> born=<2004>>", "(Adult)<>"]),
     ];
     for (number, (text, data)) in texts.iter().enumerate() {
