@@ -11,7 +11,7 @@ use Rattle.lexis.specs.Bytes.{among}
 use Rattle.refusals.specs.Limits.{recordLimit, poolLimit, nameLimit, codeLimit, stringLimit}
 use Rattle.values.specs.Integers.{twosComplement}
 use Rattle.values.proofs.IntegerLaws.{complement-back, complement-fits}
-use Rattle.meaning.specs.Constraints.{SingleSort, booleans, datePattern, timePattern, RangeSort, integers, dates, Range, Text, Leaf, single, ranges, texts, Object, object, Attributes, noMore, attribute, Value, any, nested, leaf}
+use Rattle.meaning.specs.Constraints.{SingleSort, booleans, datePattern, timePattern, durationPattern, RangeSort, integers, dates, Range, Text, Leaf, single, ranges, texts, Object, object, Attributes, noMore, attribute, Value, any, nested, leaf}
 use Rattle.meaning.specs.Sorts.{singleRow, rangeRow, textKind}
 use Rattle.meaning.specs.Counting.{objectRecords, valueRecords, textPool, leafPool, objectPool, attributePool, valuePool}
 use Rattle.meaning.specs.Admission.{leafNumber, firstRange, firstText}
@@ -95,6 +95,7 @@ single-item : (sort : SingleSort) → among (singleRow sort .kind) (objectKind �
 single-item booleans = refl
 single-item datePattern = refl
 single-item timePattern = refl
+single-item durationPattern = refl
 
 range-item : (sort : RangeSort) → among (rangeRow sort .kind) (objectKind ∷ items) ≡ true
 range-item integers = refl

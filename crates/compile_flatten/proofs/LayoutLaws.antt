@@ -9,7 +9,7 @@ use lib.Seq.{drop-drop, getD-drop}
 use Rattle.refusals.specs.Limits.{recordLimit, poolLimit}
 use Rattle.values.specs.Integers.{greatest, twosComplement}
 use Rattle.values.proofs.IntegerLaws.{complement-back, complement-fits}
-use Rattle.meaning.specs.Constraints.{SingleSort, booleans, datePattern, timePattern, integers, dates, Range, Text, Leaf, single, ranges, texts, Object, object, Attributes, noMore, attribute, Value, any, nested, leaf}
+use Rattle.meaning.specs.Constraints.{SingleSort, booleans, datePattern, timePattern, durationPattern, integers, dates, Range, Text, Leaf, single, ranges, texts, Object, object, Attributes, noMore, attribute, Value, any, nested, leaf}
 use Rattle.meaning.specs.Sorts.{singleRow}
 use Rattle.meaning.specs.Counting.{leafRecords, objectRecords, attributeRecords, valueRecords, textPool, leafPool, objectPool, attributePool, valuePool}
 use Rattle.meaning.specs.Admission.{leafNumber, firstRange, firstText}
@@ -108,6 +108,7 @@ module _ (little : Bool) (m : Image) (f : ImageFits m) where
   single-laid booleans n p flag h = LaysLeaf.boolean h
   single-laid datePattern n p flag h = LaysLeaf.datePattern h
   single-laid timePattern n p flag h = LaysLeaf.timePattern h
+  single-laid durationPattern n p flag h = LaysLeaf.durationPattern h
 
   leaf-laid : (l : Leaf) (n k p q : ℕ) → NumberedLeaf l n → ProperLeaf l → Placed m n (recordsOfLeaf p l) p (leafPool l)
       → n + leafRecords l ≡ k → p + length (leafPool l) ≡ q → LaysLeaf (bytesOf little m) little (count m) n p l k q

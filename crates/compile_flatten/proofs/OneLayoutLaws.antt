@@ -123,6 +123,7 @@ module _ (bs : List ℕ) (little : Bool) (size : ℕ) where
   leaf-stored {n} {p} (LaysLeaf.datePattern h) = (refl, stored-record h (stored-none (n + 1) p))
   leaf-stored {p = p} (LaysLeaf.dateInterval h) = dates-stored p h
   leaf-stored {n} {p} (LaysLeaf.timePattern h) = (refl, stored-record h (stored-none (n + 1) p))
+  leaf-stored {n} {p} (LaysLeaf.durationPattern h) = (refl, stored-record h (stored-none (n + 1) p))
 
   mutual
     unfolding objectTable objectPool attributesTable attributePool valueTable valuePool

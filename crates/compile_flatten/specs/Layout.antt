@@ -1,6 +1,6 @@
 -- The table of a tree, as rules, read from the bytes. Document 01, 'Table': "Compiling numbers records and fills the pool in text order (type, then code; no quotes or brackets); nothing is shared;
--- root 1"; the table of kinds. Each relation says that a part of the tree is laid out from a record and a place of the pool on, up to another record and place. Proved one with imageOfTree, objectTable,
--- objectPool. Assumes nothing.
+-- root 1"; the table of kinds; document 02, 1: "New kind 9". Each relation says that a part of the tree is laid out from a record and a place of the pool on, up to another record and place. Proved one
+-- with imageOfTree, objectTable, objectPool. Assumes nothing.
 use mathlib.Core.Path.{_≡_}
 use mathlib.Core.Bool.{Bool}
 use mathlib.Core.List.{List, [], _∷_}
@@ -57,6 +57,8 @@ pub data LaysLeaf (bs : List ℕ) (little : Bool) (count : ℕ) : (n p : ℕ) �
       → LaysLeaf bs little count n p (ranges dates (x ∷ l)) m p
   timePattern : {n p flag : ℕ} → Holds bs n little (make 8 flag [])
       → LaysLeaf bs little count n p (single Constraints.timePattern n flag) (n + 1) p
+  durationPattern : {n p flag : ℕ} → Holds bs n little (make 9 flag [])
+      → LaysLeaf bs little count n p (single Constraints.durationPattern n flag) (n + 1) p
 
 mutual
   -- an object: its record, its type and then its code, its attributes

@@ -38,6 +38,7 @@ item-kind IsItem.string = ObjectOrItem.string
 item-kind IsItem.datePattern = ObjectOrItem.datePattern
 item-kind IsItem.dateInterval = ObjectOrItem.dateInterval
 item-kind IsItem.timePattern = ObjectOrItem.timePattern
+item-kind IsItem.durationPattern = ObjectOrItem.durationPattern
 
 -- a record of the table that a reason names
 record Names (bs : List ℕ) (count reason number : ℕ) : Type 0 where
@@ -59,6 +60,7 @@ item-named (SaysLeaf.string (SaysStrings.string h w s)) = (refl, record { kind =
 item-named (SaysLeaf.datePattern h) = (refl, record { kind = 6; named = h .kind; item = IsItem.datePattern })
 item-named (SaysLeaf.dateInterval (SaysDates.dateInterval h s)) = (refl, record { kind = 7; named = h .kind; item = IsItem.dateInterval })
 item-named (SaysLeaf.timePattern h) = (refl, record { kind = 8; named = h .kind; item = IsItem.timePattern })
+item-named (SaysLeaf.durationPattern h) = (refl, record { kind = 9; named = h .kind; item = IsItem.durationPattern })
 
 reason-item : {bs : List ℕ} {n r : ℕ} {l : Leaf} {c : Content} → LeafFails l c r → (i : Item bs n)
     → ReasonRow r (i .kind)

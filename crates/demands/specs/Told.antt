@@ -1,5 +1,5 @@
 -- What the jobs tell, each by the table of numbers (crates/refusals/specs/Numbers.antt): a refusal has a row of it, with its number, and a place of the sort that the row names, in what the job was
--- given. Document 01, 'Numbers of refusal'. Assumes nothing.
+-- given. Document 01, 'Numbers of refusal'; document 02, 1: "New kind 9". Assumes nothing.
 use mathlib.Core.List.{List}
 use Prim.Native.Nat.{ℕ, _≤_, _<_}
 use lib.ListN.{length}
@@ -61,6 +61,7 @@ pub data IsItem : ℕ → Type 0 where
   datePattern : IsItem 6
   dateInterval : IsItem 7
   timePattern : IsItem 8
+  durationPattern : IsItem 9
 
 -- 20 to 24, and the kind of the record that is named
 pub data ReasonRow : (reason kind : ℕ) → Type 0 where

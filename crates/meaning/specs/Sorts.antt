@@ -1,6 +1,6 @@
 -- What belongs to each sort of leaf, a row for each: the kind of its records, its flags or how its ends stand in a record, and how it reads a word. Document 01, 'Table', the table
--- of kinds; 'Meaning': "Lists admit a value in some item; a date interval admits full dates only. Patterns: lettered parts must be there, `??` may, `XX` may not .. the zone is free"; document 02, 1: "A value is admitted when each slot it fills is in
--- the pattern .. New kind 9; .. the flag is 1 to 127".
+-- of kinds; 'Meaning': "Lists admit a value in some item; a date interval admits full dates only. Patterns: lettered parts must be there, `??` may, `XX` may not .. the zone is free";
+-- document 02, 1: "A value is admitted when each slot it fills is in the pattern .. New kind 9; .. the flag is 1 to 127".
 -- Assumes nothing.
 use mathlib.Core.Bool.{Bool, false, _&&_, _||_}
 use mathlib.Core.List.{List, [], _∷_}
@@ -37,7 +37,8 @@ singleRow booleans = record { kind = 3; greatest = 3; under = λ flag w. try (bo
 singleRow datePattern =
     record { kind = 6; greatest = 5; under = λ flag w. try (dateOf w) (λ d. fitsDate flag (d .parts)) }
 singleRow timePattern = record { kind = 8; greatest = 4; under = λ flag w. try (timeOf w) (fitsTime flag) }
-singleRow durationPattern = record { kind = 9; greatest = 127; under = λ flag w. try (durationOf w) (fitsDuration flag) }
+singleRow durationPattern =
+    record { kind = 9; greatest = 127; under = λ flag w. try (durationOf w) (fitsDuration flag) }
 
 -- the kind of its records, an end as a record has it, which is also the way back, and how a word stands to the items
 pub record RangeRow : Type 0 where

@@ -83,7 +83,7 @@ only-rule kind k = (among-all (Only kind) k (kind ∷ []) (Only.only, tt), λ o.
 value-kinds : All ObjectOrItem (1 ∷ items)
 value-kinds = (
   ObjectOrItem.object,
-  (ObjectOrItem.boolean, (ObjectOrItem.integer, (ObjectOrItem.string, (ObjectOrItem.datePattern, (ObjectOrItem.dateInterval, (ObjectOrItem.timePattern, tt)))))),
+  (ObjectOrItem.boolean, (ObjectOrItem.integer, (ObjectOrItem.string, (ObjectOrItem.datePattern, (ObjectOrItem.dateInterval, (ObjectOrItem.timePattern, (ObjectOrItem.durationPattern, tt))))))),
 )
 
 pub value-rule : (k : ℕ) → (among k (1 ∷ items) ≡ true) ↔ ObjectOrItem k
@@ -97,6 +97,7 @@ value-rule k = (among-all ObjectOrItem k (1 ∷ items) value-kinds, λ o. is o)
     is ObjectOrItem.datePattern = refl
     is ObjectOrItem.dateInterval = refl
     is ObjectOrItem.timePattern = refl
+    is ObjectOrItem.durationPattern = refl
 
 -- where the other fields are 0, each passes that test
 nought-at : (us : List Use) (xs : List ℕ) (i : ℕ) → restNought us xs ≡ true → i < length us → i < length xs

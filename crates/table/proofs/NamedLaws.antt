@@ -63,6 +63,7 @@ module _ {bs : List ℕ} {count pool root : ℕ} (t : IsTable bs count pool root
   part-there (IsRecord.datePattern h a b) l f = held-none h (lit< tt) l refl f
   part-there (IsRecord.dateInterval h a b o e) l f = held-none h (lit< tt) l refl f
   part-there (IsRecord.timePattern h a b) l f = held-none h (lit< tt) l refl f
+  part-there (IsRecord.durationPattern h a b) l f = held-none h (lit< tt) l refl f
 
   -- a record that has a name is one of the table's, and has the part that is handed out
   named-there : (n : ℕ) → holdsName (imageOf bs) n ≡ true

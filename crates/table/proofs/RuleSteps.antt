@@ -50,11 +50,12 @@ module _ (kind flag : ℕ) where
   flag-of k x h e = rw h e
 
   pub flag-of-none : (kind ≡ 0 → ⊥) → (kind ≡ 1 → ⊥) → (kind ≡ 2 → ⊥) → (kind ≡ 3 → ⊥) → (kind ≡ 4 → ⊥) → (kind ≡ 5 → ⊥)
-      → (kind ≡ 6 → ⊥) → (kind ≡ 7 → ⊥) → (kind ≡ 8 → ⊥)
+      → (kind ≡ 6 → ⊥) → (kind ≡ 7 → ⊥) → (kind ≡ 8 → ⊥) → (kind ≡ 9 → ⊥)
       → false ≡ flagRight kind flag
   unfolding shapeOf
-  flag-of-none h0 h1 h2 h3 h4 h5 h6 h7 h8 =
-      let l = next 8 kind (next 7 kind (next 6 kind (next 5 kind (next 4 kind (next 3 kind (next 2 kind (next 1 kind (next 0 kind zero≤ h0) h1) h2) h3) h4) h5) h6) h7) h8 in
+  flag-of-none h0 h1 h2 h3 h4 h5 h6 h7 h8 h9 =
+      let l5 = next 4 kind (next 3 kind (next 2 kind (next 1 kind (next 0 kind zero≤ h0) h1) h2) h3) h4 in
+      let l = next 9 kind (next 8 kind (next 7 kind (next 6 kind (next 5 kind l5 h5) h6) h7) h8) h9 in
       let e : getD shapes kind tableHeader ≡ tableHeader = List·getD-eq-default shapes tableHeader {n = kind} l in
       rw e
 

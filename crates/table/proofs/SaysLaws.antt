@@ -208,6 +208,7 @@ module _ {bs : List ℕ} {count pool root : ℕ} (t : IsTable bs count pool root
   leaf-only (SaysLeaf.datePattern h) k = node-held h (lit< tt) k
   leaf-only (SaysLeaf.dateInterval s) k = dates-only s k
   leaf-only (SaysLeaf.timePattern h) k = node-held h (lit< tt) k
+  leaf-only (SaysLeaf.durationPattern h) k = node-held h (lit< tt) k
 
   -- and so it is with objects, attributes and values
   mutual
@@ -269,6 +270,7 @@ module _ {bs : List ℕ} {count pool root : ℕ} (t : IsTable bs count pool root
     value-there (Link.leads a b h ObjectOrItem.datePattern) = leaf-value (leaf-there h a b refl)
     value-there (Link.leads a b h ObjectOrItem.dateInterval) = leaf-value (leaf-there h a b refl)
     value-there (Link.leads a b h ObjectOrItem.timePattern) = leaf-value (leaf-there h a b refl)
+    value-there (Link.leads a b h ObjectOrItem.durationPattern) = leaf-value (leaf-there h a b refl)
 
     integers-there : {x : ℕ} → Link bs count n (Only 4) x → SaysIntegers bs x (itemsIn rangesOf (treeAt (imageOf bs) x))
     unfolding treeAt shapeOf
@@ -299,6 +301,7 @@ module _ {bs : List ℕ} {count pool root : ℕ} (t : IsTable bs count pool root
     record-there (IsRecord.datePattern h a b) k = rw (node-held h (lit< tt) k) (SaysLeaf.datePattern h)
     record-there (IsRecord.dateInterval h a b o l) k = rw (node-held h (lit< tt) k) (SaysLeaf.dateInterval (SaysDates.dateInterval h (dates-there l)))
     record-there (IsRecord.timePattern h a b) k = rw (node-held h (lit< tt) k) (SaysLeaf.timePattern h)
+    record-there (IsRecord.durationPattern h a b) k = rw (node-held h (lit< tt) k) (SaysLeaf.durationPattern h)
 
   -- so every record says its tree, from the last one down
   tree-there : (more n : ℕ) → count ≤ n + more → n < count → SaysTree bs count n (treeAt (imageOf bs) n)

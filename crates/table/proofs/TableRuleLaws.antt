@@ -19,7 +19,7 @@ use Rattle.refusals.specs.Limits.{nameLimit, codeLimit, stringLimit}
 use Rattle.refusals.specs.Refusals.{refusal}
 use Rattle.refusals.specs.declared.Refusal.{Refusal}
 use Rattle.refusals.specs.declared.Cause.the-variants.{BrokenRecord}
-use Rattle.meaning.specs.Constraints.{SingleSort, booleans, datePattern, timePattern, integers, dates}
+use Rattle.meaning.specs.Constraints.{SingleSort, booleans, datePattern, timePattern, durationPattern, integers, dates}
 use Rattle.meaning.specs.Sorts.{singleRow}
 use Rattle.table.specs.Records.{Record, recordSize, fieldCount, isMarked, isLittle, make, field, header, decodes, imageOf, recordIn}
 use Rattle.table.specs.Rows.{Shape, shapeOf, items, unnamed, place, link, rowFor}
@@ -186,6 +186,7 @@ module _ (bs : List ℕ) (count pool root n : ℕ) (f : IsFrame bs count pool ro
   record-right (IsRecord.dateInterval h a b k l) =
       right-by h refl (dates-are a b k, (refl, (refl, (refl, (link-is (7 ∷ []) (only-rule 7) 0 l, tt))))) refl
   record-right (IsRecord.timePattern {flag = g} h k o) = right-by h (rw (le-leb 1 g k, le-leb g 4 o)) (refl, (refl, (refl, (refl, (refl, tt))))) refl
+  record-right (IsRecord.durationPattern {flag = g} h k o) = right-by h (rw (le-leb 1 g k, le-leb g 127 o)) (refl, (refl, (refl, (refl, (refl, tt))))) refl
 
   module _ (little : Bool) (h : Holds bs n little (recordIn bs n)) where
     -- the record read, made of its parts, is held
@@ -226,6 +227,7 @@ module _ (bs : List ℕ) (count pool root n : ℕ) (f : IsFrame bs count pool ro
     right-record (Shape.single booleans) k = IsRecord.boolean (single-held booleans k) (k .least) (k .most)
     right-record (Shape.single datePattern) k = IsRecord.datePattern (single-held datePattern k) (k .least) (k .most)
     right-record (Shape.single timePattern) k = IsRecord.timePattern (single-held timePattern k) (k .least) (k .most)
+    right-record (Shape.single durationPattern) k = IsRecord.durationPattern (single-held durationPattern k) (k .least) (k .most)
     right-record (Shape.range integers) k =
         let p = integers-right (field (recordIn bs n) 0) (field (recordIn bs n) 1) (unfold fieldRight in k .named 0 (omega arith)) in
         IsRecord.integer (held (k .kind) (omega (arith, k .most)) refl refl (nought k 2 (omega arith) refl) (nought k 3 (omega arith) refl) refl)

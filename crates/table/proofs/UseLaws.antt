@@ -16,7 +16,7 @@ use Rattle.values.specs.Calendar.{real}
 use Rattle.values.proofs.CalendarLaws.{real-last}
 use Rattle.values.proofs.Common.{below}
 use Rattle.refusals.specs.Limits.{recordLimit, poolLimit}
-use Rattle.meaning.specs.Constraints.{booleans, datePattern, timePattern, RangeSort, integers, dates}
+use Rattle.meaning.specs.Constraints.{booleans, datePattern, timePattern, durationPattern, RangeSort, integers, dates}
 use Rattle.table.specs.Records.{Image, fieldCount, count}
 use Rattle.table.specs.Rows.{Shape, tableHeader, object, attribute, text, single, range, shapes, shapeOf, kindOf, isKnown, isItem, kindsFrom, items, Use, unnamed, place, length, link, low, high, noneNamed, rowFor}
 use Rattle.table.specs.Check.{kindAt, pairRight, fieldRight, fieldsRight, isNought, restNought}
@@ -132,6 +132,7 @@ shape-kind text = refl
 shape-kind (single booleans) = refl
 shape-kind (single datePattern) = refl
 shape-kind (single timePattern) = refl
+shape-kind (single durationPattern) = refl
 shape-kind (range integers) = refl
 shape-kind (range dates) = refl
 

@@ -9,7 +9,7 @@ use lib.ListN.{length, getD, take, drop, List·getD-append}
 use lib.Seq.{drop-drop, getD-drop}
 use Rattle.lexis.proofs.Cases.{and-left, and-right}
 use Rattle.values.proofs.Common.{le-right}
-use Rattle.meaning.specs.Constraints.{booleans, datePattern, timePattern, integers, dates}
+use Rattle.meaning.specs.Constraints.{booleans, datePattern, timePattern, durationPattern, integers, dates}
 use Rattle.table.specs.Order.{put}
 use Rattle.table.specs.Records.{Record, Image, recordSize, numberSize, isLittle, isMarked, decode, putAll, encode, count, headerOf, encodes, recordIn, bytesOf}
 use Rattle.table.specs.Rows.{Shape, tableHeader, object, attribute, text, single, range, shapeOf, kindOf, isKnown, rowFor}
@@ -105,6 +105,7 @@ shape-small text = omega arith
 shape-small (single booleans) = omega arith
 shape-small (single datePattern) = omega arith
 shape-small (single timePattern) = omega arith
+shape-small (single durationPattern) = omega arith
 shape-small (range integers) = omega arith
 shape-small (range dates) = omega arith
 

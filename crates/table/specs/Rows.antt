@@ -1,5 +1,5 @@
 -- What each kind's flag and fields are: document 01, 'Table', the table of kinds, and "A field not named is 0", "Lengths: type and name 1..63, code 0..31, string
--- 0..255", "Every link is .. of the kind it needs (`e` of items: same kind)". Assumes nothing.
+-- 0..255", "Every link is .. of the kind it needs (`e` of items: same kind)"; document 02, 1: "New kind 9; .. the flag is 1 to 127". Assumes nothing.
 use mathlib.Core.Bool.{Bool, true, false, cond}
 use mathlib.Core.List.{List, [], _∷_}
 use Prim.Native.Nat.{ℕ, suc}

@@ -1,5 +1,5 @@
 -- What a record of a table says, as rules: its links are followed by number. Document 01, 'Table', the table of kinds; "Asked for a name (an object's type, an attribute's name, a string item)
--- by record number, the build hands out the part of the pool itself". Proved one with objectAt, treeAt, nameAnswer. Assumes nothing.
+-- by record number, the build hands out the part of the pool itself"; document 02, 1: "New kind 9". Proved one with objectAt, treeAt, nameAnswer. Assumes nothing.
 use mathlib.Core.Path.{_≡_}
 use mathlib.Core.Bool.{Bool}
 use mathlib.Core.List.{List, [], _∷_}
@@ -54,6 +54,8 @@ pub data SaysLeaf (bs : List ℕ) (count n : ℕ) : Leaf → Type 0 where
   dateInterval : {x : Range} {l : List Range} → SaysDates bs n (x ∷ l) → SaysLeaf bs count n (ranges dates (x ∷ l))
   timePattern : {flag : ℕ} {little : Bool} → Holds bs n little (make 8 flag [])
       → SaysLeaf bs count n (single Constraints.timePattern n flag)
+  durationPattern : {flag : ℕ} {little : Bool} → Holds bs n little (make 9 flag [])
+      → SaysLeaf bs count n (single Constraints.durationPattern n flag)
 
 mutual
   -- "a,b type place and length; c,d code; e first attribute or 0 for `*`"

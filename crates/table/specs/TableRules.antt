@@ -1,6 +1,7 @@
 -- What a table is, as rules, read from the bytes. Document 01, 'Table': "Records of 24 bytes, number 0 first, then the name pool; length exactly 24 × count + pool. Each record: a two-byte mark
 -- (C0 AD: numbers big-endian; AD C0: little-endian, per record), kind, flag, five 32-bit numbers a b c d e. A field not named is 0", the table of kinds, and the rules behind it;
--- 'Numbers of refusal', 12: "not a table: length, header, root", 13: "record breaks a rule", at the "lowest such record"; "12 comes before 13". Proved one with tableFault, framed, obeys, decode, recordIn. Assumes nothing.
+-- 'Numbers of refusal', 12: "not a table: length, header, root", 13: "record breaks a rule", at the "lowest such record"; "12 comes before 13"; document 02, 1: "New kind 9; flag bits 0 to 6 are y m w d h m s,
+-- and the flag is 1 to 127". Proved one with tableFault, framed, obeys, decode, recordIn. Assumes nothing.
 use mathlib.Core.Path.{_≡_}
 use mathlib.Core.Bool.{Bool, true, false}
 use mathlib.Core.List.{List, [], _∷_}
@@ -79,6 +80,7 @@ pub data ObjectOrItem : ℕ → Type 0 where
   datePattern : ObjectOrItem 6
   dateInterval : ObjectOrItem 7
   timePattern : ObjectOrItem 8
+  durationPattern : ObjectOrItem 9
 
 -- a 32-bit number in two's complement, and the integer that it stands for as its distance from -2,147,483,648
 pub data TwosComplement : (bits distance : ℕ) → Type 0 where
@@ -122,6 +124,8 @@ pub data IsRecord (bs : List ℕ) (count pool n : ℕ) : Type 0 where
       → Link bs count n (Only 7) e
       → IsRecord bs count pool n
   timePattern : {little : Bool} {flag : ℕ} → Holds bs n little (make 8 flag []) → 1 ≤ flag → flag ≤ 4
+      → IsRecord bs count pool n
+  durationPattern : {little : Bool} {flag : ℕ} → Holds bs n little (make 9 flag []) → 1 ≤ flag → flag ≤ 127
       → IsRecord bs count pool n
 
 -- a table: its frame, and every record behind the header obeys its rules

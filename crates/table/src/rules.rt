@@ -50,7 +50,12 @@ fn flag_right(kind: u8, flag: u8) -> bool
             1..=4 => true,
             5..=255 => false,
         },
-        9..=255 => false,
+        9 => match flag {
+            0 => false,
+            1..=127 => true,
+            128..=255 => false,
+        },
+        10..=255 => false,
     }
 }
 
@@ -114,8 +119,8 @@ fn is_value(kind: u8) -> bool
         0 => false,
         1 => true,
         2 => false,
-        3..=8 => true,
-        9..=255 => false,
+        3..=9 => true,
+        10..=255 => false,
     }
 }
 

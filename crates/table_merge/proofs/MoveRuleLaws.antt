@@ -45,6 +45,7 @@ moves-is (Moves.string p l) = rw (place-is p, link-is l)
 moves-is Moves.datePattern = refl
 moves-is (Moves.dateInterval l) = rw (link-is l)
 moves-is Moves.timePattern = refl
+moves-is Moves.durationPattern = refl
 
 -- a record that obeys the rules of its kind is held, and moves
 pub record Held (records pool : ℕ) (bs : List ℕ) (n : ℕ) : Type 0 where
@@ -67,6 +68,7 @@ module _ (s p : ℕ) {bs : List ℕ} {n : ℕ} where
   record-held (IsRecord.datePattern h i j) = held h Moves.datePattern
   record-held (IsRecord.dateInterval {e = e} h i j k l) = held h (Moves.dateInterval (link-moves s e))
   record-held (IsRecord.timePattern h i j) = held h Moves.timePattern
+  record-held (IsRecord.durationPattern h i j) = held h Moves.durationPattern
 
   -- so the one that is held moves
   pub holds-moves : {count pool : ℕ} → IsRecord bs count pool n → (order : Bool) (r : Record) → Holds bs n order r

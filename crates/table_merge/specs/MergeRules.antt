@@ -1,7 +1,7 @@
 -- What merging writes and when it refuses, as rules. Document 01, 'Table': "Merging writes all in the order asked: first table's records keep their numbers, the second's gain first count − 1;
 -- links other than 0 move so, pool places of length above 0 gain the first pool's bytes. Header: counts summed less one, pools summed, first root. Both shifts are reported"; 'Numbers of
 -- refusal': "Merge: first table, second, 8, 10, 11, naming the table for 12 and 13", 8 at 0: "merged count above 2,048", 10 at 0: "pool above 16,384", 11 at the needed length: "output too
--- short". Proved one with mergeAnswer, mergeOutcome, join, afterStep. Assumes nothing.
+-- short"; document 02, 1: "New kind 9", which names no field, so that nothing in it moves. Proved one with mergeAnswer, mergeOutcome, join, afterStep. Assumes nothing.
 use mathlib.Core.Path.{_≡_}
 use mathlib.Core.Logic.{_≢_}
 use mathlib.Core.Bool.{Bool, true, false}
@@ -48,6 +48,7 @@ pub data Moves (records pool : ℕ) : (r moved : Record) → Type 0 where
   dateInterval : {a b e e' : ℕ} → LinkMoves records e e'
       → Moves records pool (make 7 0 (a ∷ b ∷ 0 ∷ 0 ∷ e ∷ [])) (make 7 0 (a ∷ b ∷ 0 ∷ 0 ∷ e' ∷ []))
   timePattern : {flag : ℕ} → Moves records pool (make 8 flag []) (make 8 flag [])
+  durationPattern : {flag : ℕ} → Moves records pool (make 9 flag []) (make 9 flag [])
 
 -- what two tables say of themselves, and what is made of it: the count, the bytes of the pool, and the length
 pub record Sizes : Type 0 where
