@@ -15,18 +15,21 @@ use Rattle.values.proofs.Common.{by-order}
 use Rattle.values.specs.Integers.{integerOf}
 use Rattle.values.specs.Dates.{dateOf}
 use Rattle.values.specs.Times.{timeOf}
-use Rattle.values.specs.Patterns.{fitsDate, fitsTime}
+use Rattle.values.specs.Durations.{durationOf}
+use Rattle.values.specs.Patterns.{fitsDate, fitsTime, fitsDuration}
 use Rattle.values.specs.Words.{booleanOf}
-use Rattle.values.specs.contracts.Answers.{booleanAnswer, integerAnswer, dateAnswer, timeAnswer}
+use Rattle.values.specs.contracts.Answers.{booleanAnswer, integerAnswer, dateAnswer, timeAnswer, durationAnswer}
 use Rattle.values.specs.declared.integers.Number.{Number}
 use Rattle.values.specs.declared.integers.Number.the-variants as number
 use Rattle.values.specs.declared.dates.Day.{Day}
 use Rattle.values.specs.declared.dates.Day.the-variants as day
 use Rattle.values.specs.declared.times.Parts.{Parts}
 use Rattle.values.specs.declared.times.Parts.the-variants as parts
+use Rattle.values.specs.declared.durations.Duration.{Duration}
+use Rattle.values.specs.declared.durations.Duration.the-variants as duration
 use Rattle.values.specs.declared.words.Boolean.{Boolean}
 use Rattle.values.specs.declared.words.Boolean.the-variants as boolean
-use Rattle.meaning.specs.Constraints.{RangeSort, integers, dates, SingleSort, booleans, datePattern, timePattern, Range, single, ranges}
+use Rattle.meaning.specs.Constraints.{RangeSort, integers, dates, SingleSort, booleans, datePattern, timePattern, durationPattern, Range, single, ranges}
 use Rattle.meaning.specs.Findings.{Finding, unsuited, refuted, admitted, found, try}
 use Rattle.meaning.specs.Sorts.{inRange, inSome, singleRow, rangeRow, textKind}
 use Rattle.meaning.specs.Admission.{isSome, wordUnder, stringUnder}
@@ -272,6 +275,17 @@ module _ (w : List ℕ) (flag : ℕ) (a : Parts) (q : timeAnswer a ≡ timeOf w)
   unfolding wordUnder
   time-fits n r f h e g = try-some timeAnswer a _ _ q (parts.Value n) n f h refl (g ∙ ap found e)
 
+-- a word under a Duration pattern
+module _ (w : List ℕ) (flag : ℕ) (a : Duration) (q : durationAnswer a ≡ durationOf w) where
+  pub duration-none : a ≡ duration.Nothing → unsuited ≡ wordUnder (single durationPattern 0 flag) w
+  unfolding wordUnder
+  duration-none h = try-none durationAnswer a _ _ q duration.Nothing h refl
+
+  pub duration-fits : (n : ℕ) (r : Bool) (f : Finding) → a ≡ duration.Value n → r ≡ fitsDuration flag n → f ≡ found r
+      → f ≡ wordUnder (single durationPattern 0 flag) w
+  unfolding wordUnder
+  duration-fits n r f h e g = try-some durationAnswer a _ _ q (duration.Value n) n f h refl (g ∙ ap found e)
+
 -- a string under the leaf of another shape than a string's, and a word under what is no leaf's
 module _ (records pool w : List ℕ) (n : ℕ) where
   string-other : (k : ℕ) → (k ≡ textKind → ⊥) → unsuited ≡ findingUnder (leafOfShape records pool n (shapeOf k)) true w
@@ -288,8 +302,8 @@ module _ (records pool w : List ℕ) (n : ℕ) where
       by (range sort) e = refl
 
   word-none : (k : ℕ) → (k ≡ 3 → ⊥) → (k ≡ 4 → ⊥) → (k ≡ 5 → ⊥) → (k ≡ 6 → ⊥) → (k ≡ 7 → ⊥) → (k ≡ 8 → ⊥)
-      → unsuited ≡ findingUnder (leafOfShape records pool n (shapeOf k)) false w
-  word-none k h3 h4 h5 h6 h7 h8 = by (shapeOf k) (kind-shape k)
+      → (k ≡ 9 → ⊥) → unsuited ≡ findingUnder (leafOfShape records pool n (shapeOf k)) false w
+  word-none k h3 h4 h5 h6 h7 h8 h9 = by (shapeOf k) (kind-shape k)
     where
       by : (s : Shape) → (isKnown s ≡ true → k ≡ kindOf s)
           → unsuited ≡ findingUnder (leafOfShape records pool n s) false w
@@ -300,6 +314,7 @@ module _ (records pool w : List ℕ) (n : ℕ) where
       by (Rows.single booleans) e = absurd (h3 (e refl))
       by (Rows.single datePattern) e = absurd (h6 (e refl))
       by (Rows.single timePattern) e = absurd (h8 (e refl))
+      by (Rows.single durationPattern) e = absurd (h9 (e refl))
       by (range integers) e = absurd (h4 (e refl))
       by (range dates) e = absurd (h7 (e refl))
 
@@ -328,8 +343,8 @@ module _ (records pool w : List ℕ) (first : ℕ) (e : Entry) (q : recordOf e �
 
   module _ (y : s ≡ false) where
     pub word-not : (e .kind ≡ 3 → ⊥) → (e .kind ≡ 4 → ⊥) → (e .kind ≡ 5 → ⊥) → (e .kind ≡ 6 → ⊥) → (e .kind ≡ 7 → ⊥)
-        → (e .kind ≡ 8 → ⊥) → unsuited ≡ findingUnder (recordLeaf records pool first) s w
-    word-not h3 h4 h5 h6 h7 h8 = shape-read (shapeOf (e .kind)) unsuited refl (rw y (word-none records pool w first (e .kind) h3 h4 h5 h6 h7 h8))
+        → (e .kind ≡ 8 → ⊥) → (e .kind ≡ 9 → ⊥) → unsuited ≡ findingUnder (recordLeaf records pool first) s w
+    word-not h3 h4 h5 h6 h7 h8 h9 = shape-read (shapeOf (e .kind)) unsuited refl (rw y (word-none records pool w first (e .kind) h3 h4 h5 h6 h7 h8 h9))
 
     pub word-string : e .kind ≡ 5 → unsuited ≡ findingUnder (recordLeaf records pool first) s w
     unfolding shapeOf wordUnder
@@ -360,6 +375,11 @@ module _ (records pool w : List ℕ) (first : ℕ) (e : Entry) (q : recordOf e �
         → f ≡ findingUnder (recordLeaf records pool first) s w
     unfolding shapeOf
     word-time-pattern f h g = single-read timePattern f (ap shapeOf h) y g
+
+    pub word-duration-pattern : (f : Finding) → e .kind ≡ 9 → f ≡ wordUnder (single durationPattern 0 (e .flag)) w
+        → f ≡ findingUnder (recordLeaf records pool first) s w
+    unfolding shapeOf
+    word-duration-pattern f h g = single-read durationPattern f (ap shapeOf h) y g
 
 -- an item alone
 found-back : (b : Bool) → isAdmitted (found b) ≡ b
@@ -473,6 +493,6 @@ module _ (records pool : List ℕ) (first : ℕ) (e : Entry) (i : ItemsGood reco
   unfolding shapeOf
   chained-dates h = chained-by 7 refl h
 
-pub ruleset kind-steps = (string-not, string-kind, word-not, word-string, word-integer, word-date, word-boolean, word-date-pattern, word-time-pattern)
+pub ruleset kind-steps = (string-not, string-kind, word-not, word-string, word-integer, word-date, word-boolean, word-date-pattern, word-time-pattern, word-duration-pattern)
 
-pub ruleset value-steps = (boolean-none, boolean-both, boolean-one, integer-none, integer-some, date-none, dates-none, date-fits, date-part, date-some, time-none, time-fits)
+pub ruleset value-steps = (boolean-none, boolean-both, boolean-one, integer-none, integer-some, date-none, dates-none, date-fits, date-part, date-some, time-none, time-fits, duration-none, duration-fits)

@@ -7,10 +7,13 @@ use table::records::RecordNumber;
 use table::records::read;
 use values::dates::Day;
 use values::dates::date_of;
+use values::durations::Duration;
+use values::durations::duration_of;
 use values::integers::Number;
 use values::integers::integer_of;
 use values::integers::twos_complement;
 use values::patterns::fits_date;
+use values::patterns::fits_duration;
 use values::patterns::fits_time;
 use values::times::Parts;
 use values::times::time_of;
@@ -20,7 +23,7 @@ ghost use mathlib.Core.Path.{_≡_};
 ghost use mathlib.Core.List.{[], _∷_};
 ghost use Prim.Native.Nat.{_+_, _*_, _≤_};
 ghost use lib.ListN.{length};
-ghost use Rattle.meaning.specs.Constraints.{booleans, integers, datePattern, dates, timePattern, single, ranges};
+ghost use Rattle.meaning.specs.Constraints.{booleans, integers, datePattern, dates, timePattern, durationPattern, single, ranges};
 ghost use Rattle.meaning.specs.Findings.{found};
 ghost use Rattle.meaning.specs.Sorts.{inRange, inSome, rangeRow};
 ghost use Rattle.meaning.specs.Admission.{isSome, wordUnder};
@@ -191,6 +194,16 @@ fn time_pattern_under(flag: u8, value: &[u8]) -> Admission
     }
 }
 
+// A word under a Duration pattern.
+fn duration_pattern_under(flag: u8, value: &[u8]) -> Admission
+    ensures { λ r. ⌜ findingOf r ≡ wordUnder (single durationPattern 0 flag) (now (value .entry)) ⌝ }
+{
+    match duration_of(value) {
+        Duration::Value(filled) => tried(fits_duration(flag, filled)),
+        Duration::Nothing => Admission::Unsuited,
+    }
+}
+
 // A word lies between the ends of an item of integers.
 fn integer_in(e: Entry, value: &[u8]) -> bool
     ensures { λ r. ⌜ r
@@ -269,6 +282,7 @@ pub fn admit(
         6 => date_pattern_under(e.flag, value),
         7 => date_under(records, first, value),
         8 => time_pattern_under(e.flag, value),
-        9..=255 => Admission::Unsuited,
+        9 => duration_pattern_under(e.flag, value),
+        10..=255 => Admission::Unsuited,
     }
 }

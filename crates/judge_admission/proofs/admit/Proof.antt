@@ -20,6 +20,8 @@ admit-spec =
     (λ c κs. search needs)
     (λ c κs. search chained-dates)
     (λ c κs. search needs)
+    (λ c κs. search needs)
+    (λ c. search (kind-steps, arith))
     (λ c. search (kind-steps, arith))
     (λ c. search (kind-steps, arith))
     (λ c. search (kind-steps, arith))
