@@ -11,7 +11,7 @@ use lib.Seq.{sets}
 use borrow.Author.Tests.{eq-eqb, ne-eqb}
 use Rattle.lexis.specs.Runs.{part}
 use Rattle.lexis.specs.Spelling.{closeBrace, star}
-use Rattle.lexis.specs.Tokens.{tokenAt, typeName}
+use Rattle.lexis.specs.Tokens.{tokenAt, contentTokenAt, typeName}
 use Rattle.lexis.specs.contracts.Answers.{TokenIs}
 use Rattle.lexis.specs.declared.Token.{Token}
 use Rattle.lexis.proofs.Parts.{part-length}
@@ -161,7 +161,7 @@ nested-written little p rs bs (got o at) = refl
 abbrev ValueOf : List ℕ → ℕ → Spot → Reading Value
 ValueOf s levels p = value s levels (p .next) (p .place)
 
-module _ (s : List ℕ) (p : Spot) (t : Token) (tok : TokenIs s (p .place) (tokenAt s (p .place)) t)
+module _ (s : List ℕ) (p : Spot) (t : Token) (tok : TokenIs s (p .place) (contentTokenAt s (p .place)) t)
     (levels top : ℕ) where
   pub value-any : (little : Bool) (names rs bs : List ℕ) → t .sort ≡ star
       → TreeIs top names names (written valueTable valuePool little p rs bs (ValueOf s levels p)) rs bs

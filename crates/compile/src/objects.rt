@@ -14,6 +14,7 @@ use compile_emission::spots::TreeRead;
 use lexis::CLOSE_BRACE;
 use lexis::STAR;
 use lexis::TYPE_NAME;
+use lexis::tokens::content_token_at;
 use lexis::tokens::token_at;
 use refusals::steps::Expected;
 use refusals::steps::expect;
@@ -177,7 +178,7 @@ fn read_value(
         (value (now (s .entry)) levels (p .next) (p .place)))
         (now (records .exit)) (now (bytes .exit)) r ⌝ }
 {
-    let t = token_at(s, p.place);
+    let t = content_token_at(s, p.place);
     if t.sort == STAR {
         return TreeRead::Read(Spot {
             place: t.end,

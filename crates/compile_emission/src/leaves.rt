@@ -11,11 +11,12 @@ use cadl_items::spans::SCRATCH_ROOM;
 use lexis::Token;
 use table::layout::BOOLEAN_KIND;
 use table::layout::DATE_PATTERN_KIND;
+use table::layout::DURATION_PATTERN_KIND;
 use table::layout::POOL_ROOM;
 use table::layout::RECORDS_ROOM;
 use table::layout::TIME_PATTERN_KIND;
 ghost use mathlib.Core.Path.{_≡_};
-ghost use Rattle.lexis.specs.Tokens.{tokenAt};
+ghost use Rattle.lexis.specs.Tokens.{contentTokenAt};
 ghost use Rattle.lexis.specs.contracts.Answers.{TokenIs};
 ghost use Rattle.meaning.specs.Sorts.{singleRow};
 ghost use Rattle.meaning.specs.Counting.{valuePool};
@@ -31,6 +32,7 @@ fn single_kind(sort: SingleSort) -> u8
         SingleSort::Booleans => BOOLEAN_KIND,
         SingleSort::DatePattern => DATE_PATTERN_KIND,
         SingleSort::TimePattern => TIME_PATTERN_KIND,
+        SingleSort::DurationPattern => DURATION_PATTERN_KIND,
     }
 }
 
@@ -44,7 +46,7 @@ pub fn write_leaf(
     bytes: &mut [u8; POOL_ROOM],
 ) -> TreeRead
     requires { ⌜ Room (now s) p ⌝ }
-    requires { ⌜ TokenIs (now s) (p .place) (tokenAt (now s) (p .place)) t ⌝ }
+    requires { ⌜ TokenIs (now s) (p .place) (contentTokenAt (now s) (p .place)) t ⌝ }
     ensures { λ r. ⌜ wrote r (now (records .exit)) (now (bytes .exit))
         ≡ written valueTable valuePool little p (now (records .entry)) (now (bytes .entry))
         (leafValue (now (s .entry)) p) ⌝ }

@@ -49,6 +49,8 @@ pub const DATE_KIND: u8 = 7;
 
 pub const TIME_PATTERN_KIND: u8 = 8;
 
+pub const DURATION_PATTERN_KIND: u8 = 9;
+
 // Bytes of the records and of the pool of the largest table.
 pub const RECORDS_ROOM: usize = RECORD_SIZE * RECORD_LIMIT;
 

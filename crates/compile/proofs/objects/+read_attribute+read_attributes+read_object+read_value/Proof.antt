@@ -27,6 +27,7 @@ use Rattle.compile_emission.proofs.leaves.write_leaf.Reads as write-leaf-reads
 use Rattle.compile.proofs.objects.close_object.Reads as close-object-reads
 use Rattle.cadl_objects.proofs.heads.attribute_head.Reads as attribute-head-reads
 use Rattle.cadl_objects.proofs.heads.object_head.Reads as object-head-reads
+use Rattle.lexis.proofs.tokens.content_token_at.Reads as content-token-at-reads
 use Rattle.lexis.proofs.tokens.token_at.Reads as token-at-reads
 use Rattle.compile.proofs.objects.+read_attribute+read_attributes+read_object+read_value.{
   statement,
@@ -106,7 +107,7 @@ abbrev read-object-calls : ℕ → read-object-lts.Claims
 read-object-calls t = (object-head-reads.Asked, object-head-reads.Learnt, token-at-reads.Asked, token-at-reads.Learnt, open-object-reads.Asked, open-object-reads.Learnt, close-object-reads.Asked, close-object-reads.Learnt, read-attributes-below t, read-attributes.Post)
 
 abbrev read-value-calls : ℕ → read-value-lts.Claims
-read-value-calls t = (token-at-reads.Asked, token-at-reads.Learnt, read-object-below t, read-object.Post, write-leaf-reads.Asked, write-leaf-reads.Learnt)
+read-value-calls t = (content-token-at-reads.Asked, content-token-at-reads.Learnt, read-object-below t, read-object.Post, write-leaf-reads.Asked, write-leaf-reads.Learnt)
 
 read-attribute-attribute-head-requires : (t : ℕ)
     → read-attribute-lts.Need-attribute-head-requires (read-attribute-calls t) (read-attribute-at t) read-attribute.Post
@@ -298,9 +299,9 @@ read-object-returns-3 t c =
     let d = c .read-attributes .ensures in
     search object-attributes
 
-read-value-token-at-requires : (t : ℕ)
-    → read-value-lts.Need-token-at-requires (read-value-calls t) (read-value-at t) read-value.Post
-read-value-token-at-requires t c κs = search needs
+read-value-content-token-at-requires : (t : ℕ)
+    → read-value-lts.Need-content-token-at-requires (read-value-calls t) (read-value-at t) read-value.Post
+read-value-content-token-at-requires t c κs = search needs
 
 read-value-returns : (t : ℕ) → read-value-lts.Need-returns (read-value-calls t) (read-value-at t) read-value.Post
 read-value-returns t c = search value-any
@@ -370,7 +371,7 @@ pub +read-attribute+read-attributes+read-object+read-value-spec : {M : Type 1} �
     (read-object-returns-3 t))
     λ t. read-value-lts.spec (read-value-calls t) (read-value-at t)
     read-value.Post
-    (read-value-token-at-requires t)
+    (read-value-content-token-at-requires t)
     (read-value-returns t)
     (read-value-read-object-requires t)
     (read-value-returns-2 t)
