@@ -17,7 +17,7 @@ use Rattle.lexis.specs.Runs.{past, byteAt, all}
 use Rattle.lexis.specs.SpellingRules.{Digit, Small, Digits, All}
 use Rattle.lexis.specs.SpellingRules
 use Rattle.lexis.specs.Durations.{letterSlot, inEitherCase, letterBehind, digitSlot, Filled, filled, fill, fillAll, noneLeft, behindTime, behindDate, slotsOf, patternSlots}
-use Rattle.lexis.specs.DurationRules.{SlotsInOrder, PSlots, LetterAlone, letterAlone, DigitsAndLetter, SpellsPattern}
+use Rattle.lexis.specs.DurationRules.{SlotsInOrder, SlotsBehindP, LetterAlone, letterAlone, DigitsAndLetter, SpellsPattern}
 use Rattle.lexis.specs.DurationRules
 use Rattle.lexis.proofs.Cases.{by-cond, and-left, and-right}
 use Rattle.lexis.proofs.TestLaws.{true-or-false, false-true, or-cases, or-left, or-right, and-both}
@@ -193,7 +193,7 @@ pub pattern-is : (w : List ℕ) (f : ℕ) → f ≢ 0 → (patternSlots w ≡ f)
 unfolding patternSlots
 pattern-is w f n = slots-is letterSlot LetterAlone letter-reads w f n
 
-pub word-slots-are : (w : List ℕ) (f : ℕ) → f ≢ 0 → (slotsOf digitSlot w ≡ f) ↔ PSlots DigitsAndLetter w f
+pub word-slots-are : (w : List ℕ) (f : ℕ) → f ≢ 0 → (slotsOf digitSlot w ≡ f) ↔ SlotsBehindP DigitsAndLetter w f
 word-slots-are w f n = slots-is digitSlot DigitsAndLetter digit-reads w f n
 
 -- the letters of a flag's bits, from the lowest on, and the pattern that they spell

@@ -16,7 +16,7 @@ use Rattle.lexis.specs.Runs.{past, byteAt, all}
 use Rattle.lexis.specs.SpellingRules.{Digit, Small, Digits}
 use Rattle.lexis.specs.SpellingRules
 use Rattle.lexis.specs.Durations.{letterSlot, inEitherCase, letterBehind, digitSlot, Filled, filled, fill, fillAll, noneLeft, behindTime, behindDate, slotsOf, patternSlots}
-use Rattle.lexis.specs.DurationRules.{SlotsInOrder, PSlots, LetterAlone, letterAlone, DigitsAndLetter}
+use Rattle.lexis.specs.DurationRules.{SlotsInOrder, SlotsBehindP, LetterAlone, letterAlone, DigitsAndLetter}
 use Rattle.lexis.specs.DurationRules
 use Rattle.lexis.proofs.Cases.{by-cond, and-left, and-right}
 use Rattle.lexis.proofs.TestLaws.{true-or-false, false-true, or-cases, or-left, or-right, and-both}
@@ -75,7 +75,7 @@ no-bytes [] h = refl
 no-bytes (b ∷ bs) h = absurd (omega (arith, eqb-true (suc (length bs)) 0 h))
 
 -- one slot at least
-pub slots-some : {Slot : ℕ → List ℕ → Type 0} {w : List ℕ} {f : ℕ} → PSlots Slot w f → f ≢ 0
+pub slots-some : {Slot : ℕ → List ℕ → Type 0} {w : List ℕ} {f : ℕ} → SlotsBehindP Slot w f → f ≢ 0
 slots-some (DurationRules.dates k n) = n
 slots-some (DurationRules.times k l n) = λ z. n (omega arith)
 
@@ -156,14 +156,14 @@ module _ (slot : ℕ → List ℕ → ℕ) (Slot : ℕ → List ℕ → Type 0) 
 
   -- what a walk behind P finds
   date-of : (bs : List ℕ) (f : ℕ) → behindDate slot (fillAll slot 1 (bytes "ymwd") (filled 0 bs)) ≡ f → f ≢ 0
-      → PSlots Slot (byte "P" ∷ bs) f
+      → SlotsBehindP Slot (byte "P" ∷ bs) f
   unfolding behindDate
   date-of bs f e n =
       let x = fillAll slot 1 (bytes "ymwd") (filled 0 bs) in
       let k = walked (bytes "ymwd") 1 (filled 0 bs) in
-      by-cond (λ (m : ℕ). m ≡ f → PSlots Slot (byte "P" ∷ bs) f) (noneLeft x)
+      by-cond (λ (m : ℕ). m ≡ f → SlotsBehindP Slot (byte "P" ∷ bs) f) (noneLeft x)
       (λ h g. alone k (no-bytes (x .rest) h) g)
-      (λ h. by-cond (λ (m : ℕ). m ≡ f → PSlots Slot (byte "P" ∷ bs) f) (eqb (byteAt (x .rest) 0) (byte "T"))
+      (λ h. by-cond (λ (m : ℕ). m ≡ f → SlotsBehindP Slot (byte "P" ∷ bs) f) (eqb (byteAt (x .rest) 0) (byte "T"))
       (λ i g. timed k (first (x .rest) (eqb-true _ _ i)) (time-of (x .flag) (drop 1 (x .rest)) f g n))
       (λ i g. absurd (n (sym g))))
       e
@@ -175,7 +175,7 @@ module _ (slot : ℕ → List ℕ → ℕ) (Slot : ℕ → List ℕ → Type 0) 
       alone : Walked Slot 1 (bytes "ymwd") (filled 0 bs) (fillAll slot 1 (bytes "ymwd") (filled 0 bs))
           → fillAll slot 1 (bytes "ymwd") (filled 0 bs) .rest ≡ []
           → fillAll slot 1 (bytes "ymwd") (filled 0 bs) .flag ≡ f
-          → PSlots Slot (byte "P" ∷ bs) f
+          → SlotsBehindP Slot (byte "P" ∷ bs) f
       alone k r g =
           let s = k .sum in
           let w : bs ≡ k .word = rw (r, append-nil (k .word)) at (k .rest) in
@@ -187,21 +187,21 @@ module _ (slot : ℕ → List ℕ → ℕ) (Slot : ℕ → List ℕ → Type 0) 
             ≡ byte "T" ∷ drop 1 (fillAll slot 1 (bytes "ymwd") (filled 0 bs) .rest)
           → (time : ℕ) × SlotsInOrder Slot 16 (bytes "hms") (drop 1 (fillAll slot 1 (bytes "ymwd") (filled 0 bs) .rest)) time
             × (time ≢ 0) × (f ≡ fillAll slot 1 (bytes "ymwd") (filled 0 bs) .flag + time)
-          → PSlots Slot (byte "P" ∷ bs) f
+          → SlotsBehindP Slot (byte "P" ∷ bs) f
       timed k r (time, slots, m, g) =
           let s = k .sum in
           let w : bs ≡ k .word ++ (byte "T" ∷ drop 1 (fillAll slot 1 (bytes "ymwd") (filled 0 bs) .rest)) =
               k .rest ∙ ap (λ (l : List ℕ). k .word ++ l) r in
           let z : f ≡ k .flag + time = omega arith in
-          subst (λ (l : List ℕ). PSlots Slot (byte "P" ∷ l) f) (sym w) (rw z (DurationRules.times (k .slots) slots m))
+          subst (λ (l : List ℕ). SlotsBehindP Slot (byte "P" ∷ l) f) (sym w) (rw z (DurationRules.times (k .slots) slots m))
 
   -- the walk finds what the rules say
-  found-slots : (w : List ℕ) (f : ℕ) → slotsOf slot w ≡ f → f ≢ 0 → PSlots Slot w f
+  found-slots : (w : List ℕ) (f : ℕ) → slotsOf slot w ≡ f → f ≢ 0 → SlotsBehindP Slot w f
   unfolding slotsOf
   found-slots [] f e n = absurd (n (sym e))
   found-slots (b ∷ bs) f e n =
-      by-cond (λ (m : ℕ). m ≡ f → PSlots Slot (b ∷ bs) f) (eqb b (byte "P"))
-      (λ h g. subst (λ (i : ℕ). PSlots Slot (i ∷ bs) f) (sym (eqb-true b (byte "P") h)) (date-of bs f g n))
+      by-cond (λ (m : ℕ). m ≡ f → SlotsBehindP Slot (b ∷ bs) f) (eqb b (byte "P"))
+      (λ h g. subst (λ (i : ℕ). SlotsBehindP Slot (i ∷ bs) f) (sym (eqb-true b (byte "P") h)) (date-of bs f g n))
       (λ h g. absurd (n (sym g)))
       e
 
@@ -213,7 +213,7 @@ module _ (slot : ℕ → List ℕ → ℕ) (Slot : ℕ → List ℕ → Type 0) 
   slots-time date time w v g e n = rw (e, eqb·suc-zero (length v), g, le-leb 1 time (omega arith)) refl
 
   -- what the rules say, the walk finds
-  slots-found : {w : List ℕ} {f : ℕ} → PSlots Slot w f → slotsOf slot w ≡ f
+  slots-found : {w : List ℕ} {f : ℕ} → SlotsBehindP Slot w f → slotsOf slot w ≡ f
   unfolding slotsOf behindDate behindTime
   slots-found (DurationRules.dates {w = w} {flag = flag} k n) =
       let e = from-start [] date-letters ended k in
@@ -223,5 +223,5 @@ module _ (slot : ℕ → List ℕ → ℕ) (Slot : ℕ → List ℕ → Type 0) 
       let g = from-start [] time-letters ended l in
       slots-time date time w v (rw append-nil at g) e n
 
-  pub slots-is : (w : List ℕ) (f : ℕ) → f ≢ 0 → (slotsOf slot w ≡ f) ↔ PSlots Slot w f
+  pub slots-is : (w : List ℕ) (f : ℕ) → f ≢ 0 → (slotsOf slot w ≡ f) ↔ SlotsBehindP Slot w f
   slots-is w f n = (λ e. found-slots w f e n, slots-found)

@@ -18,11 +18,14 @@ pub data SlotsInOrder (Slot : ℕ → List ℕ → Type 0) : (bit : ℕ) → Lis
       → SlotsInOrder Slot bit (letter ∷ letters) (v ++ w) (bit + flag)
 
 -- P and slots, one at least, and T only with a slot behind it
-pub data PSlots (Slot : ℕ → List ℕ → Type 0) : List ℕ → (flag : ℕ) → Type 0 where
+pub data SlotsBehindP (Slot : ℕ → List ℕ → Type 0) : List ℕ → (flag : ℕ) → Type 0 where
   dates : {w : List ℕ} {flag : ℕ} → SlotsInOrder Slot 1 (bytes "ymwd") w flag → flag ≢ 0
-      → PSlots Slot (byte "P" ∷ w) flag
-  times : {w v : List ℕ} {date time : ℕ} → SlotsInOrder Slot 1 (bytes "ymwd") w date
-      → SlotsInOrder Slot 16 (bytes "hms") v time → time ≢ 0 → PSlots Slot (byte "P" ∷ (w ++ (byte "T" ∷ v))) (date + time)
+      → SlotsBehindP Slot (byte "P" ∷ w) flag
+  times : {w v : List ℕ} {date time : ℕ}
+      → SlotsInOrder Slot 1 (bytes "ymwd") w date
+      → SlotsInOrder Slot 16 (bytes "hms") v time
+      → time ≢ 0
+      → SlotsBehindP Slot (byte "P" ∷ (w ++ (byte "T" ∷ v))) (date + time)
 
 -- in a pattern a slot is its letter
 pub data LetterAlone (letter : ℕ) : List ℕ → Type 0 where
@@ -35,4 +38,4 @@ pub data DigitsAndLetter (letter : ℕ) : List ℕ → Type 0 where
 
 -- the Duration pattern with these slots
 abbrev pub SpellsPattern : List ℕ → (flag : ℕ) → Type 0
-SpellsPattern = PSlots LetterAlone
+SpellsPattern = SlotsBehindP LetterAlone

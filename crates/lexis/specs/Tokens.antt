@@ -128,4 +128,5 @@ unfoldable pub contentTokenAt : List ℕ → ℕ → Token
 contentTokenAt s from =
     let t = tokenAt s from in
     let flag = durationFlag s t in
-    cond (leb 1 flag && eqb (tokenAt s (t .end) .sort) closeBrace) (token (durationPattern + flag) (t .start) (t .end)) t
+    cond (leb 1 flag && eqb (tokenAt s (t .end) .sort) closeBrace)
+    (token (durationPattern + flag) (t .start) (t .end)) t

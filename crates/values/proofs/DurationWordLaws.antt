@@ -10,7 +10,7 @@ use lib.Dec.{eqb}
 use borrow.Author.Tests.{eqb-true, eqb-false, eq-eqb, ne-eqb}
 use Rattle.lexis.specs.Text.{byte}
 use Rattle.lexis.specs.Durations.{digitSlot, slotsOf}
-use Rattle.lexis.specs.DurationRules.{PSlots, DigitsAndLetter}
+use Rattle.lexis.specs.DurationRules.{SlotsBehindP, DigitsAndLetter}
 use Rattle.lexis.specs.DurationRules
 use Rattle.lexis.proofs.Cases.{by-cond}
 use Rattle.lexis.proofs.SlotLaws.{slots-some}
@@ -21,7 +21,7 @@ use Rattle.values.specs.WordRules
 use Rattle.values.proofs.Common.{Each, none-each, some-each}
 
 -- slots, if there are any
-slots-by : (P : ℕ → Type 0) (w : List ℕ) → ((f : ℕ) → PSlots DigitsAndLetter w f → P f)
+slots-by : (P : ℕ → Type 0) (w : List ℕ) → ((f : ℕ) → SlotsBehindP DigitsAndLetter w f → P f)
     → Each P (slotsIf (slotsOf digitSlot w))
 slots-by P w g =
     by-cond (Each P) (eqb (slotsOf digitSlot w) 0)
@@ -36,7 +36,7 @@ duration-by (b ∷ w) =
     (λ e. slots-by (IsDuration (b ∷ w)) w (λ f h. subst (λ (c : ℕ). IsDuration (c ∷ w) f) (sym (eqb-true b (byte "-") e)) (WordRules.signed h)))
     (λ e. slots-by (IsDuration (b ∷ w)) (b ∷ w) (λ f h. WordRules.unsigned h))
 
-slots-of : {w : List ℕ} {f : ℕ} → PSlots DigitsAndLetter w f → slotsIf (slotsOf digitSlot w) ≡ some f
+slots-of : {w : List ℕ} {f : ℕ} → SlotsBehindP DigitsAndLetter w f → slotsIf (slotsOf digitSlot w) ≡ some f
 slots-of {w} {f} h = let n = slots-some h in rw (word-slots-are w f n .1 h, ne-eqb f 0 n) refl
 
 duration-of : {w : List ℕ} {f : ℕ} → IsDuration w f → durationOf w ≡ some f

@@ -8,7 +8,7 @@ use lib.ListN.{length, length-append}
 use Rattle.lexis.specs.Text.{byte}
 use Rattle.lexis.specs.Bytes.{is, digit}
 use Rattle.lexis.specs.Runs.{all}
-use Rattle.lexis.specs.DurationRules.{SlotsInOrder, PSlots, DigitsAndLetter}
+use Rattle.lexis.specs.DurationRules.{SlotsInOrder, SlotsBehindP, DigitsAndLetter}
 use Rattle.lexis.specs.DurationRules
 use Rattle.lexis.proofs.Cases.{and-left}
 use Rattle.values.specs.Integers.{valueOf}
@@ -78,7 +78,7 @@ slots-short (DurationRules.filled v s) =
     let k = slots-short s in
     simp length-append (omega arith)
 
-p-short : {w : List ℕ} {flag : ℕ} → PSlots DigitsAndLetter w flag → length w ≤ 37
+p-short : {w : List ℕ} {flag : ℕ} → SlotsBehindP DigitsAndLetter w flag → length w ≤ 37
 p-short (DurationRules.dates s _) = let k = slots-short s in omega arith
 p-short (DurationRules.times s t _) =
     let j = slots-short s in

@@ -9,7 +9,7 @@ use mathlib.Core.List.{List, [], _∷_, _++_}
 use Prim.Native.Nat.{ℕ, suc, _+_, _*_, _-_, _≤_, _<_}
 use lib.ListN.{length}
 use Rattle.lexis.specs.Text.{byte, bytes}
-use Rattle.lexis.specs.DurationRules.{PSlots, DigitsAndLetter}
+use Rattle.lexis.specs.DurationRules.{SlotsBehindP, DigitsAndLetter}
 use Rattle.values.specs.Dates.{Date}
 use Rattle.values.specs.Days.{IsDay}
 
@@ -73,8 +73,8 @@ pub data IsTime : List ℕ → ℕ → Type 0 where
 
 -- a duration, and the slots that it fills
 pub data IsDuration : List ℕ → (flag : ℕ) → Type 0 where
-  unsigned : {w : List ℕ} {flag : ℕ} → PSlots DigitsAndLetter w flag → IsDuration w flag
-  signed : {w : List ℕ} {flag : ℕ} → PSlots DigitsAndLetter w flag → IsDuration (byte "-" ∷ w) flag
+  unsigned : {w : List ℕ} {flag : ℕ} → SlotsBehindP DigitsAndLetter w flag → IsDuration w flag
+  signed : {w : List ℕ} {flag : ℕ} → SlotsBehindP DigitsAndLetter w flag → IsDuration (byte "-" ∷ w) flag
 
 -- the flag has the bit with that number, counted from 0
 pub data HasBit : (flag bit : ℕ) → Type 0 where

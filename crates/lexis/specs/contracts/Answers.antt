@@ -163,4 +163,5 @@ pub record TypeThere (s : List ℕ) (t : Token) : Type 0 where
 abbrev pub patternOrType : List ℕ → Token → Token
 patternOrType s t =
     let flag = patternSlots (spelling s t) in
-    cond (leb 1 flag && eqb (tokenAt s (t .end) .sort) closeBrace) (token (durationPattern + flag) (t .start) (t .end)) t
+    cond (leb 1 flag && eqb (tokenAt s (t .end) .sort) closeBrace)
+    (token (durationPattern + flag) (t .start) (t .end)) t
