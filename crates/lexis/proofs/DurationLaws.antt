@@ -121,10 +121,13 @@ split-took letter run rest e a n =
     lettered h g =
         let (b, more, r, size, c) = behind-took letter (length run) rest (λ z. n (g ∙ z)) in
         let low = leb-true 1 (length run) (and-left (leb 1 (length run)) (leb (length run) 4) h) in
-        let high = leb-true (length run) 4 (and-right (leb 1 (length run)) (leb (length run) 4) h) in
-        (run ++ (b ∷ []), more, ap (λ (l : List ℕ). run ++ l) r ∙ sym (append-assoc run (b ∷ []) more),
-        g ∙ (size ∙ sym (length-append run (b ∷ []))),
-        either-case letter b run (all-digits run a low) high c)
+        let high = leb-true (length run) 4 (and-right (leb 1 (length run)) (leb (length run) 4) h) in (
+          run ++ (b ∷ []),
+          more,
+          ap (λ (l : List ℕ). run ++ l) r ∙ sym (append-assoc run (b ∷ []) more),
+          g ∙ (size ∙ sym (length-append run (b ∷ []))),
+          either-case letter b run (all-digits run a low) high c,
+        )
 
 digit-took : (letter : ℕ) (bs : List ℕ) → digitSlot letter bs ≢ 0
     → (v : List ℕ) × (rest : List ℕ) × (bs ≡ v ++ rest) × (digitSlot letter bs ≡ length v) × DigitsAndLetter letter v

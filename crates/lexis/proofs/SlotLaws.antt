@@ -58,17 +58,30 @@ pub record Walked (Slot : ℕ → List ℕ → Type 0) (bit : ℕ) (letters : Li
 
 -- the letters before T and behind it are such
 date-letters : Letters (bytes "ymwd")
-date-letters =
-    (SpellingRules.small (omega arith) (omega arith), (refl, (refl, (refl, tt))),
-    (SpellingRules.small (omega arith) (omega arith), (refl, (refl, tt)),
-    (SpellingRules.small (omega arith) (omega arith), (refl, tt),
-    (SpellingRules.small (omega arith) (omega arith), tt, tt))))
+date-letters = (
+  SpellingRules.small (omega arith) (omega arith),
+  (refl, (refl, (refl, tt))),
+  (
+    SpellingRules.small (omega arith) (omega arith),
+    (refl, (refl, tt)),
+    (
+      SpellingRules.small (omega arith) (omega arith),
+      (refl, tt),
+      (SpellingRules.small (omega arith) (omega arith), tt, tt),
+    ),
+  ),
+)
 
 time-letters : Letters (bytes "hms")
-time-letters =
-    (SpellingRules.small (omega arith) (omega arith), (refl, (refl, tt)),
-    (SpellingRules.small (omega arith) (omega arith), (refl, tt),
-    (SpellingRules.small (omega arith) (omega arith), tt, tt)))
+time-letters = (
+  SpellingRules.small (omega arith) (omega arith),
+  (refl, (refl, tt)),
+  (
+    SpellingRules.small (omega arith) (omega arith),
+    (refl, tt),
+    (SpellingRules.small (omega arith) (omega arith), tt, tt),
+  ),
+)
 
 no-bytes : (bs : List ℕ) → eqb (length bs) 0 ≡ true → bs ≡ []
 no-bytes [] h = refl
@@ -101,11 +114,11 @@ module _ (slot : ℕ → List ℕ → ℕ) (Slot : ℕ → List ℕ → Type 0) 
           let k = again (filled (x .flag + bit) rest) in
           let sum = k .sum in
           rw d (record {
-          word = v ++ k .word;
-          flag = bit + k .flag;
-          slots = DurationRules.filled h (k .slots);
-          rest = e ∙ (ap (λ (l : List ℕ). v ++ l) (k .rest) ∙ sym (append-assoc v (k .word) _));
-          sum = omega arith;
+            word = v ++ k .word;
+            flag = bit + k .flag;
+            slots = DurationRules.filled h (k .slots);
+            rest = e ∙ (ap (λ (l : List ℕ). v ++ l) (k .rest) ∙ sym (append-assoc v (k .word) _));
+            sum = omega arith;
           })
 
   -- where other letters' slots stand, or none, the letter's does not
@@ -127,7 +140,6 @@ module _ (slot : ℕ → List ℕ → ℕ) (Slot : ℕ → List ℕ → Type 0) 
       let e = law .there letter v (w ++ rest) (l .0) h in
       let a : n + bit + flag ≡ n + (bit + flag) = omega arith in
       rw (append-assoc v w rest, e .0, ne-eqb (length v) 0 (e .1), drop-append-seam, ← a) (walks rest (n + bit) (l .2) t k)
-
 
   from-start : {bit flag : ℕ} {letters w : List ℕ} → (rest : List ℕ) → Letters letters → Stop rest
       → SlotsInOrder Slot bit letters w flag → fillAll slot bit letters (filled 0 (w ++ rest)) ≡ filled flag rest
@@ -184,14 +196,14 @@ module _ (slot : ℕ → List ℕ → ℕ) (Slot : ℕ → List ℕ → Type 0) 
 
       timed : Walked Slot 1 (bytes "ymwd") (filled 0 bs) (fillAll slot 1 (bytes "ymwd") (filled 0 bs))
           → fillAll slot 1 (bytes "ymwd") (filled 0 bs) .rest
-            ≡ byte "T" ∷ drop 1 (fillAll slot 1 (bytes "ymwd") (filled 0 bs) .rest)
+          ≡ byte "T" ∷ drop 1 (fillAll slot 1 (bytes "ymwd") (filled 0 bs) .rest)
           → (time : ℕ) × SlotsInOrder Slot 16 (bytes "hms") (drop 1 (fillAll slot 1 (bytes "ymwd") (filled 0 bs) .rest)) time
-            × (time ≢ 0) × (f ≡ fillAll slot 1 (bytes "ymwd") (filled 0 bs) .flag + time)
+          × (time ≢ 0) × (f ≡ fillAll slot 1 (bytes "ymwd") (filled 0 bs) .flag + time)
           → SlotsBehindP Slot (byte "P" ∷ bs) f
       timed k r (time, slots, m, g) =
           let s = k .sum in
           let w : bs ≡ k .word ++ (byte "T" ∷ drop 1 (fillAll slot 1 (bytes "ymwd") (filled 0 bs) .rest)) =
-              k .rest ∙ ap (λ (l : List ℕ). k .word ++ l) r in
+          k .rest ∙ ap (λ (l : List ℕ). k .word ++ l) r in
           let z : f ≡ k .flag + time = omega arith in
           subst (λ (l : List ℕ). SlotsBehindP Slot (byte "P" ∷ l) f) (sym w) (rw z (DurationRules.times (k .slots) slots m))
 

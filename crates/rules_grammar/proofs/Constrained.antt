@@ -1,6 +1,6 @@
 -- A constraint text is read to a tree exactly where the grammar derives the tree. Assumes nothing.
 use mathlib.Core.Path.{_≡_, refl, sym, ap, _∙_}
-use mathlib.Core.Logic.{_↔_}
+use mathlib.Core.Logic.{_≢_, _↔_}
 use mathlib.Core.Bool.{true, false, _||_, _&&_}
 use mathlib.Core.List.{List, [], _∷_, List·Memᴰ}
 use Prim.Native.Nat.{ℕ, zero, suc, _≤_, _<_, _+_}
@@ -12,7 +12,7 @@ use Rattle.lexis.specs.Text.{bytes}
 use Rattle.lexis.specs.Runs.{listed, same}
 use Rattle.lexis.specs.Bytes.{within}
 use Rattle.lexis.specs.Spelling.{matches, existence, openBrace, closeBrace, dots, star, bar, trueWord, falseWord}
-use Rattle.lexis.specs.Tokens.{tokenAt, textEnd, typeName, name, code, integer, string, spelling, inner}
+use Rattle.lexis.specs.Tokens.{tokenAt, contentTokenAt, textEnd, typeName, name, code, integer, string, spelling, inner}
 use Rattle.lexis.specs.declared.Token.{Token}
 use Rattle.lexis.proofs.Cases.{and-left, and-right}
 use Rattle.lexis.proofs.Places.{Found, token-found}
@@ -38,7 +38,7 @@ use Rattle.rules_grammar.specs.DataGrammar.{Distinct, noName, newName}
 use Rattle.rules_grammar.specs.LeafGrammar.{NextToken, next}
 use Rattle.rules_grammar.specs.ConstraintGrammar.{Opens, opens, SpelledInteger, digit, DerivesBounds, DerivesExistence, unwritten, written, DerivesCode, uncoded, coded, attributeNames, objectLevels, attributeLevels, valueLevels, behindAttribute, WithinLimit, DerivesObject, anObject, DerivesBody, anyMembers, DerivesAttributes, lastOne, oneMore, DerivesAttribute, anAttribute, DerivesValue, anything, oneObject, oneLeaf, DerivesConstraint, wholeText}
 use Rattle.rules_grammar.specs.ConstraintGrammar
-use Rattle.rules_grammar.proofs.NextLaws.{next-token, token-read, sort-read}
+use Rattle.rules_grammar.proofs.NextLaws.{next-token, token-read, sort-read, content-token, content-same, content-read}
 use Rattle.lexis.proofs.TestLaws.{same-eq}
 use Rattle.rules_grammar.proofs.Given.{Gives, got-gives, refuse-gives, cond-gives, unless-gives, then-gives, given, gives-map}
 use Rattle.rules_grammar.proofs.Items.{Took, took, expect-gives, expect-got, leaf-got, leaf-derives}
@@ -215,9 +215,9 @@ module _ (s : List ℕ) (levels : ℕ)
   value-gives : (c from : ℕ) → Gives (ValueGiven s levels c from) (value s levels c from)
   unfolding valueLevels
   value-gives c from =
-      let t = tokenAt s from in
+      let t = contentTokenAt s from in
       let P = ValueGiven s levels c from in
-      rw (value-is s levels c from) (cond-gives P (eqb (t .sort) star) _ _ (λ e. got-gives P any (t .end) (valueGiven (anything (next-token (eqb-true _ _ e))) (omega arith)))
+      rw (value-is s levels c from) (cond-gives P (eqb (t .sort) star) _ _ (λ e. got-gives P any (t .end) (valueGiven (anything (content-token (eqb-true _ _ e) (omega arith))) (omega arith)))
       (λ e. cond-gives P (eqb (t .sort) typeName) _ _
       (λ f. then-gives P (ObjectGiven s levels c from) (objectFrom s levels c from) _ (below c from) (λ o p x. got-gives P (nested o) p (nested-made x)))
       (λ f. leaf-case (Told.leaf s c from) refl)))
@@ -401,36 +401,38 @@ record ValueGot (s : List ℕ) (levels : ℕ) (c from : ℕ) (v : Value) (p : �
   high : p ≤ length s
 
 -- a leaf starts with no `*` and no TYPE
-leaf-refused : (s : List ℕ) (number from k : ℕ) → tokenAt s from .sort ≡ k
+leaf-refused : (s : List ℕ) (number from k : ℕ) → contentTokenAt s from .sort ≡ k
     → (eqb k trueWord || eqb k falseWord) ≡ false
     → (eqb k integer || eqb k bar) ≡ false
     → eqb k string ≡ false
     → within 31 35 k ≡ false
     → within 41 44 k ≡ false
-    → Told.leaf s number from ≡ refuse (syntaxCause (tokenAt s from)) (tokenAt s from .start)
-leaf-refused s number from k e a b c d f =
-    let x : (eqb (tokenAt s from .sort) trueWord || eqb (tokenAt s from .sort) falseWord) ≡ false = ap (λ z. eqb z trueWord || eqb z falseWord) e ∙ a in
-    let y : (eqb (tokenAt s from .sort) integer || eqb (tokenAt s from .sort) bar) ≡ false = ap (λ z. eqb z integer || eqb z bar) e ∙ b in
-    let u : eqb (tokenAt s from .sort) string ≡ false = other e string ∙ c in
-    let v : within 31 35 (tokenAt s from .sort) ≡ false = ap (within 31 35) e ∙ d in
-    let w : within 41 44 (tokenAt s from .sort) ≡ false = ap (within 41 44) e ∙ f in
-    rw (leaf-is s number from, x, y, u, v, w)
+    → within 101 227 k ≡ false
+    → Told.leaf s number from ≡ refuse (syntaxCause (contentTokenAt s from)) (contentTokenAt s from .start)
+leaf-refused s number from k e a b c d f g =
+    let x : (eqb (contentTokenAt s from .sort) trueWord || eqb (contentTokenAt s from .sort) falseWord) ≡ false = ap (λ z. eqb z trueWord || eqb z falseWord) e ∙ a in
+    let y : (eqb (contentTokenAt s from .sort) integer || eqb (contentTokenAt s from .sort) bar) ≡ false = ap (λ z. eqb z integer || eqb z bar) e ∙ b in
+    let u : eqb (contentTokenAt s from .sort) string ≡ false = other e string ∙ c in
+    let v : within 31 35 (contentTokenAt s from .sort) ≡ false = ap (within 31 35) e ∙ d in
+    let w : within 41 44 (contentTokenAt s from .sort) ≡ false = ap (within 41 44) e ∙ f in
+    let i : within 101 227 (contentTokenAt s from .sort) ≡ false = ap (within 101 227) e ∙ g in
+    rw (leaf-is s number from, x, y, u, v, w, i)
 
 refused-got : {A : Type 0} {x : Refusal} {a : A} {p : ℕ} → refused x ≡ got a p → ⊥
 refused-got {A} {x} {a} {p} e = let z : _≡_ {A = ℕ} 0 1 = cc in omega arith
 
 leaf-start : (s : List ℕ) (number from : ℕ) (l : Leaf) (p : ℕ) → Told.leaf s number from ≡ got l p
-    → (eqb (tokenAt s from .sort) star ≡ false) × (eqb (tokenAt s from .sort) typeName ≡ false)
+    → (eqb (contentTokenAt s from .sort) star ≡ false) × (eqb (contentTokenAt s from .sort) typeName ≡ false)
 leaf-start s number from l p e = (
-  ne-eqb _ _ (λ k. refused-got (sym (leaf-refused s number from star k refl refl refl refl refl) ∙ e)),
-  ne-eqb _ _ (λ k. refused-got (sym (leaf-refused s number from typeName k refl refl refl refl refl) ∙ e)),
+  ne-eqb _ _ (λ k. refused-got (sym (leaf-refused s number from star k refl refl refl refl refl refl) ∙ e)),
+  ne-eqb _ _ (λ k. refused-got (sym (leaf-refused s number from typeName k refl refl refl refl refl refl) ∙ e)),
 )
 
 star-value : (s : List ℕ) (levels : ℕ) (c from : ℕ) (t : Token) → NextToken s from star t → from ≤ length s
     → ValueGot s levels c from any (t .end)
 star-value s levels c from t (next n e) h =
     let f = next-found (next n e) h in
-    record { is = rw (value-is s levels c from, token-read n, other e star); low = omega (arith, f .start, f .order); high = f .inside }
+    record { is = rw (value-is s levels c from, content-read (next n e) (λ k. omega arith), other e star); low = omega (arith, f .start, f .order); high = f .inside }
 
 leaf-value : (s : List ℕ) (levels : ℕ) (c from : ℕ) (l : Leaf) (p : ℕ) → Told.leaf s c from ≡ got l p → from ≤ length s
     → ValueGot s levels c from (leaf l) p
@@ -440,10 +442,19 @@ leaf-value s levels c from l p e h =
     let y : LeafRead s c from l p = rw e at (leaf-holds s c from h) in
     record { is = rw (value-is s levels c from, x .0, x .1, e); low = omega (arith, y .least); high = y .most }
 
-object-starts : {s : List ℕ} {c from p : ℕ} {o : Object} → DerivesObject s c from o p → tokenAt s from .sort ≡ typeName
-object-starts (anObject n f d o b m) = sort-read n
+-- an object starts with a TYPE and no pattern: a code or `matches` follows
+no-brace : {s : List ℕ} {from p : ℕ} {k : List ℕ} {b : Token} → DerivesCode s from k p → Opens s p b
+    → tokenAt s from .sort ≢ closeBrace
+no-brace uncoded (opens m n) e = let f = sort-read m in omega arith
+no-brace (coded m l) o e = let f = sort-read m in omega arith
 
-nested-value : (s : List ℕ) (levels : ℕ) (c from : ℕ) (o : Object) (p : ℕ) → tokenAt s from .sort ≡ typeName
+object-starts : {s : List ℕ} {c from p : ℕ} {o : Object} → DerivesObject s c from o p
+    → contentTokenAt s from .sort ≡ typeName
+object-starts {s} {from = from} (anObject (next n e) f d o b m) =
+    let r = token-read n in
+    rw (content-same s from (λ k. rw r (no-brace d o)), r) e
+
+nested-value : (s : List ℕ) (levels : ℕ) (c from : ℕ) (o : Object) (p : ℕ) → contentTokenAt s from .sort ≡ typeName
     → objectFrom s levels c from ≡ got o p → from ≤ length s
     → ValueGot s levels c from (nested o) p
 unfolding Holds

@@ -13,7 +13,9 @@ use borrow.Author.Tests.{eqb-true, eqb-false, ltb-false, le-ltb, leb-true, leb-f
 use Rattle.lexis.specs.Bytes.{within}
 use Rattle.lexis.specs.Runs.{listed}
 use Rattle.lexis.specs.Spelling.{bar, dots, less, greater, atMost, atLeast, plusMinus, comma, trueWord, falseWord, closeBrace}
-use Rattle.lexis.specs.Tokens.{tokenAt, integer, date, string, spelling, inner}
+use Rattle.lexis.specs.Tokens.{tokenAt, contentTokenAt, typeName, integer, date, string, spelling, inner}
+use Rattle.lexis.specs.LongestMatch.{PatternHere, patternHere}
+use Rattle.lexis.specs.DurationRules.{SpellsPattern}
 use Rattle.lexis.specs.declared.Token.{Token}
 use Rattle.lexis.proofs.Cases.{and-left, and-right, by-cond}
 use Rattle.values.specs.Integers.{Pair, pair, inside, around}
@@ -22,7 +24,7 @@ use Rattle.refusals.specs.Reading.{Reading, got}
 use Rattle.refusals.specs.Parsing.{firstIn}
 use Rattle.refusals.specs.declared.Cause.the-variants.{Impossible, OutOfRange, EmptyInterval, TooLong, TooManyItems, TooManyRecords, Overlap}
 use Rattle.refusals.specs.Expecting.{syntaxCause, expect}
-use Rattle.meaning.specs.Constraints.{Range, Text, Leaf, booleans, datePattern, timePattern, single}
+use Rattle.meaning.specs.Constraints.{Range, Text, Leaf, booleans, datePattern, timePattern, durationPattern, single}
 use Rattle.meaning.specs.Constraints
 use Rattle.cadl_intervals.specs.Intervals.{Ends, ends, undecided, kindBy, least, most, after, literalValue, possible, empty, closed, Interval}
 use Rattle.cadl_intervals.specs.contracts.Told.{withLiteral, between, interval}
@@ -36,7 +38,7 @@ use Rattle.cadl_items.proofs.LeafParts.{start-is, ranges-none, ranges-some, sta
 use Rattle.rules_grammar.specs.DataGrammar.{Distinct, noName, newName}
 use Rattle.rules_grammar.specs.LeafGrammar.{NextToken, next, IsLiteral, DerivesLiteral, literal, StepsTo, DerivesEnds, DerivesItem, aValue, anInterval, DerivesItems, lastItem, moreItems, Meet, Apart, noItem, newItem, DerivesStrings, lastString, moreStrings, textsIn, Boolean, aTrue, aFalse, DerivesLeaf}
 use Rattle.rules_grammar.specs.LeafGrammar
-use Rattle.rules_grammar.proofs.NextLaws.{next-token, token-read, sort-read, date-long}
+use Rattle.rules_grammar.proofs.NextLaws.{next-token, token-read, sort-read, content-token, content-same, content-read, pattern-read, pattern-stands, flag-least, flag-most, date-long}
 use Rattle.lexis.proofs.TestLaws.{true-or-false, false-true, or-cases, or-left, or-right, and-both}
 use Rattle.rules_grammar.proofs.LiteralLaws.{literal-of, integer-literal, date-literal}
 use Rattle.rules_grammar.proofs.EndLaws.{Kind, isInteger, isDate, value-least, value-most, bounds-of, bounds-are, step-after, step-least, stepped, step-below, Spread, spread-of, spread-got}
@@ -370,16 +372,15 @@ module _ (s : List ℕ) where
           → StringsGiven s (suc left) n seen from (record { number = n; text = inner s t } ∷ l) r
       more (stringGiven m l) a b e (stringsGiven f g h) = stringsGiven (moreStrings m l a e f) (omega arith) (newName b h)
 
-  boolean-of : (from : ℕ) → isBoolean (tokenAt s from) ≡ true
-      → Boolean s from (booleanFlag (tokenAt s from)) (tokenAt s from)
-  boolean-of from h =
-      let t = tokenAt s from in
-      by-cond (λ (b : ℕ). Boolean s from b t) (eqb (t .sort) trueWord) (λ e. aTrue (next-token (eqb-true _ _ e)))
-      (λ e. or-cases (eqb (t .sort) trueWord) (eqb (t .sort) falseWord) h (λ f. absurd (false-true (sym e ∙ f))) (λ f. aFalse (next-token (eqb-true _ _ f))))
+  boolean-of : (from : ℕ) (t : Token) → ((sort : ℕ) → sort ≤ 99 → t .sort ≡ sort → NextToken s from sort t)
+      → isBoolean t ≡ true → Boolean s from (booleanFlag t) t
+  boolean-of from t n h =
+      by-cond (λ (b : ℕ). Boolean s from b t) (eqb (t .sort) trueWord) (λ e. aTrue (n trueWord (omega arith) (eqb-true _ _ e)))
+      (λ e. or-cases (eqb (t .sort) trueWord) (eqb (t .sort) falseWord) h (λ f. absurd (false-true (sym e ∙ f))) (λ f. aFalse (n falseWord (omega arith) (eqb-true _ _ f))))
 
   leaf-gives : (n from : ℕ) → Gives (DerivesLeaf s n from) (leaf s n from)
   leaf-gives n from =
-      let t = tokenAt s from in
+      let t = contentTokenAt s from in
       let u = tokenAt s (t .end) in
       let v = tokenAt s (u .end) in
       let P = DerivesLeaf s n from in
@@ -388,9 +389,9 @@ module _ (s : List ℕ) where
       cond-gives P (eqb (u .sort) comma) _ _
       (λ f. cond-gives P (isBoolean v) _ _
       (λ g. unless-gives P (eqb (booleanFlag v) (booleanFlag t)) Overlap (v .start) _ (λ b.
-      got-gives P (single booleans n 3) (v .end) (LeafGrammar.twoBooleans (eqb-false _ _ a) (boolean-of from e) (next-token (eqb-true _ _ f)) (boolean-of (u .end) g) (eqb-false _ _ b))))
+      got-gives P (single booleans n 3) (v .end) (LeafGrammar.twoBooleans (eqb-false _ _ a) (first e) (next-token (eqb-true _ _ f)) (boolean-of (u .end) v (λ k l h. next-token h) g) (eqb-false _ _ b))))
       (λ g. refuse-gives P (syntaxCause v) (v .start)))
-      (λ f. got-gives P (single booleans n (booleanFlag t)) (t .end) (LeafGrammar.oneBoolean (eqb-false _ _ a) (boolean-of from e)))))
+      (λ f. got-gives P (single booleans n (booleanFlag t)) (t .end) (LeafGrammar.oneBoolean (eqb-false _ _ a) (first e)))))
       (λ e. cond-gives P (eqb (t .sort) integer || eqb (t .sort) bar) _ _
       (λ f. then-gives P (RangesGiven s itemLimit undecided n [] from) (ranges s itemLimit undecided n [] from) _ (ranges-gives itemLimit undecided n [] from unasked) (λ l p x. got-gives P (rangeLeaf l) p (items x)))
       (λ f. cond-gives P (eqb (t .sort) string) _ _
@@ -399,14 +400,26 @@ module _ (s : List ℕ) where
       (λ h. unless-gives P (eqb n recordLimit) TooManyRecords (t .start) _ (λ a.
       let x : 31 ≤ t .sort = leb-true _ _ (and-left (leb 31 (t .sort)) (leb (t .sort) 35) h) in
       let y : t .sort ≤ 35 = leb-true _ _ (and-right (leb 31 (t .sort)) (leb (t .sort) 35) h) in
-      got-gives P (single datePattern n (t .sort - 30)) (t .end) (LeafGrammar.aDatePattern (eqb-false _ _ a) (omega arith) (omega arith) (next-token (omega arith)))))
+      got-gives P (single datePattern n (t .sort - 30)) (t .end) (LeafGrammar.aDatePattern (eqb-false _ _ a) (omega arith) (omega arith) (content-token (omega arith) (omega arith)))))
       (λ h. cond-gives P (within 41 44 (t .sort)) _ _
       (λ i. unless-gives P (eqb n recordLimit) TooManyRecords (t .start) _ (λ a.
       let x : 41 ≤ t .sort = leb-true _ _ (and-left (leb 41 (t .sort)) (leb (t .sort) 44) i) in
       let y : t .sort ≤ 44 = leb-true _ _ (and-right (leb 41 (t .sort)) (leb (t .sort) 44) i) in
-      got-gives P (single timePattern n (t .sort - 40)) (t .end) (LeafGrammar.aTimePattern (eqb-false _ _ a) (omega arith) (omega arith) (next-token (omega arith)))))
-      (λ i. refuse-gives P (syntaxCause t) (t .start)))))))
+      got-gives P (single timePattern n (t .sort - 40)) (t .end) (LeafGrammar.aTimePattern (eqb-false _ _ a) (omega arith) (omega arith) (content-token (omega arith) (omega arith)))))
+      (λ i. cond-gives P (within 101 227 (t .sort)) _ _
+      (λ j. unless-gives P (eqb n recordLimit) TooManyRecords (t .start) _ (λ a.
+      let x : 101 ≤ t .sort = leb-true _ _ (and-left (leb 101 (t .sort)) (leb (t .sort) 227) j) in
+      got-gives P (single durationPattern n (t .sort - 100)) (t .end) (duration (eqb-false _ _ a) (pattern-stands s from (t .sort - 100) (omega arith)))))
+      (λ j. refuse-gives P (syntaxCause t) (t .start))))))))
     where
+      first : isBoolean (contentTokenAt s from) ≡ true
+          → Boolean s from (booleanFlag (contentTokenAt s from)) (contentTokenAt s from)
+      first e = boolean-of from (contentTokenAt s from) (λ k l h. content-token h l) e
+
+      duration : {start end f : ℕ} → n ≢ recordLimit → PatternHere s from start end f
+          → DerivesLeaf s n from (single durationPattern n f) end
+      duration r (patternHere m k c) = LeafGrammar.aDurationPattern r (next m refl) k
+
       by-kind : (k : ℕ) (l : List Range) (p : ℕ) → Kind k → DerivesItems s k n from l p → length l ≤ itemLimit
           → Apart [] l → DerivesLeaf s n from (rangeLeaf (record { kind = k; items = l })) p
       by-kind k l p isInteger d a b = LeafGrammar.integerItems d a b
@@ -681,6 +694,12 @@ items-other a h =
     (λ e. let f = eqb-true a integer e in rw (other f trueWord, other f falseWord))
     (λ e. let f = eqb-true a bar e in rw (other f trueWord, other f falseWord))
 
+items-no-type : (a : ℕ) → (eqb a integer || eqb a bar) ≡ true → a ≢ typeName
+items-no-type a h z =
+    or-cases (eqb a integer) (eqb a bar) h
+    (λ e. let f = eqb-true a integer e in omega arith)
+    (λ e. let f = eqb-true a bar e in omega arith)
+
 strings-start : {s : List ℕ} {n from p : ℕ} {l : List Text} → DerivesStrings s n from l p
     → tokenAt s from .sort ≡ string
 strings-start (lastString n c d) = sort-read n
@@ -691,28 +710,30 @@ items-leaf : (s : List ℕ) (n from k : ℕ) (l : List Range) (p : ℕ) (z : Tok
     → leaf s n from ≡ got (rangeLeaf (record { kind = k; items = l })) p
 items-leaf s n from k l p z q d a b w =
     let e = items-start d in
-    rw (leaf-is s n from, items-other (tokenAt s from .sort) e, e, ranges-got d itemLimit undecided [] z (newly q) a b w)
+    let c = content-same s from (λ k. absurd (items-no-type (tokenAt s from .sort) e k)) in
+    rw (leaf-is s n from, c, items-other (tokenAt s from .sort) e, e, ranges-got d itemLimit undecided [] z (newly q) a b w)
 
 strings-leaf : (s : List ℕ) (n from : ℕ) (l : List Text) (p : ℕ) (z : Token) → DerivesStrings s n from l p
     → length l ≤ itemLimit → Distinct [] (textsIn l) → NextToken s p closeBrace z
     → leaf s n from ≡ got (Constraints.texts l) p
 strings-leaf s n from l p z d a b w =
     let e = strings-start d in
-    rw (leaf-is s n from, other e trueWord, other e falseWord, other e integer, other e bar, other e string, strings-got d itemLimit [] z a b w)
+    let c = content-same s from (λ k. absurd (omega arith)) in
+    rw (leaf-is s n from, c, other e trueWord, other e falseWord, other e integer, other e bar, other e string, strings-got d itemLimit [] z a b w)
 
 one-boolean : (s : List ℕ) (n from b : ℕ) (t z : Token) → n ≢ recordLimit → Boolean s from b t
     → NextToken s (t .end) closeBrace z → leaf s n from ≡ got (single booleans n b) (t .end)
-one-boolean s n from b t z a (aTrue (next i e)) w = rw (leaf-is s n from, token-read i, boolean-is s n t, other e trueWord, ne-eqb n recordLimit a, other (sort-read w) comma)
-one-boolean s n from b t z a (aFalse (next i e)) w = rw (leaf-is s n from, token-read i, boolean-is s n t, other e trueWord, other e falseWord, ne-eqb n recordLimit a, other (sort-read w) comma)
+one-boolean s n from b t z a (aTrue (next i e)) w = rw (leaf-is s n from, content-read (next i e) (λ k. omega arith), boolean-is s n t, other e trueWord, ne-eqb n recordLimit a, other (sort-read w) comma)
+one-boolean s n from b t z a (aFalse (next i e)) w = rw (leaf-is s n from, content-read (next i e) (λ k. omega arith), boolean-is s n t, other e trueWord, other e falseWord, ne-eqb n recordLimit a, other (sort-read w) comma)
 
 two-booleans : (s : List ℕ) (n from a b : ℕ) (t c u : Token) → n ≢ recordLimit → Boolean s from a t
     → NextToken s (t .end) comma c → Boolean s (c .end) b u → b ≢ a
     → leaf s n from ≡ got (single booleans n 3) (u .end)
 two-booleans s n from a b t c u d (aTrue x) m (aTrue y) h = absurd (h refl)
 two-booleans s n from a b t c u d (aTrue (next i e)) (next j f) (aFalse (next k g)) h =
-    rw (leaf-is s n from, token-read i, boolean-is s n t, other e trueWord, ne-eqb n recordLimit d, token-read j, other f comma, second-is s n 1 (c .end), token-read k, other g trueWord, other g falseWord)
+    rw (leaf-is s n from, content-read (next i e) (λ k. omega arith), boolean-is s n t, other e trueWord, ne-eqb n recordLimit d, token-read j, other f comma, second-is s n 1 (c .end), token-read k, other g trueWord, other g falseWord)
 two-booleans s n from a b t c u d (aFalse (next i e)) (next j f) (aTrue (next k g)) h =
-    rw (leaf-is s n from, token-read i, boolean-is s n t, other e trueWord, other e falseWord, ne-eqb n recordLimit d, token-read j, other f comma, second-is s n 2 (c .end), token-read k, other g trueWord)
+    rw (leaf-is s n from, content-read (next i e) (λ k. omega arith), boolean-is s n t, other e trueWord, other e falseWord, ne-eqb n recordLimit d, token-read j, other f comma, second-is s n 2 (c .end), token-read k, other g trueWord)
 two-booleans s n from a b t c u d (aFalse x) m (aFalse y) h = absurd (h refl)
 
 -- a pattern's token is of no other sort
@@ -724,7 +745,7 @@ module _ (s : List ℕ) (n from : ℕ) (r : n ≢ recordLimit) where
       let v : t .sort - 30 ≡ f = omega arith in
       rw (
         leaf-is s n from,
-        token-read i,
+        content-read (next i e) (λ z. omega arith),
         ne-eqb k trueWord (λ z. omega arith),
         ne-eqb k falseWord (λ z. omega arith),
         ne-eqb k integer (λ z. omega arith),
@@ -743,7 +764,7 @@ module _ (s : List ℕ) (n from : ℕ) (r : n ≢ recordLimit) where
       let v : t .sort - 40 ≡ f = omega arith in
       rw (
         leaf-is s n from,
-        token-read i,
+        content-read (next i e) (λ z. omega arith),
         ne-eqb k trueWord (λ z. omega arith),
         ne-eqb k falseWord (λ z. omega arith),
         ne-eqb k integer (λ z. omega arith),
@@ -753,6 +774,30 @@ module _ (s : List ℕ) (n from : ℕ) (r : n ≢ recordLimit) where
         lt-leb k 35 (omega arith),
         le-leb 41 k (omega arith),
         le-leb k 44 (omega arith),
+        ne-eqb n recordLimit r,
+        v,
+      )
+
+  duration-leaf : (f : ℕ) (t z : Token) → NextToken s from typeName t → SpellsPattern (spelling s t) f
+      → NextToken s (t .end) closeBrace z → leaf s n from ≡ got (single durationPattern n f) (t .end)
+  duration-leaf f t z m k w =
+      let a = flag-least k in
+      let b = flag-most k in
+      let v : 100 + f - 100 ≡ f = omega arith in
+      rw (
+        leaf-is s n from,
+        pattern-read m k w,
+        ne-eqb (100 + f) trueWord (λ z. omega arith),
+        ne-eqb (100 + f) falseWord (λ z. omega arith),
+        ne-eqb (100 + f) integer (λ z. omega arith),
+        ne-eqb (100 + f) bar (λ z. omega arith),
+        ne-eqb (100 + f) string (λ z. omega arith),
+        le-leb 31 (100 + f) (omega arith),
+        lt-leb (100 + f) 35 (omega arith),
+        le-leb 41 (100 + f) (omega arith),
+        lt-leb (100 + f) 44 (omega arith),
+        le-leb 101 (100 + f) (omega arith),
+        le-leb (100 + f) 227 (omega arith),
         ne-eqb n recordLimit r,
         v,
       )
@@ -767,6 +812,7 @@ leaf-got s n from l p z (LeafGrammar.dateItems {l = x} d a b) w = items-leaf s n
 leaf-got s n from l p z (LeafGrammar.stringItems {l = x} d a b) w = strings-leaf s n from x p z d a b w
 leaf-got s n from l p z (LeafGrammar.aDatePattern {f = f} {t = t} r a b m) w = date-leaf s n from r f t a b m
 leaf-got s n from l p z (LeafGrammar.aTimePattern {f = f} {t = t} r a b m) w = time-leaf s n from r f t a b m
+leaf-got s n from l p z (LeafGrammar.aDurationPattern {f = f} {t = t} r m k) w = duration-leaf s n from r f t z m k w
 
 -- a leaf that is read is derived
 pub leaf-derives : (s : List ℕ) (n from : ℕ) (l : Leaf) (p : ℕ) → leaf s n from ≡ got l p → DerivesLeaf s n from l p

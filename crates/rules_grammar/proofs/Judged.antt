@@ -163,6 +163,7 @@ readable (LeafAdmits.string h) = Readable.string
 readable (LeafAdmits.patternDate e k h) = Readable.patternDate e
 readable (LeafAdmits.fullDate e g h) = Readable.intervalDate e
 readable (LeafAdmits.time e k h) = Readable.time e
+readable (LeafAdmits.duration e h) = Readable.duration e
 
 -- a value stands to a leaf in one way
 one-finding : (l : Leaf) (c : Content) (f g : Finding) → Stands l c f → Stands l c g → f ≡ g

@@ -14,21 +14,24 @@ use Rattle.lexis.proofs.Cases.{by-cond, and-left, and-right}
 use Rattle.values.specs.Integers.{integerOf}
 use Rattle.values.specs.Dates.{Date, dateOf}
 use Rattle.values.specs.Times.{timeOf}
+use Rattle.values.specs.Durations.{durationOf}
 use Rattle.values.specs.Words.{booleanOf}
-use Rattle.values.specs.Patterns.{Part, must, may, mustNot, suits, fits, fitsDate, fitsTime, datePatterns, timePatterns}
-use Rattle.meaning.specs.Constraints.{Range, Text, Leaf, single, ranges, texts, booleans, datePattern, timePattern, integers, dates}
+use Rattle.values.specs.Patterns.{Part, must, may, mustNot, suits, fits, fitsDate, fitsTime, fitsDuration, datePatterns, timePatterns}
+use Rattle.meaning.specs.Constraints.{Range, Text, Leaf, single, ranges, texts, booleans, datePattern, timePattern, durationPattern, integers, dates}
 use Rattle.meaning.specs.Data.{Content}
 use Rattle.meaning.specs.Data
 use Rattle.meaning.specs.Findings.{Finding, unsuited, refuted, admitted, try}
 use Rattle.meaning.specs.Sorts.{inRange, inSome, inFlag}
 use Rattle.meaning.specs.Admission.{isSome, wordUnder, stringUnder}
 use Rattle.values.specs.WordRules
-use Rattle.values.specs.WordRules.{IsBoolean, IsInteger, IsDate, IsTime}
+use Rattle.values.specs.WordRules.{IsBoolean, IsInteger, IsDate, IsTime, IsDuration}
 use Rattle.rules_grammar.specs.Admits.{Fits, InItem, inItem, InTexts, isItem, Flagged, Readable, LeafAdmits, DatePattern, TimePattern}
 use Rattle.rules_grammar.specs.Admits
 use Rattle.lexis.proofs.TestLaws.{false-true, none-some, some-inj, same-eq, eq-same, or-left, or-right, or-cases, and-both}
 use Rattle.values.proofs.DateWordLaws.{date-word}
 use Rattle.values.proofs.TimeWordLaws.{time-word}
+use Rattle.values.proofs.DurationWordLaws.{duration-word}
+use Rattle.values.proofs.DurationLaws.{fits-is}
 use Rattle.values.proofs.WordLaws.{boolean-word, integer-word}
 
 -- items
@@ -219,6 +222,14 @@ time-in : {n f p : ℕ} {w : List ℕ} → LeafAdmits (single timePattern n f) (
 unfolding fitsTime
 time-in (LeafAdmits.time {parts = k} e l h) = (k, e, rw (time-listed l) (of-fits h))
 
+duration-read : {n f p : ℕ} {w : List ℕ} → Readable (single durationPattern n f) (Data.word p w)
+    → (k : ℕ) × IsDuration w k
+duration-read (Readable.duration {filled = k} e) = (k, e)
+
+duration-in : {n f p : ℕ} {w : List ℕ} → LeafAdmits (single durationPattern n f) (Data.word p w)
+    → (k : ℕ) × IsDuration w k × (fitsDuration f k ≡ true)
+duration-in {f = f} (LeafAdmits.duration {filled = k} e h) = (k, e, fits-is f k .1 h)
+
 pub word-stands : (l : Leaf) (p : ℕ) (w : List ℕ) → Stands l (Data.word p w) (wordUnder l w)
 unfolding wordUnder fitsDate fitsTime
 word-stands (single booleans n f) p w =
@@ -252,6 +263,12 @@ word-stands (single timePattern n f) p w =
     time-read
     (λ k e h. let (ps, l, x) = time-pattern f k (time-parts e) h in LeafAdmits.time e l x)
     time-in
+word-stands (single durationPattern n f) p w =
+    tried (IsDuration w) (single durationPattern n f) (Data.word p w) (durationOf w) (fitsDuration f) (duration-word w)
+    (λ k e. Readable.duration e)
+    duration-read
+    (λ k e h. LeafAdmits.duration e (fits-is f k .0 h))
+    duration-in
 
 -- a string is read under strings alone
 pub string-stands : (l : Leaf) (p : ℕ) (w : List ℕ) → Stands l (Data.string p w) (stringUnder l w)

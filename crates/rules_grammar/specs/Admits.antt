@@ -1,6 +1,7 @@
 -- What an object admits, as rules. Document 01, 'Meaning': "An object admits a block whose type, if written, is its own and whose members satisfy each attribute. `*` in an object
 -- admits any members (its type still counts), in an attribute any leaf or block. Members that no attribute names are admitted. Lists admit a value in some item; a date interval admits
--- full dates only. Patterns: lettered parts must be there, `??` may, `XX` may not, and no part without the one before it; the zone is free." Proved one with judge, booleanOf, integerOf, dateOf, timeOf. Assumes nothing.
+-- full dates only. Patterns: lettered parts must be there, `??` may, `XX` may not, and no part without the one before it; the zone is free."
+-- Document 02, 1: "A value is admitted when each slot it fills is in the pattern". Proved one with judge, booleanOf, integerOf, dateOf, timeOf, durationOf, fitsDuration. Assumes nothing.
 use mathlib.Core.Path.{_≡_}
 use mathlib.Core.Logic.{_≢_}
 use mathlib.Core.Option.{Option, none, some}
@@ -8,11 +9,11 @@ use mathlib.Core.List.{List, [], _∷_, List·Memᴰ}
 use Prim.Native.Nat.{ℕ, zero, suc, _≤_}
 use Rattle.values.specs.Dates.{Date}
 use Rattle.values.specs.Patterns.{Part, must, may, mustNot}
-use Rattle.meaning.specs.Constraints.{Range, Text, Leaf, single, ranges, texts, booleans, datePattern, timePattern, integers, dates, ObjectHead, Object, AttributeHead, Attributes, Value}
+use Rattle.meaning.specs.Constraints.{Range, Text, Leaf, single, ranges, texts, booleans, datePattern, timePattern, durationPattern, integers, dates, ObjectHead, Object, AttributeHead, Attributes, Value}
 use Rattle.meaning.specs.Constraints
 use Rattle.meaning.specs.Data.{Datum, datum, Members, Content}
 use Rattle.meaning.specs.Data
-use Rattle.values.specs.WordRules.{IsBoolean, IsInteger, IsDate, IsTime}
+use Rattle.values.specs.WordRules.{IsBoolean, IsInteger, IsDate, IsTime, IsDuration, SlotsWithin}
 
 -- the type, if written, is the object's own
 pub data TypeSuits (t : List ℕ) : Option (List ℕ) → Type 0 where
@@ -80,6 +81,8 @@ pub data Readable : Leaf → Content → Type 0 where
   intervalDate : {l : List Range} {p : ℕ} {w : List ℕ} {d : Date} → IsDate w d
       → Readable (ranges dates l) (Data.word p w)
   time : {n f p parts : ℕ} {w : List ℕ} → IsTime w parts → Readable (single timePattern n f) (Data.word p w)
+  duration : {n f p filled : ℕ} {w : List ℕ} → IsDuration w filled
+      → Readable (single durationPattern n f) (Data.word p w)
 
 -- what a leaf admits
 pub data LeafAdmits : Leaf → Content → Type 0 where
@@ -95,6 +98,8 @@ pub data LeafAdmits : Leaf → Content → Type 0 where
       → LeafAdmits (ranges dates l) (Data.word p w)
   time : {n f p parts : ℕ} {w : List ℕ} {ps : List Part} → IsTime w parts → TimePattern f ps → Fits ps parts
       → LeafAdmits (single timePattern n f) (Data.word p w)
+  duration : {n f p filled : ℕ} {w : List ℕ} → IsDuration w filled → SlotsWithin f filled
+      → LeafAdmits (single durationPattern n f) (Data.word p w)
 
 mutual
   -- an object admits a block whose type, if written, is its own and whose members satisfy each attribute; `*` is no attribute

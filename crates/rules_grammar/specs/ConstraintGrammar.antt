@@ -1,7 +1,7 @@
 -- The grammar of constraint text, as productions. Document 01, 'Constraint text': "ASCII, at most 16,384 bytes"; "object: TYPE, optional [code], `matches {`, then `*` or one or more
 -- attributes, `}`. The text is one object"; "attribute: NAME, optional `existence matches {` `0`, `1`, `0..0`, `0..1` or `1..1` `}`, `matches {`, then `*`, one object or one leaf, `}`.
 -- `0` is 0..0, `1` is 1..1; no existence means 1..1"; 'Table', lengths of types, names and codes, and "Compiling numbers records .. in text order"; 'Numbers of refusal':
--- no 17th level, no record 2,048, no attribute named twice. Tokens are those of LongestMatch. Proved one with constraintOf, tokenAt. Assumes nothing.
+-- no 17th level, no record 2,048, no attribute named twice. Tokens are those of LongestMatch. Proved one with constraintOf, tokenAt, contentTokenAt. Assumes nothing.
 use mathlib.Core.Path.{_≡_}
 use mathlib.Core.Logic.{_≢_}
 use mathlib.Core.List.{List, [], _∷_}

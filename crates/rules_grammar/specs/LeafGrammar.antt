@@ -2,7 +2,8 @@
 -- pattern. An integer item is a value or an interval: `|a|`, `|a..b|`, `|a..<b|`, `|>a..b|`, `|>a..<b|`, `|a+/-d|`, `|<a|`, `|>a|`, `|<=a|`, `|>=a|`. Date items are intervals only, the
 -- same without `+/-`. Date patterns .. Time patterns .."; "Intervals become closed pairs; an open end moves by one (one calendar day for dates); a missing end is the range's end,
 -- 0000-01-01 and 9999-12-31 for dates"; 'Numbers of refusal': no `+/-` result outside, no empty interval, no 17th item, no record 2,048, no overlapping or equal item, no string too long.
--- Integers are distances from -2,147,483,648, dates are packed. Proved one with tokenAt, literalValue, after, before, empty, closed, inside, around, leaf. Assumes nothing.
+-- Document 02, 1: "Where a leaf may stand, a token such as Pd, a TYPE too, is the pattern exactly when `}` .. follows": the `}` is asked for behind the leaf, by the production of an attribute.
+-- Integers are distances from -2,147,483,648, dates are packed. Proved one with tokenAt, contentTokenAt, literalValue, after, before, empty, closed, inside, around, leaf. Assumes nothing.
 use mathlib.Core.Path.{_≡_}
 use mathlib.Core.Logic.{_≢_}
 use mathlib.Core.List.{List, [], _∷_, List·Memᴰ}
@@ -10,16 +11,17 @@ use Prim.Native.Nat.{ℕ, _+_, _*_, _≤_}
 use lib.ListN.{length}
 use Rattle.lexis.specs.Spelling.{bar, dots, less, greater, atMost, atLeast, plusMinus, comma, trueWord, falseWord}
 use Rattle.lexis.specs.Spelling
-use Rattle.lexis.specs.Tokens.{integer, date, string, spelling, inner}
+use Rattle.lexis.specs.Tokens.{typeName, integer, date, string, spelling, inner}
 use Rattle.lexis.specs.declared.Token.{Token}
 use Rattle.values.specs.Integers.{Pair, pair}
 use Rattle.values.specs.Dates.{Date}
 use Rattle.values.specs.Days.{MonthHas, IsDay}
 use Rattle.refusals.specs.Limits.{recordLimit, stringLimit, itemLimit}
-use Rattle.meaning.specs.Constraints.{Range, Text, Leaf, single, ranges, texts, booleans, datePattern, timePattern, integers, dates}
+use Rattle.meaning.specs.Constraints.{Range, Text, Leaf, single, ranges, texts, booleans, datePattern, timePattern, durationPattern, integers, dates}
 use Rattle.values.specs.WordRules.{IsInteger, IsDate}
 use Rattle.rules_grammar.specs.DataGrammar.{Distinct}
 use Rattle.lexis.specs.LongestMatch.{NextIs}
+use Rattle.lexis.specs.DurationRules.{SpellsPattern}
 
 -- the next token from a place on, of a sort
 pub data NextToken (s : List ℕ) (from sort : ℕ) : Token → Type 0 where
@@ -168,3 +170,5 @@ pub data DerivesLeaf (s : List ℕ) (n from : ℕ) : Leaf → ℕ → Type 0 whe
       → DerivesLeaf s n from (single datePattern n f) (t .end)
   aTimePattern : {f : ℕ} {t : Token} → n ≢ recordLimit → 1 ≤ f → f ≤ 4 → NextToken s from (Spelling.timePattern + f) t
       → DerivesLeaf s n from (single timePattern n f) (t .end)
+  aDurationPattern : {f : ℕ} {t : Token} → n ≢ recordLimit → NextToken s from typeName t
+      → SpellsPattern (spelling s t) f → DerivesLeaf s n from (single durationPattern n f) (t .end)
