@@ -33,6 +33,13 @@ fn same_bytes(job: &str, product: &Output, second: &[u8]) -> Agreement {
     product.difference(second).map_or(Ok(()), |what| Err(format!("{job}: {what}")))
 }
 
+/// Counts the kinds of a table that a job was given, if it passes the check.
+fn meet(desk: &mut Desk, job: Job, table: &[u8]) {
+    if matches!(second::check(table), CheckAnswer::Passed) {
+        desk.counts.meet(job, table);
+    }
+}
+
 /// Compiles by both; the output as it is behind the call, and the table's length if it was written.
 fn compile(desk: &mut Desk, text: &[u8], little: bool, room: usize, fill: u8) -> Result<Option<Vec<u8>>, String> {
     let text = input(text);
@@ -43,13 +50,16 @@ fn compile(desk: &mut Desk, text: &[u8], little: bool, room: usize, fill: u8) ->
     desk.counts.add(Job::Compile, got.number);
     same("compile", got, answer)?;
     same_bytes("compile", &out, &expected)?;
-    Ok((answer.number == 0).then(|| expected[..answer.place as usize].to_vec()))
+    let written = (answer.number == 0).then(|| expected[..answer.place as usize].to_vec());
+    written.iter().for_each(|table| desk.counts.meet(Job::Compile, table));
+    Ok(written)
 }
 
 fn check(desk: &mut Desk, table: &[u8]) -> Agreement {
     let table = input(table);
     let got = binding::check(&table);
     desk.counts.add(Job::Check, got.number);
+    meet(desk, Job::Check, &table);
     same("check", got, told::checked(second::check(&table)))
 }
 
@@ -68,6 +78,8 @@ fn merge(
     let answer = told::merged(second::merge(&first, &second, little, &mut expected));
     let got = binding::merge(&first, &second, little, out.lent());
     desk.counts.add(Job::Merge, got.number);
+    meet(desk, Job::Merge, &first);
+    meet(desk, Job::Merge, &second);
     same("merge", got, answer)?;
     same_bytes("merge", &out, &expected)?;
     Ok((answer.number == 0).then(|| (expected[..answer.place as usize].to_vec(), answer.record_shift)))
@@ -77,6 +89,7 @@ fn judge(desk: &mut Desk, table: &[u8], root: u32, data: &[u8]) -> Agreement {
     let (table, data) = (input(table), input(data));
     let got = binding::judge(&table, root, &data);
     desk.counts.add(Job::Judge, got.number);
+    meet(desk, Job::Judge, &table);
     same(&format!("judge at {root}"), got, told::judged(second::judge(&table, root, &data)))
 }
 
@@ -84,6 +97,7 @@ fn name(desk: &mut Desk, table: &[u8], record: u32) -> Agreement {
     let table = input(table);
     let got = binding::name(&table, record);
     desk.counts.add(Job::Name, got.number);
+    meet(desk, Job::Name, &table);
     same(&format!("name of {record}"), got, told::named(second::name(&table, record)))
 }
 

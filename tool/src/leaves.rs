@@ -19,6 +19,7 @@ pub fn kind(record: &Record) -> &'static str {
         Record::Text { .. } => "a string",
         Record::DatePattern { .. } | Record::Dates { .. } => "a date",
         Record::TimePattern { .. } => "a time",
+        Record::DurationPattern { .. } => "a duration",
     }
 }
 
@@ -58,6 +59,7 @@ pub fn item(record: &Record) -> Vec<u8> {
         Record::DatePattern { flag } => date_pattern(*flag).into(),
         Record::Dates { low, high, .. } => dates(*low, *high).into(),
         Record::TimePattern { flag } => time_pattern(*flag).into(),
+        Record::DurationPattern { flag } => duration_pattern(*flag).into(),
         _ => Vec::new(),
     }
 }
@@ -129,5 +131,27 @@ pub fn time_pattern(flag: u8) -> &'static str {
         2 => "Thh:mm:XX",
         3 => "Thh:??:XX",
         _ => "Thh:??:??",
+    }
+}
+
+/// A Duration pattern by its flag: bits 0 to 6 are y m w d h m s.
+pub fn duration_pattern(flag: u8) -> String {
+    let letters = |letters: &str, bits: u8| -> String {
+        letters.chars().enumerate().filter(|(bit, _)| bits >> bit & 1 == 1).map(|(_, letter)| letter).collect()
+    };
+    let times = letters("hms", flag >> 4);
+    let behind = if times.is_empty() { String::new() } else { format!("T{times}") };
+    format!("P{}{behind}", letters("ymwd", flag & 15))
+}
+
+#[cfg(test)]
+mod tests {
+    use super::*;
+
+    #[test]
+    fn duration_patterns_are_spelled_by_their_bits() {
+        let spelled: Vec<String> = [1, 2, 8, 12, 16, 32, 34, 48, 64, 112, 127].into_iter().map(duration_pattern).collect();
+        let patterns = ["Py", "Pm", "Pd", "Pwd", "PTh", "PTm", "PmTm", "PThm", "PTs", "PThms", "PymwdThms"];
+        assert_eq!(spelled, patterns);
     }
 }

@@ -53,10 +53,12 @@ pub const NUMBERS: [Number; 19] = [
         number: 5,
         title: "number, date or word impossible",
         meaning: "In a constraint text: an integer with needless zeros, -0, one outside -2,147,483,648..2,147,483,647, a date that no calendar has, \
-                  or a +/- that leads outside the range. In a data text: a word that reads as no Boolean, integer, date or time.",
+                  or a +/- that leads outside the range. In a data text: a word that reads as no Boolean, integer, date, time \
+                  or duration.",
         place: "The number or date, for +/- the number behind it; the word.",
         advice: "Correct the spelling. In data, text must stand in quotes; Booleans are True and False; times are hh, hh:mm or hh:mm:ss with an optional zone \
-                 such as Z or +05:30; 24:00 is none.",
+                 such as Z or +05:30; 24:00 is none. Durations are as P12w3d or PT5m: P, then slots of one to four digits and y, m, w or d, \
+                 then, behind T, h, m or s.",
     },
     Number {
         number: 6,

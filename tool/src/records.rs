@@ -41,6 +41,7 @@ pub enum Record<'b> {
     DatePattern { flag: u8 },
     Dates { low: u32, high: u32, next: u32 },
     TimePattern { flag: u8 },
+    DurationPattern { flag: u8 },
 }
 
 /// How often an attribute's member may be there.
@@ -132,6 +133,7 @@ impl<'b> Table<'b> {
             6 => Record::DatePattern { flag },
             7 => Record::Dates { low: a, high: b, next: e },
             8 => Record::TimePattern { flag },
+            9 => Record::DurationPattern { flag },
             _ => return None,
         })
     }

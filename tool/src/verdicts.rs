@@ -41,6 +41,7 @@ fn wanted(table: &Table, record: u32) -> Vec<(&'static str, Vec<u8>)> {
         Some(Record::Object { type_name, .. }) => vec![("wanted", [&b"a block of type "[..], type_name].concat())],
         Some(Record::DatePattern { flag }) => vec![("admitted", pattern("a date", leaves::date_pattern(flag)))],
         Some(Record::TimePattern { flag }) => vec![("admitted", pattern("a time", leaves::time_pattern(flag)))],
+        Some(Record::DurationPattern { flag }) => vec![("admitted", duration(flag))],
         Some(Record::Header { .. } | Record::Attribute { .. }) | None => vec![],
         Some(_) => vec![("admitted", leaves::admitted(table, record))],
     }
@@ -51,6 +52,11 @@ fn pattern(kind: &str, pattern: &str) -> Vec<u8> {
     let optional = if pattern.contains("??") { ", ?? may be left out" } else { "" };
     let absent = if pattern.contains("XX") { ", XX must be left out" } else { "" };
     format!("{kind} {pattern}{optional}{absent}").into_bytes()
+}
+
+/// A Duration pattern, and how it is meant.
+fn duration(flag: u8) -> Vec<u8> {
+    format!("a duration {}, slots may be left out", leaves::duration_pattern(flag)).into_bytes()
 }
 
 /// The member that is missing, and what it would hold.
@@ -95,6 +101,7 @@ mod tests {
             big(4, 0, [0x8000_0000, 0xFFFF_FFFF, 0, 0, 15]),
             big(4, 0, [5, 0x7FFF_FFFF, 0, 0, 0]),
             big(2, 0, [4, 4, 0, 0, 0]),
+            big(9, 12, [0; 5]),
         ];
         table(&records, b"FORMrate")
     }
@@ -123,6 +130,7 @@ mod tests {
         assert_eq!(admitted(10), "admitted: <=2000-01-01, 2024-02-29..2024-12-31, >=2026-01-01");
         assert_eq!(admitted(13), "admitted: a time Thh:mm:ss");
         assert_eq!(admitted(14), "admitted: <=-1, >=5");
+        assert_eq!(admitted(17), "admitted: a duration Pwd, slots may be left out");
     }
 
     #[test]
@@ -133,6 +141,8 @@ mod tests {
         assert_eq!(reason(3, "<\"5\">"), "string where an integer is wanted");
         assert_eq!(reason(3, "<08>"), "cannot be read as an integer");
         assert_eq!(reason(5, "<5>"), "word where a string is wanted");
+        assert_eq!(reason(17, "<5>"), "cannot be read as a duration");
+        assert_eq!(reason(17, "<\"P4w\">"), "string where a duration is wanted");
         assert_eq!(reason(1, "<5>"), "leaf where a block is wanted");
         assert_eq!(reason(1, "<\"x\">"), "leaf where a block is wanted");
         assert_eq!(said(20, 1, "<5>").1, "wanted: a block of type FORM");

@@ -24,7 +24,7 @@ pub fn of_data(number: u32, text: &[u8], place: usize) -> String {
     match number {
         2 => syntax(text, place, tokens::data_token(text, place)).to_string(),
         3 => "17th level of blocks".to_string(),
-        5 => "no Boolean, integer, date or time".to_string(),
+        5 => "no Boolean, integer, date, time or duration".to_string(),
         9 => "member named twice".to_string(),
         _ => of_text(number, text, place),
     }
@@ -189,7 +189,7 @@ mod tests {
         assert_eq!(said(2, "5"), "cannot follow here");
         assert_eq!(said(2, "a-b"), "unreadable");
         assert_eq!(said(3, "<"), "17th level of blocks");
-        assert_eq!(said(5, "24:00"), "no Boolean, integer, date or time");
+        assert_eq!(said(5, "24:00"), "no Boolean, integer, date, time or duration");
         assert_eq!(said(9, "pulse"), "member named twice");
     }
 

@@ -276,7 +276,7 @@ fn judge_shows_a_refusal_with_its_line() {
     refused("<a = 5>", "1:6: refused 2: cannot follow here\n<a = 5>\n     ^");
     refused("<a-b = <5>>", "1:2: refused 2: unreadable\n<a-b = <5>>\n ^");
     refused("<a = <5>\n a = <5>>", "2:2: refused 9: member named twice\n a = <5>>\n ^");
-    refused("<a = <24:00>>", "1:7: refused 5: no Boolean, integer, date or time\n<a = <24:00>>\n      ^");
+    refused("<a = <24:00>>", "1:7: refused 5: no Boolean, integer, date, time or duration\n<a = <24:00>>\n      ^");
 }
 
 #[test]
@@ -352,6 +352,56 @@ fn show_prints_each_record() {
     folder.compile("a", SMALLEST, "little");
     let shown = "   0 little header        2 records, 1 byte of names, root 1\n   1 little object        A: any members (root)\n";
     folder.run("show a.table").answers(0, shown);
+}
+
+/// The Duration pattern of a flag: the letters of its bits.
+fn duration_pattern(flag: u32) -> String {
+    let mut pattern = String::from("P");
+    for (bit, letter) in "ymwdhms".chars().enumerate() {
+        if bit >= 4 && flag >> bit & 1 == 1 && !pattern.contains('T') {
+            pattern.push('T');
+        }
+        if flag >> bit & 1 == 1 {
+            pattern.push(letter);
+        }
+    }
+    pattern
+}
+
+#[test]
+fn every_duration_pattern_is_shown_as_it_was_written() {
+    let folder = Folder::new("durations");
+    let attributes: String = (1..128).map(|flag| format!("a{flag} matches {{{}}}\n", duration_pattern(flag))).collect();
+    folder.compile("all", &format!("A matches {{{attributes}}}"), "big");
+    let ran = folder.run("show all.table");
+    let shown: Vec<&str> = ran.out.lines().filter(|line| line.contains(" duration ")).collect();
+    assert_eq!(shown.len(), 127, "{}", ran.out);
+    for (line, flag) in shown.iter().zip(1..) {
+        let number = 1 + 2 * flag;
+        assert_eq!(*line, format!("{number:>4} big    duration      {}", duration_pattern(flag)));
+    }
+    folder.compile("gestation", "A matches {gestation matches {Pwd}}", "little");
+    let json = "{\"command\":\"show\",\"outcome\":\"shown\",\"file\":\"gestation.table\",\"record\":3,\"order\":\"little\",\"kind\":\"duration\",\"admitted\":\"Pwd\"}";
+    assert_eq!(folder.run("show --json gestation.table").out.lines().last(), Some(json));
+}
+
+#[test]
+fn durations_are_judged() {
+    let folder = Folder::new("durations-judged");
+    folder.compile("a", "A matches {gestation matches {Pwd}}", "big");
+    folder.put("good.dadl", "<gestation = <P12w3d>>");
+    folder.run("judge a.table good.dadl").answers(0, "good.dadl: valid\n");
+    folder.put("minutes.dadl", "<gestation = <PT5m>>");
+    let told = "minutes.dadl:1:14: A/gestation: 24 value not admitted\n<gestation = <PT5m>>\n             ^\n\
+        admitted: a duration Pwd, slots may be left out\n";
+    folder.run("judge a.table minutes.dadl").answers(1, told);
+    folder.put("days.dadl", "<gestation = <87>>");
+    let told = "days.dadl:1:14: A/gestation: 20 cannot be read as a duration\n<gestation = <87>>\n             ^\n\
+        admitted: a duration Pwd, slots may be left out\n";
+    folder.run("judge a.table days.dadl").answers(1, told);
+    folder.put("bare.dadl", "<gestation = <P12>>");
+    let told = "bare.dadl:1:15: refused 5: no Boolean, integer, date, time or duration\n<gestation = <P12>>\n              ^\n";
+    folder.run("judge a.table bare.dadl").answers(1, told);
 }
 
 #[test]

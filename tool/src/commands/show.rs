@@ -50,6 +50,7 @@ fn kind(record: &Record) -> &'static str {
         Record::DatePattern { .. } => "date pattern",
         Record::Dates { .. } => "date interval",
         Record::TimePattern { .. } => "time pattern",
+        Record::DurationPattern { .. } => "duration",
     }
 }
 
@@ -104,8 +105,9 @@ fn members(json: Object, record: &Record) -> Object {
         Record::Dates { low, high, next } => {
             json.text("low", &leaves::date(*low)).text("high", &leaves::date(*high)).number("next", *next)
         }
-        Record::Boolean { .. } | Record::DatePattern { .. } | Record::TimePattern { .. } => {
-            json.bytes("admitted", &leaves::item(record))
-        }
+        Record::Boolean { .. }
+        | Record::DatePattern { .. }
+        | Record::TimePattern { .. }
+        | Record::DurationPattern { .. } => json.bytes("admitted", &leaves::item(record)),
     }
 }
