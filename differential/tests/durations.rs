@@ -52,14 +52,15 @@ fn every_pattern_judges_every_set_of_slots() {
             let product = binding::judge(&table, 1, word.as_bytes());
             let second = second::judge(&table, 1, word.as_bytes());
             let admitted = filled & pattern == filled;
-            let expected = if admitted {
-                JudgeAnswer::Valid
-            } else {
-                JudgeAnswer::Verdict { reason: 24, record: 3, place: 5 }
-            };
+            let expected =
+                if admitted { JudgeAnswer::Valid } else { JudgeAnswer::Verdict { reason: 24, record: 3, place: 5 } };
             assert_eq!(second, expected, "flag {pattern}, {word}");
             let number = if admitted { (0, 0, 0) } else { (24, 3, 5) };
-            assert_eq!(product, Judged { number: number.0, record: number.1, place: number.2 }, "flag {pattern}, {word}");
+            assert_eq!(
+                product,
+                Judged { number: number.0, record: number.1, place: number.2 },
+                "flag {pattern}, {word}"
+            );
         }
     }
 }

@@ -150,7 +150,8 @@ mod tests {
 
     #[test]
     fn duration_patterns_are_spelled_by_their_bits() {
-        let spelled: Vec<String> = [1, 2, 8, 12, 16, 32, 34, 48, 64, 112, 127].into_iter().map(duration_pattern).collect();
+        let spelled: Vec<String> =
+            [1, 2, 8, 12, 16, 32, 34, 48, 64, 112, 127].into_iter().map(duration_pattern).collect();
         let patterns = ["Py", "Pm", "Pd", "Pwd", "PTh", "PTm", "PmTm", "PThm", "PTs", "PThms", "PymwdThms"];
         assert_eq!(spelled, patterns);
     }

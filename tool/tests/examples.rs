@@ -41,6 +41,11 @@ fn each_form_by_its_own_table() {
     let told = "newborn-wrong.dadl:6:12: OBSERVATION/pulse/rate: 24 value not admitted\n    \
                 rate = <72>\n           ^\nadmitted: 100..160\n";
     folder.run("judge newborn.table newborn-wrong.dadl").answers(1, told);
+    assert_eq!(folder.run("compile antenatal.cadl -o antenatal.table").status, 0);
+    folder.run("judge antenatal.table antenatal.dadl").answers(0, "antenatal.dadl: valid\n");
+    let told = "antenatal-wrong.dadl:4:15: OBSERVATION/gestation: 24 value not admitted\n  \
+                gestation = <PT5m>\n              ^\nadmitted: a duration Pwd, slots may be left out\n";
+    folder.run("judge antenatal.table antenatal-wrong.dadl").answers(1, told);
     let told = "broken.dadl:6:16: refused 2: cannot follow here\n        rate = 72\n               ^\n";
     folder.run("judge adult.table broken.dadl").answers(1, told);
     let told =
