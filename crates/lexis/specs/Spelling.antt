@@ -1,4 +1,4 @@
--- The tokens that document 01 spells out, as bytes: 'Constraint text', markSpellings, keywords, Booleans, patterns. Assumes nothing.
+-- The tokens that document 01 spells out, as bytes: 'Constraint text', marks, keywords, Booleans, date and time patterns. Assumes nothing.
 use mathlib.Core.Bool.{cond}
 use mathlib.Core.List.{List, [], _∷_}
 use Rattle.lexis.specs.Text.{bytes}

@@ -1,5 +1,5 @@
 -- The tokens of constraint text. Document 01, 'Constraint text': "Tokens by longest match"; the text's end is a token (number 2).
--- What begins as a pattern, a date or a longer mark is that, and not the shorter NAME, TYPE, integer or mark with which it begins. Document 02, 1: "Where a leaf may stand, a token such as Pd, a
+-- What begins as a date or time pattern, a date or a longer mark is that, and not the shorter NAME, TYPE, integer or mark with which it begins. Document 02, 1: "Where a leaf may stand, a token such as Pd, a
 -- TYPE too, is the pattern exactly when `}` .. follows".
 -- Assumes nothing.
 use mathlib.Core.Bool.{Bool, false, cond, _&&_, _||_}
