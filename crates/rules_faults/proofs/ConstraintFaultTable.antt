@@ -94,6 +94,11 @@ pub past-strings : told (faults (bytes "A matches {a matches {\"a\",\"b\",\"c\",
 unfolding faultsCompute
 past-strings = refl
 
+-- past Duration patterns and a name that stood before, up to a TYPE behind which no brace stands
+pub past-patterns : told (faults (bytes "A matches {b matches {Pd} b matches {Pwd} c matches {Pd;")) ≡ 9 ∷ 26 ∷ 2 ∷ 55 ∷ []
+unfolding faultsCompute
+past-patterns = refl
+
 -- a 17th item with a fault of its own, and a name that stood before
 pub past-names : told (faults (bytes "A matches {a matches {1,2,3,4,5,6,7,8,9,10,11,12,13,14,15,16,|017|,17,17} a matches {007}}")) ≡ 7 ∷ 61 ∷ 5 ∷ 62 ∷ 9 ∷ 70 ∷ 9 ∷ 74 ∷ 5 ∷ 85 ∷ []
 unfolding faultsCompute
