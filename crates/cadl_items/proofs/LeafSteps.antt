@@ -20,7 +20,6 @@ use Rattle.refusals.specs.declared.Refusal.{Refusal}
 use Rattle.refusals.proofs.Readings.{Holds}
 use Rattle.meaning.specs.Constraints.{Leaf, single}
 use Rattle.cadl_intervals.specs.Intervals.{undecided}
-use Rattle.cadl_items.specs.Ranges.{Ranges}
 use Rattle.cadl_items.specs.contracts.Told.{ranges, strings, booleanList, leaf}
 use Rattle.cadl_items.specs.Leaves.{isBoolean, booleanFlag}
 use Rattle.cadl_items.specs.contracts.Answers.{rangeAt, textAt, itemsFrom, singleOf, leafReading, LeafRoom, LeafPast, LeafIs}

@@ -1,13 +1,12 @@
 -- The next token where a value may stand is the one that the rules give. Assumes nothing.
-use mathlib.Core.Path.{_≡_, refl, sym, ap, _∙_, subst}
-use mathlib.Core.Logic.{_≢_, _↔_}
-use mathlib.Core.Bool.{Bool, true, false, cond, _&&_}
+use mathlib.Core.Path.{_≡_, refl, sym, _∙_, subst}
+use mathlib.Core.Logic.{_↔_}
+use mathlib.Core.Bool.{Bool, true, false, _&&_}
 use mathlib.Core.List.{List}
 use Prim.Native.Nat.{ℕ, _+_, _≤_}
 use native.Mathlib.Omega.{arith}
 use lib.Dec.{eqb, leb}
 use borrow.Author.Tests.{eqb-true, eq-eqb, leb-true, le-leb}
-use Rattle.lexis.specs.Runs.{part}
 use Rattle.lexis.specs.Spelling.{closeBrace}
 use Rattle.lexis.specs.SpellingRules.{Spells}
 use Rattle.lexis.specs.SpellingRules
@@ -18,7 +17,7 @@ use Rattle.lexis.specs.LongestMatch.{NextIs, PatternHere, patternHere, N
 use Rattle.lexis.specs.LongestMatch
 use Rattle.lexis.specs.declared.Token.{Token}
 use Rattle.lexis.proofs.Cases.{and-left, and-right}
-use Rattle.lexis.proofs.TestLaws.{true-or-false, false-true, and-both}
+use Rattle.lexis.proofs.TestLaws.{true-or-false, false-true}
 use Rattle.lexis.proofs.TokenLaws.{next-is, is-next}
 use Rattle.lexis.proofs.SlotLaws.{slots-some}
 use Rattle.lexis.proofs.DurationLaws.{pattern-is}
@@ -46,15 +45,15 @@ test-here s from h =
     let e : flag ≡ patternSlots (spelling s t) = rw (eq-eqb (t .sort) typeName k) refl in
     patternHere (of-sort s from typeName k) (pattern-is (spelling s t) flag (λ z. omega arith) .0 (sym e)) (of-sort s (t .end) closeBrace c)
 
+-- a pattern's flag is read, and above 0
+spelled-flag : {w : List ℕ} {flag : ℕ} → SpellsPattern w flag → (patternSlots w ≡ flag) × (leb 1 flag ≡ true)
+spelled-flag {w} {flag} k = let n = slots-some k in (pattern-is w flag n .1 k, le-leb 1 flag (omega arith))
+
 -- where a pattern stands, it is the token
 here-content : {s : List ℕ} {from start end flag : ℕ} → PatternHere s from start end flag
     → contentTokenAt s from ≡ token (durationPattern + flag) start end
 unfolding contentTokenAt
-here-content {s} {from} {start} {end} {flag} (patternHere t k c) =
-    let n = slots-some k in
-    let f = pattern-is (part s start end) flag n .1 k in
-    let l : 1 ≤ flag = omega arith in
-    rw (is-next t, f, le-leb 1 flag l, is-next c) refl
+here-content (patternHere t k c) = let (f, l) = spelled-flag k in rw (is-next t, f, l, is-next c) refl
 
 -- the test and the token
 content-true : (s : List ℕ) (from : ℕ) → patternTest s from ≡ true
@@ -68,11 +67,7 @@ content-false s from h = rw h refl
 
 -- a pattern passes the test
 here-test : {s : List ℕ} {from start end flag : ℕ} → PatternHere s from start end flag → patternTest s from ≡ true
-here-test {s} {from} {start} {end} {flag} (patternHere t k c) =
-    let n = slots-some k in
-    let f = pattern-is (part s start end) flag n .1 k in
-    let l : 1 ≤ flag = omega arith in
-    rw (is-next t, f, le-leb 1 flag l, is-next c) refl
+here-test (patternHere t k c) = let (f, l) = spelled-flag k in rw (is-next t, f, l, is-next c) refl
 
 next-content : (s : List ℕ) (from : ℕ) → NextContentIs s from (contentTokenAt s from)
 next-content s from =

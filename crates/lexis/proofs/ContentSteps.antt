@@ -1,21 +1,20 @@
 -- The steps of reading a token where a value may stand, and where it lies. Assumes nothing.
-use mathlib.Core.Path.{_≡_, refl, sym, ap, _∙_}
-use mathlib.Core.Logic.{_≢_}
+use mathlib.Core.Path.{_≡_, refl, ap, _∙_}
 use mathlib.Core.Bool.{Bool, true, false, cond, not, _&&_}
-use mathlib.Core.List.{List, [], _∷_}
+use mathlib.Core.List.{List}
 use Prim.Native.Nat.{ℕ, _+_, _-_, _≤_, _<_}
 use native.Mathlib.Omega.{arith}
 use native.Mathlib.Nat.{add-zero}
 use lib.Dec.{eqb, leb}
-use lib.ListN.{length, take, drop}
+use lib.ListN.{length, drop}
 use lib.Seq.{getD-take, getD-drop}
 use borrow.Author.Tests.{eqb-true, eq-eqb, ne-eqb, leb-true, le-leb, lt-leb, not-true, not-false}
 use Rattle.lexis.specs.Text.{byte}
 use Rattle.lexis.specs.Runs.{byteAt, part}
 use Rattle.lexis.specs.Spelling.{closeBrace}
 use Rattle.lexis.specs.Durations.{slotsOf, patternSlots, durationPattern}
-use Rattle.lexis.specs.Tokens.{token, textEnd, unreadable, typeName, spelling, tokenAt, durationFlag, contentTokenAt}
-use Rattle.lexis.specs.contracts.Answers.{TokenIs, FlagIs, TypeThere, patternOrType}
+use Rattle.lexis.specs.Tokens.{token, typeName, spelling, tokenAt, durationFlag, patternOr, contentTokenAt}
+use Rattle.lexis.specs.contracts.Answers.{TokenIs, FlagIs, TypeThere}
 use Rattle.lexis.specs.declared.Token.{Token}
 use Rattle.lexis.proofs.Cases.{by-cond, and-left}
 use Rattle.lexis.proofs.Places.{Found, token-found}
@@ -35,22 +34,20 @@ first-of-part s start end l =
 
 -- a TYPE where a value may stand
 module _ (s : List ℕ) (t : Token) (d : TypeThere s t) where
-  pub type-other : (byteAt s (t .start) ≡ byte "P" → ⊥) → t ≡ patternOrType s t
+  pub type-other : (byteAt s (t .start) ≡ byte "P" → ⊥) → t ≡ patternOr s t (patternSlots (spelling s t))
   unfolding patternSlots slotsOf
   type-other n = rw (first-of-part s (t .start) (t .end) (d .order), ne-eqb (byteAt s (t .start)) (byte "P") n) refl
 
   module _ (flag : ℕ) (q : FlagIs (patternSlots (part s (t .start) (t .end))) flag) where
-    pub type-no-pattern : flag < 1 → t ≡ patternOrType s t
+    pub type-no-pattern : flag < 1 → t ≡ patternOr s t (patternSlots (spelling s t))
     type-no-pattern l = rw (← q .is, lt-leb 1 flag l) refl
 
     module _ (l : 1 ≤ flag) (r : Bool) (p : r ≡ eqb (tokenAt s (t .end) .sort) closeBrace) where
-      pub type-stays : not r ≡ true → t ≡ patternOrType s t
+      pub type-stays : not r ≡ true → t ≡ patternOr s t (patternSlots (spelling s t))
       type-stays e = rw (← q .is, le-leb 1 flag l, ← p, not-true r e) refl
 
-      pub type-pattern : not r ≡ false → token (durationPattern + flag) (t .start) (t .end) ≡ patternOrType s t
+      pub type-pattern : not r ≡ false → token (durationPattern + flag) (t .start) (t .end) ≡ patternOr s t (patternSlots (spelling s t))
       type-pattern e = rw (← q .is, le-leb 1 flag l, ← p, not-false r e) refl
-
-pub ruleset type-steps = (type-other, type-no-pattern, type-stays, type-pattern)
 
 -- a TYPE that was read
 pub type-there : (s : List ℕ) (from : ℕ) (t : Token) → TokenIs s from (tokenAt s from) t → t .sort ≡ typeName
@@ -85,12 +82,12 @@ content-found s from h =
 
 -- the next token where a value may stand
 module _ (s : List ℕ) (from : ℕ) (h : from ≤ length s) (t : Token) (p : TokenIs s from (tokenAt s from) t) where
-  pub content-type : (r : Token) → t .sort ≡ typeName → r ≡ patternOrType s t
+  pub content-type : (r : Token) → t .sort ≡ typeName → r ≡ patternOr s t (patternSlots (spelling s t))
       → TokenIs s from (contentTokenAt s from) r
   unfolding contentTokenAt
   content-type r e q = promised s from (contentTokenAt s from) r (q ∙ as-content t (p .is) e) (content-found s from h)
     where
-      as-content : (u : Token) → u ≡ tokenAt s from → u .sort ≡ typeName → patternOrType s u ≡ contentTokenAt s from
+      as-content : (u : Token) → u ≡ tokenAt s from → u .sort ≡ typeName → patternOr s u (patternSlots (spelling s u)) ≡ contentTokenAt s from
       as-content u i k = rw (← i, eq-eqb (u .sort) typeName k) refl
 
   pub content-other : (t .sort ≡ typeName → ⊥) → TokenIs s from (contentTokenAt s from) t

@@ -1,28 +1,28 @@
 -- Duration patterns and the slots of duration words, by the definitions and by the rules. Assumes nothing.
-use mathlib.Core.Path.{_≡_, refl, sym, ap, _∙_, subst}
+use mathlib.Core.Path.{_≡_, refl, sym, ap, _∙_}
 use mathlib.Core.Logic.{_≢_, _↔_}
-use mathlib.Core.Bool.{Bool, true, false, cond, _&&_, _||_}
+use mathlib.Core.Bool.{Bool, true, false, cond, _&&_}
 use mathlib.Core.List.{List, [], _∷_, _++_, append-nil, append-assoc}
 use Prim.Native.Nat.{ℕ, zero, suc, _+_, _*_, _/_, _%_, _≤_, _<_}
 use native.Mathlib.Omega.{arith}
 use native.Mathlib.Nat.{mul-zero, mul-one, mul-assoc, mul-add}
-use lib.Dec.{eqb, leb, eqb·suc-zero}
-use lib.ListN.{length, take, drop, length-append}
-use lib.Seq.{take-append-seam, drop-append-seam}
-use borrow.Author.Tests.{eqb-true, eqb-false, eq-eqb, ne-eqb, leb-true, leb-false, le-leb, lt-leb}
+use lib.Dec.{eqb, leb}
+use lib.ListN.{length, length-append}
+use lib.Seq.{drop-append-seam}
+use borrow.Author.Tests.{eqb-true, eqb-false, eq-eqb, ne-eqb, leb-true, le-leb}
 use Rattle.lexis.specs.Text.{byte, bytes}
 use Rattle.lexis.specs.Bytes.{is, within}
 use Rattle.lexis.specs.Bytes
-use Rattle.lexis.specs.Runs.{past, byteAt, all}
+use Rattle.lexis.specs.Runs.{past, all}
 use Rattle.lexis.specs.SpellingRules.{Digit, Small, Digits, All}
 use Rattle.lexis.specs.SpellingRules
-use Rattle.lexis.specs.Durations.{letterSlot, inEitherCase, letterBehind, digitSlot, Filled, filled, fill, fillAll, noneLeft, behindTime, behindDate, slotsOf, patternSlots}
+use Rattle.lexis.specs.Durations.{letterSlot, inEitherCase, letterBehind, digitSlot, fill, fillAll, behindTime, behindDate, slotsOf, patternSlots}
 use Rattle.lexis.specs.DurationRules.{SlotsInOrder, SlotsBehindP, LetterAlone, letterAlone, DigitsAndLetter, SpellsPattern}
 use Rattle.lexis.specs.DurationRules
-use Rattle.lexis.proofs.Cases.{by-cond, and-left, and-right}
-use Rattle.lexis.proofs.TestLaws.{true-or-false, false-true, or-cases, or-left, or-right, and-both}
+use Rattle.lexis.proofs.Cases.{and-left, and-right}
+use Rattle.lexis.proofs.TestLaws.{true-or-false, or-cases, or-left, or-right}
 use Rattle.lexis.proofs.RunLaws.{past-run}
-use Rattle.lexis.proofs.ByteRules.{is-digit, is-all, Splits, past-splits}
+use Rattle.lexis.proofs.ByteRules.{is-digit, is-all, past-splits}
 use Rattle.lexis.proofs.NumeralLaws.{digits-all}
 use Rattle.lexis.proofs.SlotLaws.{Stop, ended, timeFollows, SlotsRead, slots-is}
 

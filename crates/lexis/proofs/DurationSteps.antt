@@ -1,17 +1,17 @@
 -- The steps of a walk over slots: a lemma for each way out, in the form that `search` takes. Assumes nothing.
-use mathlib.Core.Path.{_≡_, refl, sym, ap, _∙_}
-use mathlib.Core.Bool.{Bool, true, false, cond, _&&_, _||_}
+use mathlib.Core.Path.{_≡_, refl, ap, _∙_}
+use mathlib.Core.Bool.{Bool, true, false, cond}
 use mathlib.Core.List.{List, [], _∷_}
 use Prim.Native.Nat.{ℕ, _+_, _-_, _≤_, _<_}
 use native.Mathlib.Omega.{arith}
-use lib.Dec.{eqb, leb}
+use lib.Dec.{eqb}
 use lib.ListN.{length, drop, length-drop, drop-of-length-le}
 use lib.Seq.{drop-drop}
 use borrow.Author.Tests.{eq-eqb, ne-eqb, le-leb, lt-leb}
 use Rattle.lexis.specs.Text.{byte, bytes}
-use Rattle.lexis.specs.Bytes.{is, digit, within}
+use Rattle.lexis.specs.Bytes.{is, digit}
 use Rattle.lexis.specs.Runs.{past, byteAt}
-use Rattle.lexis.specs.Durations.{letterSlot, inEitherCase, letterBehind, digitSlot, Filled, filled, fill, fillAll, behindTime, behindDate, slotsOf, patternSlots}
+use Rattle.lexis.specs.Durations.{letterSlot, inEitherCase, letterBehind, digitSlot, filled, fill, fillAll, behindTime, behindDate, slotsOf, patternSlots}
 use Rattle.lexis.specs.contracts.Answers.{PlaceIs, slotBy, SlotIs, filledAt, FillRoom, FillIs, FlagIs}
 use Rattle.lexis.specs.declared.durations.Slots.{Slots}
 use Rattle.lexis.proofs.Places.{drop-in}

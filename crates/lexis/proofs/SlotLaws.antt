@@ -1,28 +1,23 @@
 -- A walk over slots fills those that the rules find, and no others. Assumes nothing.
 use mathlib.Core.Path.{_≡_, refl, sym, ap, _∙_, subst}
 use mathlib.Core.Logic.{_≢_, _↔_}
-use mathlib.Core.Bool.{Bool, true, false, cond, _&&_, _||_}
+use mathlib.Core.Bool.{true, false, _&&_}
 use mathlib.Core.List.{List, [], _∷_, _++_, append-nil, append-assoc}
-use Prim.Native.Nat.{ℕ, zero, suc, _+_, _*_, _≤_, _<_}
+use Prim.Native.Nat.{ℕ, suc, _+_, _*_, _≤_}
 use native.Mathlib.Omega.{arith}
 use lib.Dec.{eqb, leb, eqb·suc-zero}
-use lib.ListN.{length, take, drop}
-use lib.Seq.{take-append-seam, drop-append-seam}
-use borrow.Author.Tests.{eqb-true, eqb-false, eq-eqb, ne-eqb, leb-true, leb-false, le-leb, lt-leb}
+use lib.ListN.{length, drop}
+use lib.Seq.{drop-append-seam}
+use borrow.Author.Tests.{eqb-true, eqb-false, ne-eqb, leb-true, le-leb}
 use Rattle.lexis.specs.Text.{byte, bytes}
-use Rattle.lexis.specs.Bytes.{is, within}
 use Rattle.lexis.specs.Bytes
-use Rattle.lexis.specs.Runs.{past, byteAt, all}
-use Rattle.lexis.specs.SpellingRules.{Digit, Small, Digits}
+use Rattle.lexis.specs.Runs.{byteAt}
+use Rattle.lexis.specs.SpellingRules.{Small}
 use Rattle.lexis.specs.SpellingRules
-use Rattle.lexis.specs.Durations.{letterSlot, inEitherCase, letterBehind, digitSlot, Filled, filled, fill, fillAll, noneLeft, behindTime, behindDate, slotsOf, patternSlots}
-use Rattle.lexis.specs.DurationRules.{SlotsInOrder, SlotsBehindP, LetterAlone, letterAlone, DigitsAndLetter}
+use Rattle.lexis.specs.Durations.{Filled, filled, fill, fillAll, noneLeft, behindTime, behindDate, slotsOf}
+use Rattle.lexis.specs.DurationRules.{SlotsInOrder, SlotsBehindP}
 use Rattle.lexis.specs.DurationRules
 use Rattle.lexis.proofs.Cases.{by-cond, and-left, and-right}
-use Rattle.lexis.proofs.TestLaws.{true-or-false, false-true, or-cases, or-left, or-right, and-both}
-use Rattle.lexis.proofs.RunLaws.{past-run}
-use Rattle.lexis.proofs.ByteRules.{is-digit, is-all, past-splits}
-use Rattle.lexis.proofs.NumeralLaws.{digits-all}
 
 -- what stands behind slots: the end, or T
 pub data Stop : List ℕ → Type 0 where

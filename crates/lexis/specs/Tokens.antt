@@ -123,10 +123,12 @@ tokenAt s from = tokenOn s (tokenStart s from)
 abbrev pub durationFlag : List ℕ → Token → ℕ
 durationFlag s t = cond (eqb (t .sort) typeName) (patternSlots (spelling s t)) 0
 
--- the next token where a value may stand: a TYPE that is spelled as a Duration pattern is the pattern where `}` follows
-unfoldable pub contentTokenAt : List ℕ → ℕ → Token
-contentTokenAt s from =
-    let t = tokenAt s from in
-    let flag = durationFlag s t in
+-- a token, or the Duration pattern of a flag above 0 in its place where `}` follows
+abbrev pub patternOr : List ℕ → Token → ℕ → Token
+patternOr s t flag =
     cond (leb 1 flag && eqb (tokenAt s (t .end) .sort) closeBrace)
     (token (durationPattern + flag) (t .start) (t .end)) t
+
+-- the next token where a value may stand: a TYPE that is spelled as a Duration pattern is the pattern where `}` follows
+unfoldable pub contentTokenAt : List ℕ → ℕ → Token
+contentTokenAt s from = let t = tokenAt s from in patternOr s t (durationFlag s t)

@@ -39,8 +39,9 @@ ghost use Rattle.lexis.specs.Text.{byte};
 ghost use Rattle.lexis.specs.Bytes.{is, digit};
 ghost use Rattle.lexis.specs.Runs.{byteAt};
 ghost use Rattle.lexis.specs.Spelling.{closeBrace, keywords, booleans, datePatternSpellings, timePatternSpellings};
-ghost use Rattle.lexis.specs.Tokens.{typeName, name, word, number, sign, quoted, codeEnd, bracket, special, tokenOn, tokenAt, contentTokenAt, spelled};
-ghost use Rattle.lexis.specs.contracts.Answers.{wordsOf, TokenIs, TypeThere, patternOrType};
+ghost use Rattle.lexis.specs.Tokens.{typeName, name, word, number, sign, quoted, codeEnd, bracket, special, tokenOn, tokenAt, patternOr, contentTokenAt, spelled, spelling};
+ghost use Rattle.lexis.specs.Durations.{patternSlots};
+ghost use Rattle.lexis.specs.contracts.Answers.{wordsOf, TokenIs, TypeThere};
 
 // A word: of the family's sort where the family spells it, else of the sort given.
 fn word(s: &[u8], at: usize, f: Words, sort: u8) -> Token
@@ -258,7 +259,7 @@ fn closes(s: &[u8], from: usize) -> bool
 // The Duration pattern that a TYPE is spelled as, where `}` follows, or else the TYPE.
 fn pattern_or_type(s: &[u8], t: Token) -> Token
     requires { ⌜ TypeThere (now s) t ⌝ }
-    ensures { λ r. ⌜ r ≡ patternOrType (now (s .entry)) t ⌝ }
+    ensures { λ r. ⌜ r ≡ patternOr (now (s .entry)) t (patternSlots (spelling (now (s .entry)) t)) ⌝ }
 {
     let start = t.start;
     let end = t.end;

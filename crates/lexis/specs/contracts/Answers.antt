@@ -3,15 +3,15 @@ use mathlib.Core.Path.{_≡_}
 use mathlib.Core.Bool.{Bool, true, false, cond, not, _&&_, _||_}
 use mathlib.Core.List.{List, [], _∷_}
 use Prim.Native.Nat.{ℕ, _+_, _≤_, _<_}
-use lib.Dec.{eqb, leb}
+use lib.Dec.{eqb}
 use lib.ListN.{length, drop}
 use Rattle.lexis.specs.Bytes.{among, is, blank, digit, wordByte, stringByte, runByte, lineEnd}
 use Rattle.lexis.specs.Text.{byte, bytes}
 use Rattle.lexis.specs.Runs.{byteAt, allows}
 use Rattle.lexis.specs.Blanks.{opensComment, tokenStart}
-use Rattle.lexis.specs.Spelling.{Literal, less, greater, closeBrace, keywords, booleans}
-use Rattle.lexis.specs.Tokens.{tokenAt, typeName, spelling, token}
-use Rattle.lexis.specs.Durations.{letterSlot, digitSlot, Filled, filled, patternSlots, durationPattern}
+use Rattle.lexis.specs.Spelling.{Literal, less, greater, keywords, booleans}
+use Rattle.lexis.specs.Tokens.{tokenAt, typeName}
+use Rattle.lexis.specs.Durations.{letterSlot, digitSlot, Filled, filled}
 use Rattle.lexis.specs.DataTokens.{equals, openRound, closeRound, runSort, typeSort, dataTokenAt, typeTokenAt}
 use Rattle.lexis.specs.declared.Token.{Token}
 use Rattle.lexis.specs.declared.durations.Slots.{Slots}
@@ -158,10 +158,3 @@ pub record TypeThere (s : List ℕ) (t : Token) : Type 0 where
   pub is : t .sort ≡ typeName
   pub order : t .start < t .end
   pub inside : t .end ≤ length s
-
--- a TYPE where a value may stand
-abbrev pub patternOrType : List ℕ → Token → Token
-patternOrType s t =
-    let flag = patternSlots (spelling s t) in
-    cond (leb 1 flag && eqb (tokenAt s (t .end) .sort) closeBrace)
-    (token (durationPattern + flag) (t .start) (t .end)) t
