@@ -10,12 +10,12 @@ use lib.ListN.{length}
 use borrow.Author.Tests.{eqb-true, eqb-false, ne_eqb}
 use mathlib.Core.Logic.{◌≢◌}
 use Rattle.lexis.proofs.Cases.{by_cond}
-use Rattle.lexis.specs.Spelling.{bar, dots, less, greater, at_most, at_least, plusMinus}
-use Rattle.lexis.specs.Tokens.{tokenAt, integer, date, spelling}
+use Rattle.lexis.specs.Spelling.{bar, dots, less, greater, at_most, at_least, plus_minus}
+use Rattle.lexis.specs.Tokens.{token_at, integer, date, spelling}
 use Rattle.lexis.specs.declared.Token.{Token}
 use Rattle.lexis.proofs.Places.{Found, token-found}
 use Rattle.values.specs.Integers.{inside, greatest}
-use Rattle.values.specs.Calendar.{real, lastDay}
+use Rattle.values.specs.Calendar.{real, last_day}
 use Rattle.cadl_intervals.proofs.Pairs.{Kind, kind-strict, Value, EndsGood, ProperPair, value_read, least-good, most-good, after-good, spread-good, closed-proper}
 use Rattle.refusals.specs.Parsing.{Parse, parsed, and_then, noting, wanted}
 use Rattle.refusals.specs.declared.Cause.TheVariants.{Impossible, OutOfRange, EmptyInterval}
@@ -23,21 +23,21 @@ use Rattle.refusals.specs.Refusals.{number_of}
 use Rattle.refusals.proofs.Readings.{From}
 use Rattle.refusals.proofs.Tokens.{strict_of}
 use Rattle.refusals.proofs.Parses.{rank, Ordered, ordered-parsed, ordered-noting, ordered-syntax, ordered-then, ordered-soundly, ordered-wanted}
-use Rattle.cadl_intervals.specs.Intervals.{Ends, ends, Interval, literal, possible, up_to, above, spread, from, between, interval, withLiteral, kindBy, undecided, least, most, after, empty, closed}
+use Rattle.cadl_intervals.specs.Intervals.{Ends, ends, Interval, literal, possible, up_to, above, spread, from, between, interval, with_literal, kind_by, undecided, least, most, after, empty, closed}
 
 -- behind a token of a sort from 2 on, where the next token is of that sort
-pub token-past : (s : List ℕ) (at sort : ℕ) → at ≤ length s → 1 < sort → eqb (tokenAt s at).sort sort ≡ true
-    → From (at + 1) (length s) (tokenAt s at).end
+pub token-past : (s : List ℕ) (at sort : ℕ) → at ≤ length s → 1 < sort → eqb (token_at s at).sort sort ≡ true
+    → From (at + 1) (length s) (token_at s at).end
 token-past s at sort h k e =
     let f = token-found s at h in
-    let l = strict_of sort k (tokenAt s at) s at f (eqb-true _ _ e) in
+    let l = strict_of sort k (token_at s at) s at f (eqb-true _ _ e) in
     omega arith
 
 -- a literal and the place behind it: the next fault may come from its token on
 pub record Literal (s : List ℕ) (kind at : ℕ) (sound : Bool) (l v p : ℕ) : Type 0 where
-  pub bound : l ≤ rank (tokenAt s at).start 5
-  pub start : at ≤ (tokenAt s at).start
-  pub order : (tokenAt s at).start < p
+  pub bound : l ≤ rank (token_at s at).start 5
+  pub start : at ≤ (token_at s at).start
+  pub order : (token_at s at).start < p
   pub most : p ≤ length s
   pub value : sound ≡ true → Value kind v
 
@@ -61,11 +61,11 @@ pub record Shut (s : List ℕ) (asked first : ℕ) (sound : Bool) (l : ℕ) (i :
 
 module _ (s : List ℕ) where
   possible-ordered : (kind at : ℕ) (sound : Bool) (low : ℕ) (o : Option ℕ) → ((v : ℕ) → o ≡ some v → Value kind v)
-      → low ≤ rank at 0 → Found s at (tokenAt s at)
-      → (tokenAt s at).start < (tokenAt s at).end → Ordered s (Literal s kind at) sound low (possible (tokenAt s at) o)
+      → low ≤ rank at 0 → Found s at (token_at s at)
+      → (token_at s at).start < (token_at s at).end → Ordered s (Literal s kind at) sound low (possible (token_at s at) o)
   unfolding number_of
   possible-ordered kind at sound low none g l f h =
-      ordered-noting s (Literal s kind at) sound low true Impossible (tokenAt s at).start _ 5 refl (lit≤ tt) (lit< tt) (omega (arith, f.start)) (omega (arith, f.inside)) (λ o k m c.
+      ordered-noting s (Literal s kind at) sound low true Impossible (token_at s at).start _ 5 refl (lit≤ tt) (lit< tt) (omega (arith, f.start)) (omega (arith, f.inside)) (λ o k m c.
       ordered-parsed s (Literal s kind at) o k 0 _ (record { bound = m; start = f.start; order = h; most = f.inside; value = λ z. absurd (false≢true (sym (c z).0)) }))
   possible-ordered kind at sound low (some v) g l f h =
       ordered-parsed s (Literal s kind at) sound low v _ (record { bound = omega (arith, f.start); start = f.start; order = h; most = f.inside; value = λ z. g v refl })
@@ -76,7 +76,7 @@ module _ (s : List ℕ) where
   literal-ordered kind at sound low k l h =
       let f = token-found s at h in
       ordered-wanted s (Literal s kind at) sound low kind at _ l h (λ e.
-      possible-ordered kind at sound low _ (value_read kind (spelling s (tokenAt s at))) l f (strict_of kind k (tokenAt s at) s at f (eqb-true _ _ e)))
+      possible-ordered kind at sound low _ (value_read kind (spelling s (token_at s at))) l f (strict_of kind k (token_at s at) s at f (eqb-true _ _ e)))
 
 -- a list's kind is open, or one of the two
 abbrev pub Asked : ℕ → Type 0
@@ -85,10 +85,10 @@ Asked kind = kind ≢ undecided → Kind kind
 kind-one : (t : Token) → Kind (cond (eqb t.sort date) date integer)
 kind-one t = by_cond Kind (eqb t.sort date) (λ f n. absurd (n refl)) (λ f n. refl)
 
-pub kind-decided : (kind : ℕ) (t : Token) → Asked kind → Kind (kindBy kind t)
+pub kind-decided : (kind : ℕ) (t : Token) → Asked kind → Kind (kind_by kind t)
 kind-decided kind t a = by_cond Kind (eqb kind undecided) (λ e. kind-one t) (λ e. a (eqb-false kind 0 e))
 
-pub kind-same : (kind : ℕ) (t : Token) → kind ≢ undecided → kindBy kind t ≡ kind
+pub kind-same : (kind : ℕ) (t : Token) → kind ≢ undecided → kind_by kind t ≡ kind
 kind-same kind t n = rw (ne_eqb kind undecided n)
 
 inside-true : (known b : Bool) → known ≡ true → (known && cond b false true) ≡ false → b ≡ true
@@ -106,19 +106,19 @@ module _ (s : List ℕ) (asked kind first : ℕ) (k : Kind kind) (same : asked �
 
   -- a literal as the high end
   high-ordered : (sound : Bool) (low a at : ℕ) (below : Bool)
-      → (sound ≡ true → kind ≡ date → a ≤ lastDay → real a ≡ true) → low ≤ rank at 0 → first ≤ at + 1 → at ≤ length s
+      → (sound ≡ true → kind ≡ date → a ≤ last_day → real a ≡ true) → low ≤ rank at 0 → first ≤ at + 1 → at ≤ length s
       → Ordered s (Open s asked first) sound low (and_then (literal s kind at) (λ b p. parsed (ends kind a b below) p))
   high-ordered sound low a at below g l h m =
       ordered-then s (Open s asked first) (Literal s kind at) sound low (literal s kind at) _ (literal-ordered s kind at sound low (kind-strict kind k) l m) (λ o j b p c q.
       reached o j a b below p (λ z. record { low = g (c z); high = q.value z }) (omega (arith, q.bound, q.order)) (omega (arith, q.start, q.order)) q.most)
 
-  up-to-ordered : (sound : Bool) (low a at : ℕ) → (sound ≡ true → kind ≡ date → a ≤ lastDay → real a ≡ true)
+  up-to-ordered : (sound : Bool) (low a at : ℕ) → (sound ≡ true → kind ≡ date → a ≤ last_day → real a ≡ true)
       → low ≤ rank at 0 → first ≤ at + 1 → at ≤ length s
       → Ordered s (Open s asked first) sound low (up_to s kind a at)
   unfolding up_to
   up-to-ordered sound low a at g l h m =
-      by_cond (Ordered s (Open s asked first) sound low) (eqb (tokenAt s at).sort less)
-      (λ e. let f = token-past s at less m (lit< tt) e in high-ordered sound low a (tokenAt s at).end true g (omega (arith, f.least)) (omega (arith, f.least)) f.most)
+      by_cond (Ordered s (Open s asked first) sound low) (eqb (token_at s at).sort less)
+      (λ e. let f = token-past s at less m (lit< tt) e in high-ordered sound low a (token_at s at).end true g (omega (arith, f.least)) (omega (arith, f.least)) f.most)
       (λ e. high-ordered sound low a at false g l h m)
 
   -- what stands behind a literal that ends at `at`: it may be nothing
@@ -127,9 +127,9 @@ module _ (s : List ℕ) (asked kind first : ℕ) (k : Kind kind) (same : asked �
       → Ordered s (Open s asked first) sound low (above s kind a at)
   unfolding above
   above-ordered sound low a at g l h m =
-      by_cond (Ordered s (Open s asked first) sound low) (eqb (tokenAt s at).sort dots)
+      by_cond (Ordered s (Open s asked first) sound low) (eqb (token_at s at).sort dots)
       (λ e. let f = token-past s at dots m (lit< tt) e in
-      up-to-ordered sound low (after kind a) (tokenAt s at).end (λ z. after-good kind a (g z)) (omega (arith, f.least)) (omega (arith, f.least)) f.most)
+      up-to-ordered sound low (after kind a) (token_at s at).end (λ z. after-good kind a (g z)) (omega (arith, f.least)) (omega (arith, f.least)) f.most)
       (λ e. reached sound low (after kind a) (most kind) false at (λ z. record { low = after-good kind a (g z); high = most-good kind }) l h m)
 
   -- `+/-` stands in a list of integers, so the kind is that of integers
@@ -142,7 +142,7 @@ module _ (s : List ℕ) (asked kind first : ℕ) (k : Kind kind) (same : asked �
       let P = Open s asked first in
       let f = token-found s at m in
       ordered-soundly s P (Literal s integer at) sound low (literal s integer at) _ (literal-ordered s integer at sound low (lit< tt) l m)
-      (λ d p q. ordered-noting s P sound low (known && cond (inside a d) false true) OutOfRange (tokenAt s at).start _ 5 refl (lit≤ tt) (lit< tt) (omega (arith, q.start)) (omega (arith, f.inside, f.order)) (λ o j b c.
+      (λ d p q. ordered-noting s P sound low (known && cond (inside a d) false true) OutOfRange (token_at s at).start _ 5 refl (lit≤ tt) (lit< tt) (omega (arith, q.start)) (omega (arith, f.inside, f.order)) (λ o j b c.
       ordered-parsed s P o j _ p (record {
         bound = omega (arith, q.order);
         least = omega (arith, q.order, q.start);
@@ -166,12 +166,12 @@ module _ (s : List ℕ) (asked kind first : ℕ) (k : Kind kind) (same : asked �
   unfolding from
   from-ordered sound low known a at g l h m =
       let P = Ordered s (Open s asked first) sound low in
-      let t = tokenAt s at in
+      let t = token_at s at in
       by_cond P (eqb t.sort dots)
       (λ e. let f = token-past s at dots m (lit< tt) e in
       up-to-ordered sound low a t.end (λ z d y. (g z).1.day d) (omega (arith, f.least)) (omega (arith, f.least)) f.most)
-      (λ e. by_cond P (eqb t.sort plusMinus)
-      (λ d. let f = token-past s at plusMinus m (lit< tt) d in
+      (λ e. by_cond P (eqb t.sort plus_minus)
+      (λ d. let f = token-past s at plus_minus m (lit< tt) d in
       by_cond P (eqb kind date) (λ x. ordered-syntax s (Open s asked first) sound low at t l (token-found s at m))
       (λ x. let n = eqb-false kind date x in
       spread-ordered sound low known a t.end n (λ z. ((g z).0, (g z).1.number n)) (omega (arith, f.least)) (omega (arith, f.least)) f.most))
@@ -189,11 +189,11 @@ module _ (s : List ℕ) (asked : ℕ) (ok : Asked asked) where
       → ((o : Bool) (l : ℕ) (known : Bool) (k a p : ℕ) → Kind k → (asked ≢ undecided → k ≡ asked)
       → (o ≡ true → (known ≡ true) × Value k a) → l ≤ rank p 0 → at + 1 ≤ p → p ≤ length s
       → Ordered s (Open s asked first) o l (go known k a p))
-      → Ordered s (Open s asked first) sound low (withLiteral s asked at go)
+      → Ordered s (Open s asked first) sound low (with_literal s asked at go)
   with-ordered sound low first at go l h f =
-      let k = kindBy asked (tokenAt s at) in
-      let d = kind-decided asked (tokenAt s at) ok in
-      let e = kind-same asked (tokenAt s at) in
+      let k = kind_by asked (token_at s at) in
+      let d = kind-decided asked (token_at s at) ok in
+      let e = kind-same asked (token_at s at) in
       ordered-soundly s (Open s asked first) (Literal s k at) sound low (literal s k at) _ (literal-ordered s k at sound low (kind-strict k d) l h)
       (λ a p q. f sound low true k a p d e (λ z. (refl, q.value z)) (omega (arith, q.bound, q.order)) (omega (arith, q.start, q.order)) q.most)
       (λ j a p q. f false j false k a p d e (λ z. absurd (false≢true z)) (omega (arith, q.bound, q.order)) (omega (arith, q.start, q.order)) q.most)
@@ -201,12 +201,12 @@ module _ (s : List ℕ) (asked : ℕ) (ok : Asked asked) where
   -- one mark and one literal
   simple : (sound : Bool) (low at sort : ℕ) (a b : ℕ → ℕ → ℕ) (below : Bool)
       → ((k v : ℕ) → Value k v → EndsGood (ends k (a k v) (b k v) below)) → low ≤ rank at 0 → at ≤ length s → 1 < sort
-      → eqb (tokenAt s at).sort sort ≡ true
+      → eqb (token_at s at).sort sort ≡ true
       → Ordered s (Open s asked (at + 1)) sound low
-      (withLiteral s asked (tokenAt s at).end (λ known k v p. parsed (ends k (a k v) (b k v) below) p))
+      (with_literal s asked (token_at s at).end (λ known k v p. parsed (ends k (a k v) (b k v) below) p))
   simple sound low at sort a b below good l h m e =
       let f = token-past s at sort h m e in
-      with-ordered sound low (at + 1) (tokenAt s at).end _ (omega (arith, f.least)) f.most
+      with-ordered sound low (at + 1) (token_at s at).end _ (omega (arith, f.least)) f.most
       (λ o j known k v p d n g x y z. reached s asked k (at + 1) d n o j (a k v) (b k v) below p (λ q. good k v (g q).1) x (omega (arith, f.least)) z)
 
   pub between-ordered : (sound : Bool) (low at : ℕ) → low ≤ rank at 0 → at ≤ length s
@@ -214,7 +214,7 @@ module _ (s : List ℕ) (asked : ℕ) (ok : Asked asked) where
   unfolding between
   between-ordered sound low at l h =
       let P = Ordered s (Open s asked (at + 1)) sound low in
-      let t = tokenAt s at in
+      let t = token_at s at in
       by_cond P (eqb t.sort greater)
       (λ e. let f = token-past s at greater h (lit< tt) e in
       with-ordered sound low (at + 1) t.end _ (omega (arith, f.least)) f.most (λ o j known k a p d m g x y z. above-ordered s asked k (at + 1) d m o j a p (λ q. (g q).1) x (omega (arith, f.least)) z))
@@ -232,8 +232,8 @@ module _ (s : List ℕ) (asked : ℕ) (ok : Asked asked) where
       → Ordered s P o j (and_then (wanted s bar p) (λ t q. noting (ok && empty e) EmptyInterval t.start (parsed (record { kind = e.kind; pair = closed e }) q)))
       = λ o j ok e p k q. ordered-wanted s P o j bar p _ q.bound q.most (λ d.
       let f = token-found s p q.most in
-      let m = strict_of bar (lit< tt) (tokenAt s p) s p f (eqb-true _ _ d) in
-      ordered-noting s P o j (ok && empty e) EmptyInterval (tokenAt s p).start _ 6 refl (lit≤ tt) (lit< tt) (omega (arith, f.start, q.bound)) (omega (arith, f.inside)) (λ u i b c.
+      let m = strict_of bar (lit< tt) (token_at s p) s p f (eqb-true _ _ d) in
+      ordered-noting s P o j (ok && empty e) EmptyInterval (token_at s p).start _ 6 refl (lit≤ tt) (lit< tt) (omega (arith, f.start, q.bound)) (omega (arith, f.inside)) (λ u i b c.
       ordered-parsed s P u i _ _ (record {
         bound = omega arith;
         least = omega (arith, f.start, q.least);

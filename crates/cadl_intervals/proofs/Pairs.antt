@@ -12,12 +12,12 @@ use borrow.Author.Tests.{eqb-true, eqb-false, ne_eqb, eq-eqb, leb-false, ltb-fal
 use Rattle.lexis.specs.Tokens.{integer, date}
 use Rattle.lexis.proofs.Cases.{by_cond}
 use Rattle.values.specs.Integers.{Pair, pair, inside, around, greatest}
-use Rattle.values.specs.Calendar.{real, dayAfter, dayBefore, lastDay, monthDays, leap}
-use Rattle.values.specs.Dates.{Date, dateOf}
+use Rattle.values.specs.Calendar.{real, day_after, day_before, last_day, month_days, leap}
+use Rattle.values.specs.Dates.{Date, date_of}
 use Rattle.values.proofs.IntegerLaws.{integer-in-range, around-ends}
 use Rattle.values.proofs.CalendarLaws.{real-first, real-last, after-follows, before-follows, nearest-before, after_last}
 use Rattle.values.proofs.DateLaws.{date-good}
-use Rattle.cadl_intervals.specs.Intervals.{Ends, ends, literalValue, least, most, after, before, empty, closed}
+use Rattle.cadl_intervals.specs.Intervals.{Ends, ends, literal_value, least, most, after, before, empty, closed}
 
 -- the kinds of literals: dates, and else integers
 abbrev pub Kind : ℕ → Type 0
@@ -37,7 +37,7 @@ pub record Value (kind v : ℕ) : Type 0 where
 
 -- ends of a kind: the high end is a value; the low end is one too, unless it lies behind the last day
 pub record EndsGood (e : Ends) : Type 0 where
-  pub low : e.kind ≡ date → e.low ≤ lastDay → real e.low ≡ true
+  pub low : e.kind ≡ date → e.low ≤ last_day → real e.low ≡ true
   pub high : Value e.kind e.high
 
 -- a closed pair of a kind
@@ -47,36 +47,36 @@ pub record ProperPair (kind : ℕ) (p : Pair) : Type 0 where
   pub high : Value kind p.high
 
 -- what a literal spells is a value of its kind
-pub value_read : (kind : ℕ) (w : List ℕ) (v : ℕ) → literalValue kind w ≡ some v → Value kind v
+pub value_read : (kind : ℕ) (w : List ℕ) (v : ℕ) → literal_value kind w ≡ some v → Value kind v
 value_read kind w = by_cond (λ (o : Option ℕ). (v : ℕ) → o ≡ some v → Value kind v) (eqb kind date)
-    (λ d v e. record { day = λ k. day-read (dateOf w) refl v e; number = λ k. absurd (k (eqb-true kind date d)) })
+    (λ d v e. record { day = λ k. day-read (date_of w) refl v e; number = λ k. absurd (k (eqb-true kind date d)) })
     (λ d v e. record { day = λ k. absurd (eqb-false kind date d k); number = λ k. integer-in-range w v e })
   where
-    day-read : (o : Option Date) → dateOf w ≡ o → (v : ℕ) → map (λ (d : Date). d.day) o ≡ some v → real v ≡ true
+    day-read : (o : Option Date) → date_of w ≡ o → (v : ℕ) → map (λ (d : Date). d.day) o ≡ some v → real v ≡ true
     day-read none h v e = absurd (none-ne-some v e)
     day-read (some d) h v e = let k = some-injective d.day v e in rw k at (date-good w d h).is_real
 
-pub least-good : (kind : ℕ) → kind ≡ date → least kind ≤ lastDay → real (least kind) ≡ true
-unfolding real monthDays leap
+pub least-good : (kind : ℕ) → kind ≡ date → least kind ≤ last_day → real (least kind) ≡ true
+unfolding real month_days leap
 least-good kind k h = rw (eq-eqb kind date k)
 
 pub most-good : (kind : ℕ) → Value kind (most kind)
-unfolding real monthDays leap
+unfolding real month_days leap
 most-good kind = record { day = λ k. rw (eq-eqb kind date k); number = λ k. rw (ne_eqb kind date k) (omega arith) }
 
 -- an open low end
-next-real : (b : ℕ) → real b ≡ true → dayAfter b ≤ lastDay → real (dayAfter b) ≡ true
-next-real b r h = by_last (dec_lt b lastDay)
+next-real : (b : ℕ) → real b ≡ true → day_after b ≤ last_day → real (day_after b) ≡ true
+next-real b r h = by_last (dec_lt b last_day)
   where
-    by_last : Dec (b < lastDay) → real (dayAfter b) ≡ true
+    by_last : Dec (b < last_day) → real (day_after b) ≡ true
     by_last (yes l) = (after-follows b r l).real-next
     by_last (no l) =
-        let last : b ≤ lastDay = real-last b r in
-        let e : b ≡ lastDay = omega arith in
-        let g : dayAfter lastDay ≤ lastDay = rw e at h in
+        let last : b ≤ last_day = real-last b r in
+        let e : b ≡ last_day = omega arith in
+        let g : day_after last_day ≤ last_day = rw e at h in
         absurd (omega (arith, after_last))
 
-pub after-good : (kind a : ℕ) → Value kind a → kind ≡ date → after kind a ≤ lastDay → real (after kind a) ≡ true
+pub after-good : (kind a : ℕ) → Value kind a → kind ≡ date → after kind a ≤ last_day → real (after kind a) ≡ true
 after-good kind a v k = rw (eq-eqb kind date k) (next-real a (v.day k))
 
 -- the ends of `+/-`
@@ -88,10 +88,10 @@ spread-good a c h i =
 
 -- the day before a high end that a low end stays below
 pub below-good : (low b : ℕ) → real low ≡ true → real b ≡ true → low < b
-    → (low ≤ dayBefore b) × (real (dayBefore b) ≡ true)
+    → (low ≤ day_before b) × (real (day_before b) ≡ true)
 below-good low b r q h =
     let f = before-follows b q (omega (arith, real-first low r)) in
-    (nearest-before (dayBefore b) b low f r h, f.real-here)
+    (nearest-before (day_before b) b low f r h, f.real-here)
 
 -- an interval that is not empty is a closed pair
 module _ (kind low high : ℕ) where
@@ -106,7 +106,7 @@ module _ (kind low high : ℕ) where
       by_kind (eqb kind date) refl l
     where
       by_kind : (b : Bool) → eqb kind date ≡ b → low < high
-          → ProperPair kind (pair low (cond b (dayBefore high) (high - 1)))
+          → ProperPair kind (pair low (cond b (day_before high) (high - 1)))
       by_kind true e l =
           let k = eqb-true kind date e in
           let r = g.low k (omega (arith, real-last high (g.high.day k))) in

@@ -1,2 +1,2 @@
 pub mod Intervals
-pub mod contracts
+pub mod Clauses

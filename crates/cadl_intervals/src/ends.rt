@@ -1,8 +1,8 @@
 // Intervals: their ends as they are written, and the closed pair that they become.
 ghost use Rattle.std.specs.Prelude.{◌≡◌, ◌≤◌, length};
-ghost use Rattle.cadl_intervals.specs.Intervals.{undecided, kindBy, least, most, after, before, ends, empty, closed};
-ghost use Rattle.cadl_intervals.specs.contracts.Told.{up_to, above, spread, from, withLiteral, between, interval};
-ghost use Rattle.cadl_intervals.specs.contracts.Answers.{HasAfter, HasBefore, endsReading, highEnd, endsBy, opensEnds, At, Closable, NotEmpty, shut, intervalReading, IntervalIs, closing};
+ghost use Rattle.cadl_intervals.specs.Intervals.{undecided, kind_by, least, most, after, before, ends, empty, closed};
+ghost use Rattle.cadl_intervals.specs.Clauses.Told.{up_to, above, spread, from, with_literal, between, interval};
+ghost use Rattle.cadl_intervals.specs.Clauses.Answers.{HasAfter, HasBefore, ends_reading, high_end, ends_by, opens_ends, At, Closable, NotEmpty, shut, interval_reading, IntervalIs, closing};
 ghost use Rattle.refusals.specs.Reading.{got};
 
 use crate::literals::{LiteralRead, literal};
@@ -56,7 +56,7 @@ fn wide(a: u32) -> u64
 
 // The kind of a list: that of its first literal, where it is open.
 fn kind_by(kind: u8, t: Token) -> u8
-    ensures { result ≡ kindBy kind t }
+    ensures { result ≡ kind_by kind t }
 {
     if kind != UNDECIDED {
         return kind;
@@ -106,7 +106,7 @@ fn before(kind: u8, b: u32) -> u32
 // A literal as the high end.
 fn high_end(s: &[u8], kind: u8, low: u64, below: bool, from: usize) -> EndsRead
     requires { from ≤ length s.now }
-    ensures { endsReading result ≡ highEnd s.now kind low below from }
+    ensures { ends_reading result ≡ high_end s.now kind low below from }
 {
     match literal(s, kind, from) {
         LiteralRead::Faulty(fault) => {
@@ -127,7 +127,7 @@ fn high_end(s: &[u8], kind: u8, low: u64, below: bool, from: usize) -> EndsRead
 // The high end behind `..`.
 fn up_to(s: &[u8], kind: u8, low: u64, from: usize) -> EndsRead
     requires { from ≤ length s.now }
-    ensures { endsReading result ≡ up_to s.now kind low from }
+    ensures { ends_reading result ≡ up_to s.now kind low from }
 {
     let t = token_at(s, from);
     if t.sort == LESS {
@@ -140,7 +140,7 @@ fn up_to(s: &[u8], kind: u8, low: u64, from: usize) -> EndsRead
 fn above(s: &[u8], kind: u8, a: u32, from: usize) -> EndsRead
     requires has_after { HasAfter kind a }
     requires from_in_bounds { from ≤ length s.now }
-    ensures { endsReading result ≡ above s.now kind a from }
+    ensures { ends_reading result ≡ above s.now kind a from }
 {
     let low = after(kind, a);
     let t = token_at(s, from);
@@ -160,7 +160,7 @@ fn above(s: &[u8], kind: u8, a: u32, from: usize) -> EndsRead
 // The d of `+/-`.
 fn spread(s: &[u8], a: u32, from: usize) -> EndsRead
     requires { from ≤ length s.now }
-    ensures { endsReading result ≡ spread s.now a from }
+    ensures { ends_reading result ≡ spread s.now a from }
 {
     let t = token_at(s, from);
     match literal(s, INTEGER, from) {
@@ -190,7 +190,7 @@ fn spread(s: &[u8], a: u32, from: usize) -> EndsRead
 // What stands behind `|a`.
 fn behind(s: &[u8], kind: u8, a: u32, at: usize) -> EndsRead
     requires { at ≤ length s.now }
-    ensures { endsReading result ≡ from s.now kind a at }
+    ensures { ends_reading result ≡ from s.now kind a at }
 {
     let t = token_at(s, at);
     if t.sort == PLUS_MINUS {
@@ -217,7 +217,7 @@ fn behind(s: &[u8], kind: u8, a: u32, at: usize) -> EndsRead
 fn ends_by(s: &[u8], mark: u8, kind: u8, a: u32, at: usize) -> EndsRead
     requires has_after { HasAfter kind a }
     requires at_in_bounds { at ≤ length s.now }
-    ensures { endsReading result ≡ endsBy s.now mark kind a at }
+    ensures { ends_reading result ≡ ends_by s.now mark kind a at }
 {
     let low = wide(least(kind));
     match mark {
@@ -250,7 +250,7 @@ fn ends_by(s: &[u8], mark: u8, kind: u8, a: u32, at: usize) -> EndsRead
 // A literal of the kind asked for, or of either where that is open, and what it makes behind a mark.
 fn with_literal(s: &[u8], kind: u8, mark: u8, at: usize) -> EndsRead
     requires { at ≤ length s.now }
-    ensures { endsReading result ≡ withLiteral s.now kind at (endsBy s.now mark) }
+    ensures { ends_reading result ≡ with_literal s.now kind at (ends_by s.now mark) }
 {
     let t = token_at(s, at);
     let k = kind_by(kind, t);
@@ -266,7 +266,7 @@ fn with_literal(s: &[u8], kind: u8, mark: u8, at: usize) -> EndsRead
 
 // An interval may begin with the mark.
 fn opens(mark: u8) -> bool
-    ensures { result ≡ opensEnds mark }
+    ensures { result ≡ opens_ends mark }
 {
     match mark {
         GREATER => true,
@@ -280,7 +280,7 @@ fn opens(mark: u8) -> bool
 // What stands between the bars.
 fn between(s: &[u8], kind: u8, at: usize) -> EndsRead
     requires { at ≤ length s.now }
-    ensures { endsReading result ≡ between s.now kind at }
+    ensures { ends_reading result ≡ between s.now kind at }
 {
     let t = token_at(s, at);
     if opens(t.sort) {
@@ -302,7 +302,7 @@ fn empty(low: u64, high: u32, below: bool) -> bool
 // The closed pair of ends between which a value lies, and the place behind them.
 fn closed(kind: u8, low: u64, high: u32, below: bool, next: usize) -> IntervalRead
     requires { NotEmpty kind low high below }
-    ensures { intervalReading result ≡ got (shut kind (closed (ends kind low high below))) next }
+    ensures { interval_reading result ≡ got (shut kind (closed (ends kind low high below))) next }
 {
     let low = low as u32;
     if below {
@@ -324,7 +324,7 @@ fn closed(kind: u8, low: u64, high: u32, below: bool, next: usize) -> IntervalRe
 // The closing bar, and the closed pair.
 fn close(s: &[u8], kind: u8, low: u64, high: u32, below: bool, from: usize) -> IntervalRead
     requires { Closable s.now kind low high from }
-    ensures { intervalReading result ≡ closing s.now (ends kind low high below) from }
+    ensures { interval_reading result ≡ closing s.now (ends kind low high below) from }
 {
     match expect(s, BAR, from) {
         Expected::Fault(fault) => {

@@ -1,8 +1,8 @@
 // Literals: integers and dates, by the kind that is asked for.
 ghost use Rattle.std.specs.Prelude.{◌≡◌, ◌≤◌, length};
-ghost use Rattle.values.specs.contracts.Answers.{integerAnswer};
-ghost use Rattle.cadl_intervals.specs.Intervals.{literalValue};
-ghost use Rattle.cadl_intervals.specs.contracts.Answers.{LiteralIs};
+ghost use Rattle.values.specs.Clauses.Answers.{integer_answer};
+ghost use Rattle.cadl_intervals.specs.Intervals.{literal_value};
+ghost use Rattle.cadl_intervals.specs.Clauses.Answers.{LiteralIs};
 
 use lexis::DATE;
 use refusals::steps::{Expected, expect};
@@ -19,7 +19,7 @@ pub enum LiteralRead {
 
 // The value that bytes spell, of the kind asked for.
 fn value_of(w: &[u8], kind: u8) -> Number
-    ensures { integerAnswer result ≡ literalValue kind w.now }
+    ensures { integer_answer result ≡ literal_value kind w.now }
 {
     if kind != DATE {
         return integer_of(w);

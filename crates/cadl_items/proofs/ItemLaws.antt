@@ -8,22 +8,22 @@ use native.Mathlib.Numerals.{add-one}
 use lib.Dec.{eqb}
 use lib.ListN.{length, set, length-set}
 use lib.Seq.{get_or-set_same, get_or-set_other}
-use Rattle.refusals.specs.Limits.{itemLimit, recordLimit}
-use Rattle.refusals.specs.Reading.{Reading, refused, got, refuse, readThen, readUnless}
+use Rattle.refusals.specs.Limits.{item_limit, record_limit}
+use Rattle.refusals.specs.Reading.{Reading, refused, got, refuse, read_then, read_unless}
 use Rattle.refusals.specs.declared.Cause.TheVariants.{TooManyItems, TooManyRecords}
-use Rattle.cadl_items.specs.contracts.Spans.{withItem, first_of, second_of, latest}
-use Rattle.cadl_items.specs.contracts.Answers.{itemsFrom}
-use Rattle.cadl_items.specs.contracts.Items.{Kept, roomy}
+use Rattle.cadl_items.specs.Clauses.Spans.{with_item, first_of, second_of, latest}
+use Rattle.cadl_items.specs.Clauses.Answers.{items_from}
+use Rattle.cadl_items.specs.Clauses.Items.{Kept, roomy}
 
 -- a store puts both numbers of an item, and no item before it changes
 module _ (scratch : List ℕ) (i a b : ℕ) (room : 2 * i + 1 < length scratch) where
-  pub item-first : first_of (withItem scratch i a b) i ≡ a
+  pub item-first : first_of (with_item scratch i a b) i ≡ a
   item-first = get_or-set_other (set scratch (2 * i) a) (2 * i + 1) (2 * i) b 0 (λ e. omega arith) ∙ get_or-set_same scratch (2 * i) a 0 (omega arith)
 
-  pub item-second : second_of (withItem scratch i a b) i ≡ b
+  pub item-second : second_of (with_item scratch i a b) i ≡ b
   item-second = get_or-set_same (set scratch (2 * i) a) (2 * i + 1) b 0 (rw length-set (omega arith))
 
-pub item-kept : (scratch : List ℕ) (i a b : ℕ) → Kept i scratch (withItem scratch i a b)
+pub item-kept : (scratch : List ℕ) (i a b : ℕ) → Kept i scratch (with_item scratch i a b)
 item-kept scratch i a b = record {
   same = λ j l. get_or-set_other (set scratch (2 * i) a) (2 * i + 1) j b 0 (λ e. omega arith) ∙ get_or-set_other scratch (2 * i) j a 0 (λ e. omega arith);
 }
@@ -55,8 +55,8 @@ module _ {A : Type 0} where
 
   -- one more item, the earliest first
   items_more : (f : ℕ → ℕ → A) (number i n : ℕ)
-      → itemsFrom f number i (n + 1) ≡ itemsFrom f number i n ++ (f (number + n) (i + n) ∷ [])
-  unfolding itemsFrom
+      → items_from f number i (n + 1) ≡ items_from f number i n ++ (f (number + n) (i + n) ∷ [])
+  unfolding items_from
   items_more f number i zero = let a : number + 0 ≡ number = omega arith in let b : i + 0 ≡ i = omega arith in rw (a, b)
   items_more f number i (suc n) =
       let h = items_more f (number + 1) (i + 1) n in
@@ -66,12 +66,12 @@ module _ {A : Type 0} where
       rw (d, a, b, h)
 
   pub items-last : (f : ℕ → ℕ → A) (number n : ℕ)
-      → itemsFrom f number 0 (n + 1) ≡ itemsFrom f number 0 n ++ (f (number + n) n ∷ [])
+      → items_from f number 0 (n + 1) ≡ items_from f number 0 n ++ (f (number + n) n ∷ [])
   items-last f number n = let z : 0 + n ≡ n = omega arith in rw z at (items_more f number 0 n)
 
   pub items-same : (f g : ℕ → ℕ → A) (number i n : ℕ) → ((m j : ℕ) → j < i + n → f m j ≡ g m j)
-      → itemsFrom f number i n ≡ itemsFrom g number i n
-  unfolding itemsFrom
+      → items_from f number i n ≡ items_from g number i n
+  unfolding items_from
   items-same f g number i zero h = refl
   items-same f g number i (suc n) h =
       let a = h number i (omega arith) in
@@ -80,21 +80,21 @@ module _ {A : Type 0} where
 
   -- the first token of an item, and the rest of the list, where there is room and where there is none
   module _ {B : Type 0} (place : A → ℕ) (number count : ℕ) (go : A → ℕ → Reading B) where
-    pub roomy-none : (r : Reading A) → eqb count itemLimit ≡ true
-        → readThen (roomy place number count r) go ≡ readThen r (λ x p. refuse TooManyItems (place x))
+    pub roomy-none : (r : Reading A) → eqb count item_limit ≡ true
+        → read_then (roomy place number count r) go ≡ read_then r (λ x p. refuse TooManyItems (place x))
     unfolding roomy
     roomy-none (refused x) e = refl
     roomy-none (got x p) e = rw e
 
-    pub roomy-some : (r : Reading A) → eqb count itemLimit ≡ false
-        → readThen (roomy place number count r) go
-        ≡ readThen r (λ x p. readUnless (eqb number recordLimit) TooManyRecords (place x) (go x p))
+    pub roomy-some : (r : Reading A) → eqb count item_limit ≡ false
+        → read_then (roomy place number count r) go
+        ≡ read_then r (λ x p. read_unless (eqb number record_limit) TooManyRecords (place x) (go x p))
     unfolding roomy
     roomy-some (refused x) e = refl
-    roomy-some (got x p) e = rw e (by (eqb number recordLimit))
+    roomy-some (got x p) e = rw e (by (eqb number record_limit))
       where
         by : (b : Bool)
-            → readThen (cond b (refuse TooManyRecords (place x)) (got x p)) go
+            → read_then (cond b (refuse TooManyRecords (place x)) (got x p)) go
             ≡ cond b (refuse TooManyRecords (place x)) (go x p)
         by true = refl
         by false = refl

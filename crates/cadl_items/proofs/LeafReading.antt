@@ -10,33 +10,33 @@ use lib.ListN.{length}
 use borrow.Author.Tests.{eqb-true, eqb-false, leb-true, ltb-false}
 use mathlib.Core.Logic.{◌≢◌}
 use Rattle.lexis.specs.Runs.{part, listed}
-use Rattle.lexis.specs.contracts.Subsequence.{Sub}
-use Rattle.lexis.specs.Spelling.{bar, comma, trueWord, falseWord}
+use Rattle.lexis.specs.Clauses.Subsequence.{Sub}
+use Rattle.lexis.specs.Spelling.{bar, comma, true_word, false_word}
 use Rattle.lexis.specs.Spelling
 use Rattle.lexis.specs.Durations
-use Rattle.lexis.specs.Tokens.{tokenAt, contentTokenAt, integer, date, string, inner}
+use Rattle.lexis.specs.Tokens.{token_at, content_token_at, integer, date, string, inner}
 use Rattle.lexis.specs.declared.Token.{Token}
 use Rattle.lexis.proofs.Cases.{and_left, and_right, by_cond}
 use Rattle.lexis.proofs.Places.{Found, token-found}
 use Rattle.lexis.proofs.ContentSteps.{content-found}
 use Rattle.lexis.proofs.Parts.{sub-none, sub-join, sub-wider, part-sub}
-use Rattle.refusals.specs.Limits.{recordLimit, itemLimit, stringLimit}
+use Rattle.refusals.specs.Limits.{record_limit, item_limit, string_limit}
 use Rattle.refusals.specs.Parsing.{Parse, parsed, noting}
 use Rattle.refusals.specs.declared.Cause.TheVariants.{TooLong, TooManyItems, TooManyRecords, Overlap}
 use Rattle.refusals.specs.Refusals.{number_of}
 use Rattle.refusals.proofs.Readings.{Holds, ConstraintRefusal}
 use Rattle.refusals.proofs.Tokens.{Passed, strict_of}
 use Rattle.refusals.proofs.Parses.{rank, Ordered, ordered-parsed, ordered-noting, ordered-syntax, ordered-then, ordered-soundly, ordered-wanted, Passes, passes-holds}
-use Rattle.meaning.specs.Constraints.{integers, dates, SingleSort, booleans, datePattern, timePattern, durationPattern, Range, Text, Leaf, single, texts}
+use Rattle.meaning.specs.Constraints.{integers, dates, SingleSort, booleans, date_pattern, time_pattern, duration_pattern, Range, Text, Leaf, single, texts}
 use Rattle.meaning.specs.Constraints
-use Rattle.meaning.specs.contracts.Proper.{Some, Each, ProperRange, ProperString, ProperLeaf}
-use Rattle.meaning.specs.Sorts.{singleRow}
-use Rattle.meaning.specs.Counting.{textNumbers, textPool, leafNumbers, leafRecords, leafPool, up_from}
+use Rattle.meaning.specs.Clauses.Proper.{Some, Each, ProperRange, ProperString, ProperLeaf}
+use Rattle.meaning.specs.Sorts.{single_row}
+use Rattle.meaning.specs.Counting.{text_numbers, text_pool, leaf_numbers, leaf_records, leaf_pool, up_from}
 use Rattle.cadl_intervals.specs.Intervals.{undecided}
 use Rattle.cadl_items.specs.Ranges.{Ranges, ranges}
-use Rattle.cadl_items.specs.Strings.{startString, goOnStrings, Strings, stringBy, furtherStrings, strings}
-use Rattle.cadl_items.specs.Leaves.{isBoolean, booleanFlag, secondBoolean, booleanList, rangeLeaf, patternFlag, isPattern, leaf}
-use Rattle.cadl_items.specs.contracts.Told
+use Rattle.cadl_items.specs.Strings.{start_string, go_on_strings, Strings, string_by, further_strings, strings}
+use Rattle.cadl_items.specs.Leaves.{is_boolean, boolean_flag, second_boolean, boolean_list, range_leaf, pattern_flag, is_pattern, leaf}
+use Rattle.cadl_items.specs.Clauses.Told
 use Rattle.cadl_intervals.proofs.IntervalReading.{token-past}
 use Rattle.cadl_items.proofs.RangeReading.{Listed, ranges-ordered}
 use Rattle.cadl_items.proofs.RangeReading
@@ -47,16 +47,16 @@ pub record TreeRead (s : List ℕ) (next from : ℕ) (ns : List ℕ) (records : 
   pub least : from + 1 ≤ p
   pub most : p ≤ length s
   pub numbers : ns ≡ up_from next records
-  pub room : next ≤ recordLimit → next + records ≤ recordLimit
+  pub room : next ≤ record_limit → next + records ≤ record_limit
   pub proper : Proper
   pub pool : Sub bs (part s from p)
 
 abbrev pub LeafRead : List ℕ → ℕ → ℕ → Leaf → ℕ → Type 0
-LeafRead s number from l p = TreeRead s number from (leafNumbers l) (leafRecords l) (ProperLeaf l) (leafPool l) p
+LeafRead s number from l p = TreeRead s number from (leaf_numbers l) (leaf_records l) (ProperLeaf l) (leaf_pool l) p
 
 -- strings that were read from a place on
 abbrev pub Texts : List ℕ → ℕ → ℕ → List Text → ℕ → Type 0
-Texts s number from l p = TreeRead s number from (textNumbers l) (length l) (Some ProperString l) (textPool l) p
+Texts s number from l p = TreeRead s number from (text_numbers l) (length l) (Some ProperString l) (text_pool l) p
 
 -- a string's token: the next fault may come from there on
 pub record StringToken (s : List ℕ) (from : ℕ) (sound : Bool) (l : ℕ) (t : Token) (p : ℕ) : Type 0 where
@@ -66,17 +66,17 @@ pub record StringToken (s : List ℕ) (from : ℕ) (sound : Bool) (l : ℕ) (t :
 
 module _ (s : List ℕ) where
   start-string-ordered : (from : ℕ) (sound : Bool) (low : ℕ) → low ≤ rank from 0 → from ≤ length s
-      → Ordered s (StringToken s from) sound low (startString s from)
-  unfolding startString number_of
+      → Ordered s (StringToken s from) sound low (start_string s from)
+  unfolding start_string number_of
   start-string-ordered from sound low l h =
       let P = StringToken s from in
-      let t = tokenAt s from in
+      let t = token_at s from in
       let f = token-found s from h in
       ordered-wanted s P sound low string from _ l h (λ e.
       let m = strict_of string (lit< tt) t s from f (eqb-true _ _ e) in
-      ordered-noting s P sound low (ltb stringLimit (length (inner s t))) TooLong t.start _ 4 refl (lit≤ tt) (lit< tt) (omega (arith, f.start)) (omega (arith, f.inside)) (λ o k b c.
+      ordered-noting s P sound low (ltb string_limit (length (inner s t))) TooLong t.start _ 4 refl (lit≤ tt) (lit< tt) (omega (arith, f.start)) (omega (arith, f.inside)) (λ o k b c.
       ordered-parsed s P o k t t.end
-      (record { bound = b; passed = record { start = f.start; order = m; behind = refl; inside = f.inside }; short = λ z. ltb-false stringLimit (length (inner s t)) (c z).0 })))
+      (record { bound = b; passed = record { start = f.start; order = m; behind = refl; inside = f.inside }; short = λ z. ltb-false string_limit (length (inner s t)) (c z).0 })))
 
   -- a token's inner bytes come from the bytes read
   pub inner-sub : (from p : ℕ) (t : Token) → Passed s from t p → Sub (inner s t) (part s from p)
@@ -84,18 +84,18 @@ module _ (s : List ℕ) where
 
   -- behind a string: what holds of the strings that follow holds with it
   more-ordered : (number from p : ℕ) (sound : Bool) (low : ℕ) (t : Token) (more : ℕ → Parse (List Text))
-      → (sound ≡ true → number ≢ recordLimit) → low ≤ rank p 0 → Passed s from t p
+      → (sound ≡ true → number ≢ record_limit) → low ≤ rank p 0 → Passed s from t p
       → (sound ≡ true → length (inner s t) ≤ 255)
       → ((q : ℕ) → low ≤ rank q 0 → from + 1 ≤ q → q ≤ length s
       → Ordered s (Passes s q (Texts s (number + 1) q)) sound low (more q))
       → Ordered s (Passes s from (Texts s number from)) sound low
-      (goOnStrings s (record { number = number; text = inner s t }) more p)
+      (go_on_strings s (record { number = number; text = inner s t }) more p)
   more-ordered number from p sound low t more w b h short k =
       let P = Passes s from (Texts s number from) in
       let x = inner-sub from p t h in
-      by_cond (Ordered s P sound low) (eqb (tokenAt s p).sort comma)
+      by_cond (Ordered s P sound low) (eqb (token_at s p).sort comma)
       (λ e. let f = token-past s p comma h.inside (lit< tt) e in
-      let at = (tokenAt s p).end in
+      let at = (token_at s p).end in
       let y = sub-wider s from from p at (omega arith) (omega arith) (omega arith) x in
       ordered-then s P (Passes s at (Texts s (number + 1) at)) sound low (more at) _ (k at (omega (arith, f.least)) (omega (arith, f.least, h.start, h.order)) f.most) (λ o j l q c z.
       ordered-parsed s P o j _ q (record {
@@ -135,10 +135,10 @@ module _ (s : List ℕ) where
       → low ≤ rank from 0 → from ≤ length s
       → ((n : ℕ) (xs : List (List ℕ)) (q : ℕ) (o : Bool) (l : ℕ) → l ≤ rank q 0 → from + 1 ≤ q → q ≤ length s
       → Ordered s (Passes s q (Texts s n q)) o l (more n xs q))
-      → Ordered s (Passes s from (Texts s number from)) sound low (stringBy s full more number seen from)
+      → Ordered s (Passes s from (Texts s number from)) sound low (string_by s full more number seen from)
   unfolding number_of
   by-ordered full more number seen from sound low l h k =
-      ordered-soundly s P (StringToken s from) sound low (startString s from) _ (start-string-ordered from sound low l h) (λ t p q. rest sound low true t p q) (λ j t p q. rest false j false t p q)
+      ordered-soundly s P (StringToken s from) sound low (start_string s from) _ (start-string-ordered from sound low l h) (λ t p q. rest sound low true t p q) (λ j t p q. rest false j false t p q)
     where
       P : Bool → ℕ → List Text → ℕ → Type 0
       P = Passes s from (Texts s number from)
@@ -146,31 +146,31 @@ module _ (s : List ℕ) where
       rest : (o : Bool) (j : ℕ) (short : Bool) (t : Token) (p : ℕ) → StringToken s from o j t p
           → Ordered s P o j
           (noting full TooManyItems t.start
-          (noting (eqb number recordLimit) TooManyRecords t.start
+          (noting (eqb number record_limit) TooManyRecords t.start
           (noting (short && listed (inner s t) seen) Overlap t.start
-          (goOnStrings s (record { number = number; text = inner s t }) (more (number + 1) (inner s t ∷ seen)) p))))
+          (go_on_strings s (record { number = number; text = inner s t }) (more (number + 1) (inner s t ∷ seen)) p))))
       rest o j short t p q =
           let z = q.passed in
           ordered-noting s P o j full TooManyItems t.start _ 7 refl (lit≤ tt) (lit< tt) (omega (arith, q.bound)) (omega (arith, z.order, z.inside)) (λ u a b c.
-          ordered-noting s P u a (eqb number recordLimit) TooManyRecords t.start _ 8 refl (lit≤ tt) (lit< tt) (omega arith) (omega (arith, z.order, z.inside)) (λ v d e f.
+          ordered-noting s P u a (eqb number record_limit) TooManyRecords t.start _ 8 refl (lit≤ tt) (lit< tt) (omega arith) (omega (arith, z.order, z.inside)) (λ v d e f.
           ordered-noting s P v d (short && listed (inner s t) seen) Overlap t.start _ 9 refl (lit≤ tt) (lit< tt) (omega arith) (omega (arith, z.order, z.inside)) (λ w g m n.
-          more-ordered number from p w g t (more (number + 1) (inner s t ∷ seen)) (λ y. eqb-false number recordLimit (f (n y).1).0) (omega (arith, z.order)) z (λ y. q.short (c (f (n y).1).1).1)
+          more-ordered number from p w g t (more (number + 1) (inner s t ∷ seen)) (λ y. eqb-false number record_limit (f (n y).1).0) (omega (arith, z.order)) z (λ y. q.short (c (f (n y).1).1).1)
           (λ r x y i. k (number + 1) (inner s t ∷ seen) r w g x y i))))
 
   further-ordered : (fuel number : ℕ) (seen : List (List ℕ)) (from : ℕ) (sound : Bool) (low : ℕ) → low ≤ rank from 0
       → from ≤ length s → length s < from + fuel
-      → Ordered s (Passes s from (Texts s number from)) sound low (furtherStrings s fuel number seen from)
-  unfolding furtherStrings
+      → Ordered s (Passes s from (Texts s number from)) sound low (further_strings s fuel number seen from)
+  unfolding further_strings
   further-ordered zero number seen from sound low l h e = absurd (omega arith)
   further-ordered (suc fuel) number seen from sound low l h e =
-      by-ordered false (furtherStrings s fuel) number seen from sound low l h (λ n xs q o j b c d. further-ordered fuel n xs q o j b d (omega arith))
+      by-ordered false (further_strings s fuel) number seen from sound low l h (λ n xs q o j b c d. further-ordered fuel n xs q o j b d (omega arith))
 
   pub strings-ordered : (left number : ℕ) (seen : List (List ℕ)) (from : ℕ) (sound : Bool) (low : ℕ) → low ≤ rank from 0
       → from ≤ length s
       → Ordered s (Passes s from (Texts s number from)) sound low (strings s left number seen from)
   unfolding strings
   strings-ordered zero number seen from sound low l h =
-      by-ordered true (furtherStrings s (length s + 1)) number seen from sound low l h (λ n xs q o j b c d. further-ordered (length s + 1) n xs q o j b d (omega arith))
+      by-ordered true (further_strings s (length s + 1)) number seen from sound low l h (λ n xs q o j b c d. further-ordered (length s + 1) n xs q o j b d (omega arith))
   strings-ordered (suc left) number seen from sound low l h =
       by-ordered false (strings s left) number seen from sound low l h (λ n xs q o j b c d. strings-ordered left n xs q o j b d)
 
@@ -181,7 +181,7 @@ module _ (s : List ℕ) where
 
   -- a leaf of one record
   single-ordered : (sort : SingleSort) (flag number from p : ℕ) (sound : Bool) (low : ℕ)
-      → (1 ≤ flag) × (flag ≤ (singleRow sort).greatest) → (sound ≡ true → number ≢ recordLimit) → low ≤ rank p 0
+      → (1 ≤ flag) × (flag ≤ (single_row sort).greatest) → (sound ≡ true → number ≢ record_limit) → low ≤ rank p 0
       → from + 1 ≤ p → p ≤ length s
       → Ordered s (Passes s from (LeafRead s number from)) sound low (parsed (single sort number flag) p)
   single-ordered sort flag number from p sound low g w b h k =
@@ -193,42 +193,42 @@ module _ (s : List ℕ) where
       })
 
   -- a Boolean's flag is 1 or 2
-  flag-one-two : (t : Token) → (1 ≤ booleanFlag t) × (booleanFlag t ≤ 3)
-  flag-one-two t = by_cond (λ f. (1 ≤ f) × (f ≤ 3)) (eqb t.sort trueWord) (λ e. omega arith) (λ e. omega arith)
+  flag-one-two : (t : Token) → (1 ≤ boolean_flag t) × (boolean_flag t ≤ 3)
+  flag-one-two t = by_cond (λ f. (1 ≤ f) × (f ≤ 3)) (eqb t.sort true_word) (λ e. omega arith) (λ e. omega arith)
 
-  boolean-strict : (t : Token) (from : ℕ) → Found s from t → isBoolean t ≡ true → t.start < t.end
-  boolean-strict t from f e = by_word (eqb t.sort trueWord) refl
+  boolean-strict : (t : Token) (from : ℕ) → Found s from t → is_boolean t ≡ true → t.start < t.end
+  boolean-strict t from f e = by_word (eqb t.sort true_word) refl
     where
-      by_word : (b : Bool) → eqb t.sort trueWord ≡ b → t.start < t.end
-      by_word true x = strict_of trueWord (lit< tt) t s from f (eqb-true _ _ x)
-      by_word false x = strict_of falseWord (lit< tt) t s from f (eqb-true _ _ (rw x at e))
+      by_word : (b : Bool) → eqb t.sort true_word ≡ b → t.start < t.end
+      by_word true x = strict_of true_word (lit< tt) t s from f (eqb-true _ _ x)
+      by_word false x = strict_of false_word (lit< tt) t s from f (eqb-true _ _ (rw x at e))
 
-  second-ordered : (number flag first from : ℕ) (sound : Bool) (low : ℕ) → (sound ≡ true → number ≢ recordLimit)
+  second-ordered : (number flag first from : ℕ) (sound : Bool) (low : ℕ) → (sound ≡ true → number ≢ record_limit)
       → first ≤ from → low ≤ rank from 0 → from ≤ length s
-      → Ordered s (Passes s first (LeafRead s number first)) sound low (secondBoolean s number flag from)
-  unfolding secondBoolean number_of
+      → Ordered s (Passes s first (LeafRead s number first)) sound low (second_boolean s number flag from)
+  unfolding second_boolean number_of
   second-ordered number flag first from sound low w m l h =
       let P = Passes s first (LeafRead s number first) in
-      let t = tokenAt s from in
+      let t = token_at s from in
       let f = token-found s from h in
-      by_cond (Ordered s P sound low) (isBoolean t)
+      by_cond (Ordered s P sound low) (is_boolean t)
       (λ e. let g = boolean-strict t from f e in
-      ordered-noting s P sound low (eqb (booleanFlag t) flag) Overlap t.start _ 9 refl (lit≤ tt) (lit< tt) (omega (arith, f.start)) (omega (arith, f.inside)) (λ o j b c.
+      ordered-noting s P sound low (eqb (boolean_flag t) flag) Overlap t.start _ 9 refl (lit≤ tt) (lit< tt) (omega (arith, f.start)) (omega (arith, f.inside)) (λ o j b c.
       single-ordered booleans 3 number first t.end o j (omega arith) (λ z. w (c z).1) (omega arith) (omega (arith, f.start)) f.inside))
       (λ e. ordered-syntax s P sound low from t l f)
 
-  boolean-ordered : (number from : ℕ) (sound : Bool) (low : ℕ) → (sound ≡ true → number ≢ recordLimit)
-      → low ≤ rank (contentTokenAt s from).start 8 → from ≤ length s → isBoolean (contentTokenAt s from) ≡ true
-      → Ordered s (Passes s from (LeafRead s number from)) sound low (booleanList s number (contentTokenAt s from))
-  unfolding booleanList
+  boolean-ordered : (number from : ℕ) (sound : Bool) (low : ℕ) → (sound ≡ true → number ≢ record_limit)
+      → low ≤ rank (content_token_at s from).start 8 → from ≤ length s → is_boolean (content_token_at s from) ≡ true
+      → Ordered s (Passes s from (LeafRead s number from)) sound low (boolean_list s number (content_token_at s from))
+  unfolding boolean_list
   boolean-ordered number from sound low w l h e =
-      let t = contentTokenAt s from in
+      let t = content_token_at s from in
       let f = content-found s from h in
       let g = boolean-strict t from f e in
-      by_cond (Ordered s (Passes s from (LeafRead s number from)) sound low) (eqb (tokenAt s t.end).sort comma)
+      by_cond (Ordered s (Passes s from (LeafRead s number from)) sound low) (eqb (token_at s t.end).sort comma)
       (λ x. let b = token-past s t.end comma f.inside (lit< tt) x in
-      second-ordered number (booleanFlag t) from (tokenAt s t.end).end sound low w (omega (arith, f.start, b.least)) (omega (arith, b.least)) b.most)
-      (λ x. single-ordered booleans (booleanFlag t) number from t.end sound low (flag-one-two t) w (omega arith) (omega (arith, f.start)) f.inside)
+      second-ordered number (boolean_flag t) from (token_at s t.end).end sound low w (omega (arith, f.start, b.least)) (omega (arith, b.least)) b.most)
+      (λ x. single-ordered booleans (boolean_flag t) number from t.end sound low (flag-one-two t) w (omega arith) (omega (arith, f.start)) f.inside)
 
   integers-proper : (kind : ℕ) → kind ≢ date → (l : List Range) → Each (RangeReading.ProperRange kind) l
       → Each (ProperRange integers) l
@@ -241,7 +241,7 @@ module _ (s : List ℕ) where
   dates-proper kind d (x ∷ xs) h = (record { order = h.0.order; low = h.0.low d; high = h.0.high.day d }, dates-proper kind d xs h.1)
 
   range-leaf : (number from p : ℕ) (l : Ranges) → Listed s undecided number from l p
-      → LeafRead s number from (rangeLeaf l) p
+      → LeafRead s number from (range_leaf l) p
   range-leaf number from p l h = by_kind (eqb l.kind date) refl
     where
       by_kind : (b : Bool) → eqb l.kind date ≡ b
@@ -265,18 +265,18 @@ module _ (s : List ℕ) where
 
   -- a pattern's sort is from 31, 41 or 101 on, and its flag is counted from there
   pattern-ordered : (sort : SingleSort) (first number from : ℕ) (sound : Bool) (low : ℕ) → 0 < first → from ≤ length s
-      → isPattern sort first (contentTokenAt s from) ≡ true → (sound ≡ true → number ≢ recordLimit)
-      → low ≤ rank (contentTokenAt s from).start 8
+      → is_pattern sort first (content_token_at s from) ≡ true → (sound ≡ true → number ≢ record_limit)
+      → low ≤ rank (content_token_at s from).start 8
       → Ordered s (Passes s from (LeafRead s number from)) sound low
-      (parsed (single sort number (patternFlag first (contentTokenAt s from))) (contentTokenAt s from).end)
+      (parsed (single sort number (pattern_flag first (content_token_at s from))) (content_token_at s from).end)
   pattern-ordered sort first number from sound low k h e w b =
-      let t = contentTokenAt s from in
+      let t = content_token_at s from in
       let f = content-found s from h in
-      let most = (singleRow sort).greatest in
+      let most = (single_row sort).greatest in
       let l = leb-true (first + 1) t.sort (and_left _ _ e) in
       let m = leb-true t.sort (first + most) (and_right (leb (first + 1) t.sort) _ e) in
       let x = f.strict (λ z. absurd (omega arith)) (λ z. absurd (omega arith)) in
-      single-ordered sort (patternFlag first t) number from t.end sound low (omega arith) w (omega arith) (omega (arith, f.start)) f.inside
+      single-ordered sort (pattern_flag first t) number from t.end sound low (omega arith) w (omega arith) (omega (arith, f.start)) f.inside
 
   pub leaf-ordered : (number from : ℕ) (sound : Bool) (low : ℕ) → low ≤ rank from 0 → from ≤ length s
       → Ordered s (Passes s from (LeafRead s number from)) sound low (leaf s number from)
@@ -284,22 +284,22 @@ module _ (s : List ℕ) where
   leaf-ordered number from sound low l h =
       let P = Passes s from (LeafRead s number from) in
       let C = Ordered s P sound low in
-      let t = contentTokenAt s from in
+      let t = content_token_at s from in
       let f = content-found s from h in
-      let room : (more : Parse Leaf) → ((o : Bool) (j : ℕ) → (o ≡ true → number ≢ recordLimit) → j ≤ rank t.start 8 → Ordered s P o j more) → C (noting (eqb number recordLimit) TooManyRecords t.start more) =
-      λ more k. ordered-noting s P sound low (eqb number recordLimit) TooManyRecords t.start more 8 refl (lit≤ tt) (lit< tt) (omega (arith, f.start)) (omega (arith, f.order, f.inside))
-      (λ o j b c. k o j (λ z. eqb-false number recordLimit (c z).0) b) in
-      by_cond C (isBoolean t) (λ e. room _ (λ o j w b. boolean-ordered number from o j w b h e)) (λ e.
+      let room : (more : Parse Leaf) → ((o : Bool) (j : ℕ) → (o ≡ true → number ≢ record_limit) → j ≤ rank t.start 8 → Ordered s P o j more) → C (noting (eqb number record_limit) TooManyRecords t.start more) =
+      λ more k. ordered-noting s P sound low (eqb number record_limit) TooManyRecords t.start more 8 refl (lit≤ tt) (lit< tt) (omega (arith, f.start)) (omega (arith, f.order, f.inside))
+      (λ o j b c. k o j (λ z. eqb-false number record_limit (c z).0) b) in
+      by_cond C (is_boolean t) (λ e. room _ (λ o j w b. boolean-ordered number from o j w b h e)) (λ e.
       by_cond C (eqb t.sort integer || eqb t.sort bar)
-      (λ g. ordered-then s P (Passes s from (Listed s undecided number from)) sound low (ranges s itemLimit undecided number [] from) _
-      (ranges-ordered s itemLimit undecided number [] from sound low (λ m. absurd (m refl)) l h)
-      (λ o j x p c q. ordered-parsed s P o j (rangeLeaf x) p (record { bound = q.bound; least = q.least; most = q.most; tree = λ z. range-leaf number from p x (q.tree z) })))
+      (λ g. ordered-then s P (Passes s from (Listed s undecided number from)) sound low (ranges s item_limit undecided number [] from) _
+      (ranges-ordered s item_limit undecided number [] from sound low (λ m. absurd (m refl)) l h)
+      (λ o j x p c q. ordered-parsed s P o j (range_leaf x) p (record { bound = q.bound; least = q.least; most = q.most; tree = λ z. range-leaf number from p x (q.tree z) })))
       (λ g. by_cond C (eqb t.sort string)
-      (λ x. ordered-then s P (Passes s from (Texts s number from)) sound low (strings s itemLimit number [] from) _ (strings-ordered itemLimit number [] from sound low l h)
+      (λ x. ordered-then s P (Passes s from (Texts s number from)) sound low (strings s item_limit number [] from) _ (strings-ordered item_limit number [] from sound low l h)
       (λ o j x p c q. ordered-parsed s P o j (texts x) p (record { bound = q.bound; least = q.least; most = q.most; tree = q.tree })))
-      (λ x. by_cond C (isPattern datePattern Spelling.datePattern t) (λ y. room _ (λ o j w b. pattern-ordered datePattern Spelling.datePattern number from o j (lit< tt) h y w b))
-      (λ y. by_cond C (isPattern timePattern Spelling.timePattern t) (λ z. room _ (λ o j w b. pattern-ordered timePattern Spelling.timePattern number from o j (lit< tt) h z w b))
-      (λ z. by_cond C (isPattern durationPattern Durations.durationPattern t) (λ v. room _ (λ o j w b. pattern-ordered durationPattern Durations.durationPattern number from o j (lit< tt) h v w b))
+      (λ x. by_cond C (is_pattern date_pattern Spelling.date_pattern t) (λ y. room _ (λ o j w b. pattern-ordered date_pattern Spelling.date_pattern number from o j (lit< tt) h y w b))
+      (λ y. by_cond C (is_pattern time_pattern Spelling.time_pattern t) (λ z. room _ (λ o j w b. pattern-ordered time_pattern Spelling.time_pattern number from o j (lit< tt) h z w b))
+      (λ z. by_cond C (is_pattern duration_pattern Durations.duration_pattern t) (λ v. room _ (λ o j w b. pattern-ordered duration_pattern Durations.duration_pattern number from o j (lit< tt) h v w b))
       (λ v. ordered-syntax s P sound low from t l f))))))
 
   pub leaf-holds : (number from : ℕ) → from ≤ length s

@@ -11,10 +11,10 @@ use lib.ListN.{length}
 use borrow.Author.Tests.{eqb-true, eqb-false, not-true}
 use Rattle.lexis.proofs.Cases.{and_right, by_cond}
 use Rattle.lexis.specs.Spelling.{bar, comma}
-use Rattle.lexis.specs.Tokens.{tokenAt, integer, date}
+use Rattle.lexis.specs.Tokens.{token_at, integer, date}
 use Rattle.lexis.proofs.Places.{token-found}
 use Rattle.values.specs.Integers.{Pair, pair, greatest}
-use Rattle.refusals.specs.Limits.{recordLimit}
+use Rattle.refusals.specs.Limits.{record_limit}
 use Rattle.refusals.specs.Parsing.{Parse, soundly, noting}
 use Rattle.refusals.specs.declared.Cause.TheVariants.{TooManyItems, TooManyRecords, Overlap}
 use Rattle.refusals.specs.Refusals.{number_of}
@@ -22,11 +22,11 @@ use Rattle.refusals.proofs.Readings.{Holds, ConstraintRefusal, From}
 use Rattle.refusals.proofs.Tokens.{strict_of}
 use Rattle.refusals.proofs.Parses.{rank, Ordered, ordered-parsed, ordered-noting, ordered-syntax, ordered-then, ordered-soundly, ordered-map, Passes, passes-holds}
 use Rattle.meaning.specs.Constraints.{Range}
-use Rattle.meaning.specs.contracts.Proper.{Some}
-use Rattle.meaning.specs.Counting.{rangeNumbers, up_from}
+use Rattle.meaning.specs.Clauses.Proper.{Some}
+use Rattle.meaning.specs.Counting.{range_numbers, up_from}
 use Rattle.cadl_intervals.specs.Intervals.{undecided, Interval, interval, literal}
-use Rattle.cadl_items.specs.Ranges.{Start, start, item, overlaps, Ranges, range, goOnRanges, Items, itemBy, further, ranges}
-use Rattle.cadl_items.specs.contracts.Told
+use Rattle.cadl_items.specs.Ranges.{Start, start, item, overlaps, Ranges, range, go_on_ranges, Items, item_by, further, ranges}
+use Rattle.cadl_items.specs.Clauses.Told
 use Rattle.cadl_intervals.proofs.Pairs.{Kind, kind-strict, ProperPair}
 use Rattle.cadl_intervals.proofs.IntervalReading.{Asked, Literal, Shut, token-past, literal-ordered, interval-ordered}
 
@@ -46,8 +46,8 @@ ProperRange kind x = ProperPair kind (pair x.low x.high)
 pub record Listed (s : List ℕ) (asked number from : ℕ) (l : Ranges) (p : ℕ) : Type 0 where
   pub least : from + 1 ≤ p
   pub most : p ≤ length s
-  pub numbers : rangeNumbers l.items ≡ up_from number (length l.items)
-  pub room : number ≤ recordLimit → number + length l.items ≤ recordLimit
+  pub numbers : range_numbers l.items ≡ up_from number (length l.items)
+  pub room : number ≤ record_limit → number + length l.items ≤ record_limit
   pub kind : Kind l.kind
   pub same : asked ≢ undecided → l.kind ≡ asked
   pub proper : Some (ProperRange l.kind) l.items
@@ -62,7 +62,7 @@ module _ (s : List ℕ) where
   unfolding start
   start-ordered asked from sound low l h =
       let P = Started s asked from in
-      let t = tokenAt s from in
+      let t = token_at s from in
       let f = token-found s from h in
       by_cond (Ordered s P sound low) (eqb t.sort bar)
       (λ e. let m = strict_of bar (lit< tt) t s from f (eqb-true _ _ e) in
@@ -94,15 +94,15 @@ module _ (s : List ℕ) where
 
   -- behind an item: what holds of the items that follow holds with it
   more-ordered : (asked number from first p : ℕ) (sound : Bool) (low : ℕ) (i : Interval) (more : ℕ → Parse Ranges)
-      → (sound ≡ true → number ≢ recordLimit) → from + 1 ≤ first → Shut s asked first sound low i p
+      → (sound ≡ true → number ≢ record_limit) → from + 1 ≤ first → Shut s asked first sound low i p
       → ((q : ℕ) → low ≤ rank q 0 → from + 1 ≤ q → q ≤ length s
       → Ordered s (Passes s q (Listed s i.kind (number + 1) q)) sound low (more q))
-      → Ordered s (Passes s from (Listed s asked number from)) sound low (goOnRanges s number i more p)
+      → Ordered s (Passes s from (Listed s asked number from)) sound low (go_on_ranges s number i more p)
   more-ordered asked number from first p sound low i more w a h k =
       let P = Passes s from (Listed s asked number from) in
-      by_cond (Ordered s P sound low) (eqb (tokenAt s p).sort comma)
+      by_cond (Ordered s P sound low) (eqb (token_at s p).sort comma)
       (λ e. let f = token-past s p comma h.most (lit< tt) e in
-      let at = (tokenAt s p).end in
+      let at = (token_at s p).end in
       ordered-then s P (Passes s at (Listed s i.kind (number + 1) at)) sound low (more at) _ (k at (omega (arith, f.least, h.bound)) (omega (arith, f.least, h.least)) f.most) (λ o j l q c x.
       ordered-parsed s P o j _ q (record { bound = x.bound; least = omega (arith, x.least, f.least, h.least); most = x.most; tree = λ z. joined f (c z) l q (x.tree z) })))
       (λ e. ordered-parsed s P sound low _ p (record {
@@ -112,8 +112,8 @@ module _ (s : List ℕ) where
         tree = λ z. record { least = omega (arith, h.least); most = h.most; numbers = refl; room = λ m. let n = w z in omega arith; kind = h.kind; same = h.same; proper = (omega arith, (h.proper z, tt)) };
       }))
     where
-      joined : From (p + 1) (length s) (tokenAt s p).end → sound ≡ true → (l : Ranges) (q : ℕ)
-          → Listed s i.kind (number + 1) (tokenAt s p).end l q
+      joined : From (p + 1) (length s) (token_at s p).end → sound ≡ true → (l : Ranges) (q : ℕ)
+          → Listed s i.kind (number + 1) (token_at s p).end l q
           → Listed s asked number from (record { kind = l.kind; items = range number i.pair ∷ l.items }) q
       joined f z l q x =
           let n = w z in
@@ -133,7 +133,7 @@ module _ (s : List ℕ) where
       → Asked asked → low ≤ rank from 0 → from ≤ length s
       → ((kind n : ℕ) (xs : List Pair) (q : ℕ) (o : Bool) (l : ℕ) → Asked kind → l ≤ rank q 0 → from + 1 ≤ q
       → q ≤ length s → Ordered s (Passes s q (Listed s kind n q)) o l (more kind n xs q))
-      → Ordered s (Passes s from (Listed s asked number from)) sound low (itemBy s full more asked number seen from)
+      → Ordered s (Passes s from (Listed s asked number from)) sound low (item_by s full more asked number seen from)
   unfolding number_of
   by-ordered full more asked number seen from sound low ok l h k =
       ordered-soundly s P (Started s asked from) sound low (start s asked from) _ (start-ordered asked from sound low l h) (λ x p q. rest sound low true x p q) (λ j x p q. rest false j false x p q)
@@ -141,24 +141,24 @@ module _ (s : List ℕ) where
       P : Bool → ℕ → Ranges → ℕ → Type 0
       P = Passes s from (Listed s asked number from)
 
-      last : (o : Bool) (j : ℕ) (keeps : List Pair) (i : Interval) (p q : ℕ) → (o ≡ true → number ≢ recordLimit)
+      last : (o : Bool) (j : ℕ) (keeps : List Pair) (i : Interval) (p q : ℕ) → (o ≡ true → number ≢ record_limit)
           → from + 1 ≤ p → Shut s asked p o j i q
-          → Ordered s P o j (goOnRanges s number i (more i.kind (number + 1) keeps) q)
+          → Ordered s P o j (go_on_ranges s number i (more i.kind (number + 1) keeps) q)
       last o j keeps i p q w x y = more-ordered asked number from p q o j i (more i.kind (number + 1) keeps) w x y (λ r a c d. k i.kind (number + 1) keeps r o j (λ m. y.kind) a c d)
 
       rest : (o : Bool) (j : ℕ) (begun : Bool) (x : Start) (p : ℕ) → Started s asked from o j x p
           → Ordered s P o j
-          (noting full TooManyItems x.place (noting (eqb number recordLimit) TooManyRecords x.place
+          (noting full TooManyItems x.place (noting (eqb number record_limit) TooManyRecords x.place
           (soundly (item s asked x p)
           (λ ended i q. noting (ended && begun && overlaps i.pair seen) Overlap x.place
-          (goOnRanges s number i (more i.kind (number + 1) (cond (ended && begun) (i.pair ∷ seen) seen)) q)))))
+          (go_on_ranges s number i (more i.kind (number + 1) (cond (ended && begun) (i.pair ∷ seen) seen)) q)))))
       rest o j begun x p q =
           ordered-noting s P o j full TooManyItems x.place _ 7 refl (lit≤ tt) (lit< tt) (omega (arith, q.bound)) (omega (arith, q.order, q.most)) (λ u a b c.
-          ordered-noting s P u a (eqb number recordLimit) TooManyRecords x.place _ 8 refl (lit≤ tt) (lit< tt) (omega arith) (omega (arith, q.order, q.most)) (λ v d e f.
+          ordered-noting s P u a (eqb number record_limit) TooManyRecords x.place _ 8 refl (lit≤ tt) (lit< tt) (omega arith) (omega (arith, q.order, q.most)) (λ v d e f.
           ordered-soundly s P (Shut s asked p) v d (item s asked x p) _
           (item-ordered asked v d x p ok (omega (arith, q.order)) q.most q.kind (λ z. q.value (c (f z).1).1))
           (λ i r y. ordered-noting s P v d (begun && overlaps i.pair seen) Overlap x.place _ 9 refl (lit≤ tt) (lit< tt) (omega arith) (omega (arith, q.order, q.most)) (λ z g m n.
-          last z g (cond begun (i.pair ∷ seen) seen) i p r (λ w. eqb-false number recordLimit (f (n w).1).0) (omega (arith, q.order, q.start))
+          last z g (cond begun (i.pair ∷ seen) seen) i p r (λ w. eqb-false number record_limit (f (n w).1).0) (omega (arith, q.order, q.start))
           (record { bound = omega (arith, q.order, y.least); least = y.least; most = y.most; kind = y.kind; same = y.same; proper = λ w. y.proper (n w).1 })))
           (λ g i r y. last false g seen i p r (λ w. absurd (false≢true w)) (omega (arith, q.order, q.start)) y)))
 

@@ -8,7 +8,7 @@ use lib.ListN.{length, take, drop}
 use Rattle.lexis.specs.Runs.{byte_at, same, listed}
 use Rattle.lexis.proofs.Comparing.{InBytes, bytes-start, bytes-end, bytes-differ}
 use Rattle.lexis.proofs.RunSteps.{same-long}
-use Rattle.cadl_items.specs.contracts.Spans.{first_of, second_of, spanAt, latest, earlier, SpanLies, SpansIn}
+use Rattle.cadl_items.specs.Clauses.Spans.{first_of, second_of, span_at, latest, earlier, SpanLies, SpansIn}
 
 -- the bytes of a span, as they are read
 module _ (s spans : List ℕ) (i start end : ℕ) (h : SpanLies s spans i) (es : start ≡ first_of spans i)
@@ -19,7 +19,7 @@ module _ (s spans : List ℕ) (i start end : ℕ) (h : SpanLies s spans i) (es :
   pub span-ends : end ≤ length s
   span-ends = let o = h.within.inside in omega arith
 
-  pub span-is : take (end - start) (drop start s) ≡ spanAt s spans i
+  pub span-is : take (end - start) (drop start s) ≡ span_at s spans i
   span-is = rw (es, ee)
 
 -- at the spans before n of the search for a name
@@ -27,7 +27,7 @@ pub record InNames (s spans : List ℕ) (first end : ℕ) (name : List ℕ) (n :
   pub most : n ≤ end
   pub good : SpansIn s spans first end
   pub not_yet : again ≡ false
-  pub is : listed name (latest (spanAt s spans) first (n - first)) ≡ listed name (earlier s spans first end)
+  pub is : listed name (latest (span_at s spans) first (n - first)) ≡ listed name (earlier s spans first end)
 
 pub names-start : (s spans : List ℕ) (first end : ℕ) (name : List ℕ) → SpansIn s spans first end
     → InNames s spans first end name end false
@@ -46,9 +46,9 @@ module _ (s spans : List ℕ) (first end : ℕ) (name : List ℕ) (n : ℕ) (aga
     pub names-less : n - 1 < n
     names-less = omega arith
 
-    module _ (other : List ℕ) (eo : other ≡ spanAt s spans (n - 1)) where
+    module _ (other : List ℕ) (eo : other ≡ span_at s spans (n - 1)) where
       -- the span's bytes, and those before it
-      at-span : (same name other || listed name (latest (spanAt s spans) first (n - 1 - first))) ≡ listed name
+      at-span : (same name other || listed name (latest (span_at s spans) first (n - 1 - first))) ≡ listed name
           (earlier s spans first end)
       unfolding latest listed
       at-span =

@@ -1,4 +1,4 @@
 pub mod Ranges
 pub mod Strings
 pub mod Leaves
-pub mod contracts
+pub mod Clauses

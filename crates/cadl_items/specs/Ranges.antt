@@ -3,9 +3,9 @@
 -- token; "an item with a fault of its own, syntax too, overlaps nothing". Assumes nothing.
 use Rattle.std.specs.Prelude.{Bool, true, false, cond, not, ◌&&◌, ◌||◌, List, [], ◌∷◌, ℕ, zero, suc, ◌+◌, eqb, leb, length}
 use Rattle.lexis.specs.Spelling.{bar, comma}
-use Rattle.lexis.specs.Tokens.{tokenAt, integer, date}
+use Rattle.lexis.specs.Tokens.{token_at, integer, date}
 use Rattle.values.specs.Integers.{Pair, pair}
-use Rattle.refusals.specs.Limits.{recordLimit}
+use Rattle.refusals.specs.Limits.{record_limit}
 use Rattle.refusals.specs.declared.Cause.TheVariants.{EndsEarly, TooManyItems, TooManyRecords, Overlap}
 use Rattle.refusals.specs.Refusals.{refusal}
 use Rattle.refusals.specs.Parsing.{Parse, stopped, parsed, and_then, soundly, noting, syntax}
@@ -21,7 +21,7 @@ pub record Start : Type 0 where
 -- the first token of an integer or date item
 unfoldable pub start : List ℕ → ℕ → ℕ → Parse Start
 start s kind from =
-    let t = tokenAt s from in
+    let t = token_at s from in
     cond (eqb t.sort bar) (parsed (record { place = t.start; single = false; value = 0 }) t.end)
     (cond (eqb t.sort integer && not (eqb kind date))
     (and_then (literal s integer from) (λ v p. parsed (record { place = t.start; single = true; value = v }) p))
@@ -49,9 +49,9 @@ abbrev pub range : ℕ → Pair → Range
 range number p = record { number = number; low = p.low; high = p.high }
 
 -- behind an item: a comma and more items, or the list's end
-abbrev pub goOnRanges : List ℕ → ℕ → Interval → (ℕ → Parse Ranges) → ℕ → Parse Ranges
-goOnRanges s number i more p =
-    let t = tokenAt s p in
+abbrev pub go_on_ranges : List ℕ → ℕ → Interval → (ℕ → Parse Ranges) → ℕ → Parse Ranges
+go_on_ranges s number i more p =
+    let t = token_at s p in
     cond (eqb t.sort comma)
     (and_then (more t.end) (λ l q. parsed (record { kind = l.kind; items = range number i.pair ∷ l.items }) q))
     (parsed (record { kind = i.kind; items = range number i.pair ∷ [] }) p)
@@ -61,21 +61,21 @@ abbrev pub Items : Type 0
 Items = ℕ → ℕ → List Pair → ℕ → Parse Ranges
 
 -- an item, which may be one too many, and those behind it: only one without a fault of its own overlaps others
-abbrev pub itemBy : List ℕ → Bool → Items → Items
-itemBy s full more kind number seen from =
+abbrev pub item_by : List ℕ → Bool → Items → Items
+item_by s full more kind number seen from =
     soundly (start s kind from) (λ begun x p.
     noting full TooManyItems x.place
-    (noting (eqb number recordLimit) TooManyRecords x.place
+    (noting (eqb number record_limit) TooManyRecords x.place
     (soundly (item s kind x p) (λ ended i q.
     noting (ended && begun && overlaps i.pair seen) Overlap x.place
-    (goOnRanges s number i (more i.kind (number + 1) (cond (ended && begun) (i.pair ∷ seen) seen)) q)))))
+    (go_on_ranges s number i (more i.kind (number + 1) (cond (ended && begun) (i.pair ∷ seen) seen)) q)))))
 
 -- items behind those that are allowed; `fuel` bounds how many, and its end, told behind the text's end, is no fault of any text
 unfoldable pub further : List ℕ → ℕ → Items
 further s zero kind number seen from = stopped (refusal EndsEarly (length s + 1))
-further s (suc fuel) kind number seen from = itemBy s false (further s fuel) kind number seen from
+further s (suc fuel) kind number seen from = item_by s false (further s fuel) kind number seen from
 
 -- items of which so many are allowed; the first that is not is a fault
 unfoldable pub ranges : List ℕ → ℕ → Items
-ranges s zero kind number seen from = itemBy s true (further s (length s + 1)) kind number seen from
-ranges s (suc left) kind number seen from = itemBy s false (ranges s left) kind number seen from
+ranges s zero kind number seen from = item_by s true (further s (length s + 1)) kind number seen from
+ranges s (suc left) kind number seen from = item_by s false (ranges s left) kind number seen from

@@ -1,11 +1,11 @@
 // Leaves: Booleans, lists of integers, of strings and of dates, and patterns.
 ghost use Rattle.std.specs.Prelude.{◌≡◌, ◌≤◌, length};
-ghost use Rattle.lexis.specs.Tokens.{contentTokenAt};
-ghost use Rattle.lexis.specs.contracts.Answers.{TokenIs};
-ghost use Rattle.cadl_items.specs.Leaves.{isBoolean, booleanFlag};
-ghost use Rattle.cadl_items.specs.contracts.Told.{leaf};
-ghost use Rattle.cadl_items.specs.contracts.Answers.{LeafRoom, LeafIs};
-ghost use Rattle.cadl_items.specs.contracts.Items.{ListRoom, secondBy, booleansBy, EveryIs, OneIs, roomed, singleLeaf, rangesLeaf, stringLeaf};
+ghost use Rattle.lexis.specs.Tokens.{content_token_at};
+ghost use Rattle.lexis.specs.Clauses.Answers.{TokenIs};
+ghost use Rattle.cadl_items.specs.Leaves.{is_boolean, boolean_flag};
+ghost use Rattle.cadl_items.specs.Clauses.Told.{leaf};
+ghost use Rattle.cadl_items.specs.Clauses.Answers.{LeafRoom, LeafIs};
+ghost use Rattle.cadl_items.specs.Clauses.Items.{ListRoom, second_by, booleans_by, EveryIs, OneIs, roomed, single_leaf, ranges_leaf, string_leaf};
 
 use crate::ranges::{RangesRead, read_ranges};
 use crate::spans::SCRATCH_ROOM;
@@ -74,7 +74,7 @@ pub enum LeafRead {
 
 // The token is a Boolean.
 fn is_boolean(t: Token) -> bool
-    ensures { result ≡ isBoolean t }
+    ensures { result ≡ is_boolean t }
 {
     if t.sort == TRUE_WORD {
         return true;
@@ -84,7 +84,7 @@ fn is_boolean(t: Token) -> bool
 
 // The flag of one Boolean.
 fn boolean_flag(t: Token) -> u8
-    ensures { result ≡ booleanFlag t }
+    ensures { result ≡ boolean_flag t }
 {
     if t.sort == TRUE_WORD { 1 } else { 2 }
 }
@@ -92,7 +92,7 @@ fn boolean_flag(t: Token) -> u8
 // The second Boolean, behind a comma.
 fn second_boolean(s: &[u8], flag: u8, from: usize) -> LeafRead
     requires { from ≤ length s.now }
-    ensures { EveryIs s.now (secondBy s.now flag from) result }
+    ensures { EveryIs s.now (second_by s.now flag from) result }
 {
     let t = token_at(s, from);
     if !is_boolean(t) {
@@ -115,7 +115,7 @@ fn second_boolean(s: &[u8], flag: u8, from: usize) -> LeafRead
 // Booleans, the first of which is the token.
 fn boolean_list(s: &[u8], t: Token) -> LeafRead
     requires { t.end ≤ length s.now }
-    ensures { EveryIs s.now (booleansBy s.now t) result }
+    ensures { EveryIs s.now (booleans_by s.now t) result }
 {
     let flag = boolean_flag(t);
     let u = token_at(s, t.end);
@@ -145,7 +145,7 @@ fn roomed(number: usize, place: usize, leaf: LeafRead) -> LeafRead
 // A leaf of one record: Booleans or a pattern, whose first token is t.
 fn single_leaf(s: &[u8], number: usize, t: Token) -> LeafRead
     requires { t.end ≤ length s.now }
-    ensures { OneIs s.now number (singleLeaf s.now number t) result }
+    ensures { OneIs s.now number (single_leaf s.now number t) result }
 {
     if is_boolean(t) {
         let leaf = boolean_list(s, t);
@@ -190,7 +190,7 @@ fn single_leaf(s: &[u8], number: usize, t: Token) -> LeafRead
 // A list of integers or of dates.
 fn range_leaf(s: &[u8], number: usize, from: usize, scratch: &mut [u32; SCRATCH_ROOM]) -> LeafRead
     requires { ListRoom s.now number from }
-    ensures { LeafIs s.now number from (rangesLeaf s.now number from) scratch.new
+    ensures { LeafIs s.now number from (ranges_leaf s.now number from) scratch.new
         result }
 {
     match read_ranges(s, number, from, scratch) {
@@ -217,7 +217,7 @@ fn range_leaf(s: &[u8], number: usize, from: usize, scratch: &mut [u32; SCRATCH_
 // A list of strings.
 fn string_leaf(s: &[u8], number: usize, from: usize, scratch: &mut [u32; SCRATCH_ROOM]) -> LeafRead
     requires { LeafRoom s.now number from }
-    ensures { LeafIs s.now number from (stringLeaf s.now number from) scratch.new
+    ensures { LeafIs s.now number from (string_leaf s.now number from) scratch.new
         result }
 {
     match read_strings(s, number, from, scratch) {
@@ -239,7 +239,7 @@ pub fn read_leaf(
     scratch: &mut [u32; SCRATCH_ROOM],
 ) -> LeafRead
     requires leaf_room { LeafRoom s.now number from }
-    requires token_is { TokenIs s.now from (contentTokenAt s.now from) t }
+    requires token_is { TokenIs s.now from (content_token_at s.now from) t }
     ensures { LeafIs s.now number from (leaf s.now number from) scratch.new result }
 {
     let sort = t.sort;

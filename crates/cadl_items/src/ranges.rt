@@ -2,11 +2,11 @@
 ghost use Rattle.std.specs.Prelude.{◌≡◌, not, ◌&&◌, ◌*◌, ◌-◌, ◌≤◌, eqb, length};
 ghost use Rattle.lexis.specs.Tokens.{integer, date};
 ghost use Rattle.values.specs.Integers.{pair};
-ghost use Rattle.refusals.specs.Limits.{itemLimit};
+ghost use Rattle.refusals.specs.Limits.{item_limit};
 ghost use Rattle.cadl_items.specs.Ranges.{meet, overlaps};
-ghost use Rattle.cadl_items.specs.contracts.Told.{start, item, ranges};
-ghost use Rattle.cadl_intervals.specs.contracts.Answers.{At, shut, IntervalIs};
-ghost use Rattle.cadl_items.specs.contracts.Items.{startReading, Before, StartIs, started, pairsOf, keptRange, ItemRoom, KeepRoom, RangeIs, ListRoom, RangesIs};
+ghost use Rattle.cadl_items.specs.Clauses.Told.{start, item, ranges};
+ghost use Rattle.cadl_intervals.specs.Clauses.Answers.{At, shut, IntervalIs};
+ghost use Rattle.cadl_items.specs.Clauses.Items.{start_reading, Before, StartIs, started, pairs_of, kept_range, ItemRoom, KeepRoom, RangeIs, ListRoom, RangesIs};
 
 use crate::spans::{SCRATCH_ROOM, put};
 use cadl_intervals::ends::{IntervalRead, UNDECIDED, interval};
@@ -57,7 +57,7 @@ fn value_follows(sort: u8, kind: u8) -> bool
 // The first token of an integer or date item.
 fn start(s: &[u8], kind: u8, from: usize) -> StartRead
     requires { from ≤ length s.now }
-    ensures { startReading result ≡ start s.now kind from }
+    ensures { start_reading result ≡ start s.now kind from }
 {
     let t = token_at(s, from);
     if t.sort == BAR {
@@ -153,7 +153,7 @@ fn meet(low: u32, high: u32, a: u32, b: u32) -> bool
 // The pair overlaps one of the first items.
 fn overlaps(scratch: &[u32], count: usize, low: u32, high: u32) -> bool
     requires { 2 * count ≤ length scratch.now }
-    ensures { result ≡ overlaps (pair low high) (pairsOf scratch.now count) }
+    ensures { result ≡ overlaps (pair low high) (pairs_of scratch.now count) }
 {
     let mut n = count;
     while 0 < n {
@@ -180,7 +180,7 @@ fn keep_range(
 ) -> RangeRead
     requires { KeepRoom s.now kind number count from }
     ensures { RangeIs s.now number count
-        (keptRange s.now number count (pairsOf scratch.old count) place
+        (kept_range s.now number count (pairs_of scratch.old count) place
         (shut kind (pair low high)) from)
         scratch.old scratch.new result }
 {
@@ -209,7 +209,7 @@ fn range_item(
 ) -> RangeRead
     requires { ItemRoom s.now kind number count from }
     ensures { RangeIs s.now number count
-        (ranges s.now (itemLimit - count) kind number (pairsOf scratch.old count) from)
+        (ranges s.now (item_limit - count) kind number (pairs_of scratch.old count) from)
         scratch.old scratch.new result }
 {
     match roomy_start(s, kind, number, count, from) {

@@ -1,8 +1,8 @@
 // Items by twos in numbers: item i stands at 2i and 2i + 1. A span is an item that names two places of a text.
 ghost use Rattle.std.specs.Prelude.{◌≡◌, ◌+◌, ◌*◌, ◌^◌, ◌<◌, length, get_or};
 ghost use Rattle.lexis.specs.Runs.{listed};
-ghost use Rattle.refusals.specs.Limits.{itemLimit};
-ghost use Rattle.cadl_items.specs.contracts.Spans.{withItem, spanAt, earlier, SpanLies, SpansIn};
+ghost use Rattle.refusals.specs.Limits.{item_limit};
+ghost use Rattle.cadl_items.specs.Clauses.Spans.{with_item, span_at, earlier, SpanLies, SpansIn};
 
 use refusals::limits::ITEM_LIMIT;
 
@@ -35,7 +35,7 @@ fn number(spans: &[u32], i: usize) -> usize
 // The bytes of span i.
 fn span_bytes<'a>(s: &'a [u8], spans: &[u32], i: usize) -> &'a [u8]
     requires { SpanLies s.now spans.now i }
-    ensures { result.now ≡ spanAt s.now spans.now i }
+    ensures { result.now ≡ span_at s.now spans.now i }
 {
     let start = number(spans, 2 * i);
     let end = number(spans, 2 * i + 1);
@@ -71,8 +71,8 @@ pub fn repeated(s: &[u8], spans: &[u32], first: usize, end: usize, name: &[u8]) 
 
 // Writes item i.
 pub fn put(scratch: &mut [u32; SCRATCH_ROOM], i: usize, a: u32, b: u32)
-    requires { i < itemLimit }
-    ensures { scratch.new ≡ withItem scratch.old i a b }
+    requires { i < item_limit }
+    ensures { scratch.new ≡ with_item scratch.old i a b }
 {
     scratch[2 * i] = a;
     scratch[2 * i + 1] = b;

@@ -2,12 +2,12 @@
 ghost use Rattle.std.specs.Prelude.{◌≡◌, ◌-◌, ◌≤◌, length};
 ghost use Rattle.lexis.specs.Tokens.{string};
 ghost use Rattle.lexis.specs.declared.Token.{Token};
-ghost use Rattle.refusals.specs.Limits.{textLimit, itemLimit};
-ghost use Rattle.refusals.specs.contracts.Answers.{ExpectIs};
-ghost use Rattle.cadl_items.specs.contracts.Spans.{earlier};
-ghost use Rattle.cadl_items.specs.contracts.Told.{startString, strings};
-ghost use Rattle.cadl_items.specs.contracts.Answers.{LeafRoom};
-ghost use Rattle.cadl_items.specs.contracts.Items.{Before, StringStartIs, keptString, StringRoom, KeepString, StringIs, StringsIs};
+ghost use Rattle.refusals.specs.Limits.{text_limit, item_limit};
+ghost use Rattle.refusals.specs.Clauses.Answers.{ExpectIs};
+ghost use Rattle.cadl_items.specs.Clauses.Spans.{earlier};
+ghost use Rattle.cadl_items.specs.Clauses.Told.{start_string, strings};
+ghost use Rattle.cadl_items.specs.Clauses.Answers.{LeafRoom};
+ghost use Rattle.cadl_items.specs.Clauses.Items.{Before, StringStartIs, kept_string, StringRoom, KeepString, StringIs, StringsIs};
 
 use crate::spans::{SCRATCH_ROOM, narrow, put, repeated};
 use lexis::tokens::token_at;
@@ -37,7 +37,7 @@ pub enum StringsRead {
 // A string that is not too long.
 fn start_string(s: &[u8], from: usize) -> Expected
     requires { from ≤ length s.now }
-    ensures { ExpectIs s.now string from (startString s.now from) result }
+    ensures { ExpectIs s.now string from (start_string s.now from) result }
 {
     match expect(s, STRING, from) {
         Expected::Fault(fault) => {
@@ -90,7 +90,7 @@ fn keep_string(
 ) -> StringRead
     requires { KeepString s.now number count t scratch.old }
     ensures { StringIs s.now number count
-        (keptString s.now number count (earlier s.now scratch.old 0 count) t t.end)
+        (kept_string s.now number count (earlier s.now scratch.old 0 count) t t.end)
         scratch.old scratch.new result }
 {
     let place = t.start;
@@ -120,7 +120,7 @@ fn string_item(
 ) -> StringRead
     requires { StringRoom s.now number count from scratch.old }
     ensures { StringIs s.now number count
-        (strings s.now (itemLimit - count) number
+        (strings s.now (item_limit - count) number
         (earlier s.now scratch.old 0 count) from)
         scratch.old scratch.new result }
 {

@@ -1,11 +1,11 @@
 -- What the checker opens to compute with the definitions of this crate and those below. Assumes nothing.
-use Rattle.cadl_items.proofs.Computes.{itemsCompute}
-use Rattle.meaning.specs.Counting.{objectRecords, objectPool, objectNumbers}
-use Rattle.cadl_objects.specs.Existence.{opening, fromNought, fromOne, bounds, existenceFrom}
-use Rattle.cadl_objects.specs.Objects.{objectType, objectCode, attributeName, attributeFrom, attributes, objectFrom}
-use Rattle.cadl_objects.specs.Texts.{objectAlone, constraintText, constraintOf}
-use Rattle.cadl_objects.specs.contracts.Told
+use Rattle.cadl_items.proofs.Computes.{items_compute}
+use Rattle.meaning.specs.Counting.{object_records, object_pool, object_numbers}
+use Rattle.cadl_objects.specs.Existence.{opening, from_nought, from_one, bounds, existence_from}
+use Rattle.cadl_objects.specs.Objects.{object_type, object_code, attribute_name, attribute_from, attributes, object_from}
+use Rattle.cadl_objects.specs.Texts.{object_alone, constraint_text, constraint_of}
+use Rattle.cadl_objects.specs.Clauses.Told
 
-unfoldable pub constraintComputes : Unit {0}
-unfolding itemsCompute objectRecords objectPool objectNumbers opening fromNought fromOne bounds existenceFrom objectType objectCode attributeName attributeFrom attributes objectFrom objectAlone constraintText constraintOf Told.objectFrom
-constraintComputes = tt
+unfoldable pub constraint_computes : Unit {0}
+unfolding items_compute object_records object_pool object_numbers opening from_nought from_one bounds existence_from object_type object_code attribute_name attribute_from attributes object_from object_alone constraint_text constraint_of Told.object_from
+constraint_computes = tt

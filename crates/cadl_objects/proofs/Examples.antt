@@ -5,32 +5,32 @@ use Prim.Native.Nat.{ℕ, ◌-◌}
 use lib.Dec.{eqb}
 use lib.ListN.{length}
 use Rattle.lexis.specs.Runs.{same}
-use Rattle.refusals.specs.Limits.{levelLimit}
+use Rattle.refusals.specs.Limits.{level_limit}
 use Rattle.refusals.specs.Reading.{Reading, refused, got}
 use Rattle.refusals.specs.Refusals.{number_of}
 use Rattle.meaning.specs.Constraints.{Object}
-use Rattle.meaning.proofs.Trees.{objectList}
-use Rattle.cadl_objects.specs.contracts.Told.{objectFrom}
-use Rattle.cadl_objects.specs.Texts.{constraintOf}
+use Rattle.meaning.proofs.Trees.{object_list}
+use Rattle.cadl_objects.specs.Clauses.Told.{object_from}
+use Rattle.cadl_objects.specs.Texts.{constraint_of}
 
 -- a text and what is expected of it; or an object that is no outermost one, from a record's number on
 pub data Case : Type 0 where
   accepts : (text : List ℕ) (tree : Object) → Case
   refuses : (text : List ℕ) (number place : ℕ) → Case
-  acceptsFrom : (text : List ℕ) (next : ℕ) (tree : Object) → Case
-  refusesFrom : (text : List ℕ) (next number place : ℕ) → Case
+  accepts_from : (text : List ℕ) (next : ℕ) (tree : Object) → Case
+  refuses_from : (text : List ℕ) (next number place : ℕ) → Case
 
-abbrev pub isTree : Reading Object → Object → ℕ → Bool
-isTree (refused r) o end = false
-isTree (got x p) o end = same (objectList x) (objectList o) && eqb p end
+abbrev pub is_tree : Reading Object → Object → ℕ → Bool
+is_tree (refused r) o end = false
+is_tree (got x p) o end = same (object_list x) (object_list o) && eqb p end
 
-abbrev pub isRefusal : Reading Object → ℕ → ℕ → Bool
-isRefusal (refused r) number place = eqb (number_of r.cause) number && eqb r.place place
-isRefusal (got x p) number place = false
+abbrev pub is_refusal : Reading Object → ℕ → ℕ → Bool
+is_refusal (refused r) number place = eqb (number_of r.cause) number && eqb r.place place
+is_refusal (got x p) number place = false
 
 -- the place behind a text that was accepted is its end
 unfoldable pub right : Case → Bool
-right (accepts s o) = isTree (constraintOf s) o (length s)
-right (refuses s number place) = isRefusal (constraintOf s) number place
-right (acceptsFrom s next o) = isTree (objectFrom s (levelLimit - 1) next 0) o (length s)
-right (refusesFrom s next number place) = isRefusal (objectFrom s (levelLimit - 1) next 0) number place
+right (accepts s o) = is_tree (constraint_of s) o (length s)
+right (refuses s number place) = is_refusal (constraint_of s) number place
+right (accepts_from s next o) = is_tree (object_from s (level_limit - 1) next 0) o (length s)
+right (refuses_from s next number place) = is_refusal (object_from s (level_limit - 1) next 0) number place

@@ -9,22 +9,22 @@ use lib.ListN.{length}
 use borrow.Author.Tests.{eq-eqb, ne_eqb}
 use Rattle.lexis.specs.Text.{bytes}
 use Rattle.lexis.specs.Runs.{same, part}
-use Rattle.lexis.specs.Spelling.{matches, openBrace, closeBrace, dots}
+use Rattle.lexis.specs.Spelling.{matches, open_brace, close_brace, dots}
 use Rattle.lexis.specs.Spelling
-use Rattle.lexis.specs.Tokens.{tokenAt, integer, spelling}
-use Rattle.lexis.specs.contracts.Answers.{TokenIs}
+use Rattle.lexis.specs.Tokens.{token_at, integer, spelling}
+use Rattle.lexis.specs.Clauses.Answers.{TokenIs}
 use Rattle.lexis.specs.declared.Token.{Token}
 use Rattle.refusals.specs.Reading.{Reading, refused, got}
 use Rattle.refusals.specs.Refusals.{refusal}
-use Rattle.refusals.specs.Expecting.{syntaxCause, expect}
-use Rattle.refusals.specs.contracts.Answers.{TokenPast, ExpectIs}
+use Rattle.refusals.specs.Expecting.{syntax_cause, expect}
+use Rattle.refusals.specs.Clauses.Answers.{TokenPast, ExpectIs}
 use Rattle.refusals.specs.declared.Refusal.{Refusal}
 use Rattle.refusals.specs.declared.steps.Expected.{Expected}
 use Rattle.refusals.specs.declared.steps.Expected.TheVariants.{Fault, Taken}
 use Rattle.refusals.proofs.StepLaws.{taken-there, taken_not, expect-is, expected-fault, expected-token, expected-past}
-use Rattle.cadl_items.specs.contracts.Spans.{Within}
-use Rattle.cadl_objects.specs.Existence.{opening, fromNought, fromOne, bounds, existenceFrom}
-use Rattle.cadl_objects.specs.contracts.Answers.{ExistencePast, ExistenceIs, existenceClosed, braced}
+use Rattle.cadl_items.specs.Clauses.Spans.{Within}
+use Rattle.cadl_objects.specs.Existence.{opening, from_nought, from_one, bounds, existence_from}
+use Rattle.cadl_objects.specs.Clauses.Answers.{ExistencePast, ExistenceIs, existence_closed, braced}
 use Rattle.cadl_objects.specs.declared.existence.ExistenceRead.{ExistenceRead}
 use Rattle.cadl_objects.specs.declared.existence.ExistenceRead.TheVariants.{Faulty, Existence}
 
@@ -42,29 +42,29 @@ existence-earlier s from later (Existence flag next) h p = (p.0, omega arith, p.
 
 -- `matches {`
 module _ (s : List ℕ) (from : ℕ) (r : Expected) (e : ExpectIs s matches from (expect s matches from) r) where
-  opening-fault : (x : Refusal) → r ≡ Fault x → ExpectIs s openBrace from (opening s from) (Fault x)
+  opening-fault : (x : Refusal) → r ≡ Fault x → ExpectIs s open_brace from (opening s from) (Fault x)
   unfolding opening
   opening-fault x g = record { is = rw (expected-fault e x g); past = tt }
 
   module _ (t : Token) (g : r ≡ Taken t) where
-    opening-rest : (q : Expected) → ExpectIs s openBrace t.end (expect s openBrace t.end) q
-        → ExpectIs s openBrace from (opening s from) q
+    opening-rest : (q : Expected) → ExpectIs s open_brace t.end (expect s open_brace t.end) q
+        → ExpectIs s open_brace from (opening s from) q
     unfolding opening
     opening-rest q h =
         let p = expected-past e t g in
-        record { is = rw (expected-token e t g) h.is; past = token-earlier s openBrace from t.end q (omega arith) h.past }
+        record { is = rw (expected-token e t g) h.is; past = token-earlier s open_brace from t.end q (omega arith) h.past }
 
-module _ (s : List ℕ) (from : ℕ) (t : Token) (tok : TokenIs s from (tokenAt s from) t) where
-  pub opening-other : (t.sort ≡ matches → ⊥) → (x : Refusal) → x ≡ refusal (syntaxCause t) t.start
-      → ExpectIs s openBrace from (opening s from) (Fault x)
+module _ (s : List ℕ) (from : ℕ) (t : Token) (tok : TokenIs s from (token_at s from) t) where
+  pub opening-other : (t.sort ≡ matches → ⊥) → (x : Refusal) → x ≡ refusal (syntax_cause t) t.start
+      → ExpectIs s open_brace from (opening s from) (Fault x)
   opening-other n x e = opening-fault s from (Fault x) (expect-is s matches from t tok (Fault x) (taken_not t matches n x e)) x refl
 
-  pub opening-opens : t.sort ≡ matches → (q : Expected) → ExpectIs s openBrace t.end (expect s openBrace t.end) q
-      → ExpectIs s openBrace from (opening s from) q
+  pub opening-opens : t.sort ≡ matches → (q : Expected) → ExpectIs s open_brace t.end (expect s open_brace t.end) q
+      → ExpectIs s open_brace from (opening s from) q
   opening-opens k q h = opening-rest s from (Taken t) (expect-is s matches from t tok (Taken t) (taken-there t matches k)) t refl q h
 
   -- the same place has the same token
-  pub token-same : (place : ℕ) → place ≡ from → TokenIs s place (tokenAt s place) t
+  pub token-same : (place : ℕ) → place ≡ from → TokenIs s place (token_at s place) t
   token-same place e = rw e tok
 
 -- an integer that is spelled so
@@ -83,81 +83,81 @@ spelled s w t = eqb t.sort integer && same w (spelling s t)
 pub token-within : (s : List ℕ) (from : ℕ) (x t : Token) → TokenIs s from x t → Within s t.start t.end
 token-within s from x t tok = record { order = tok.order; inside = tok.inside }
 
-module _ (s : List ℕ) (from : ℕ) (t : Token) (tok : TokenIs s from (tokenAt s from) t) where
+module _ (s : List ℕ) (from : ℕ) (t : Token) (tok : TokenIs s from (token_at s from) t) where
   -- behind the first number: nothing more
   module _ (n : t.sort ≡ dots → ⊥) (h : from ≤ length s) where
-    pub nought-alone : ExistenceIs s from (fromNought s from) (Existence 0 from)
-    unfolding fromNought
+    pub nought-alone : ExistenceIs s from (from_nought s from) (Existence 0 from)
+    unfolding from_nought
     nought-alone = record { is = rw (← tok.is, ne_eqb t.sort dots n); past = (omega arith, omega arith, h) }
 
-    pub one-alone : ExistenceIs s from (fromOne s from) (Existence 2 from)
-    unfolding fromOne
+    pub one-alone : ExistenceIs s from (from_one s from) (Existence 2 from)
+    unfolding from_one
     one-alone = record { is = rw (← tok.is, ne_eqb t.sort dots n); past = (omega arith, omega arith, h) }
 
   -- behind `..`
-  module _ (d : t.sort ≡ dots) (u : Token) (next : TokenIs s t.end (tokenAt s t.end) u) where
+  module _ (d : t.sort ≡ dots) (u : Token) (next : TokenIs s t.end (token_at s t.end) u) where
     pub nought-nought : (a : Bool) → a ≡ spelled s (bytes "0") u → a ≡ true
-        → ExistenceIs s from (fromNought s from) (Existence 0 u.end)
-    unfolding fromNought
+        → ExistenceIs s from (from_nought s from) (Existence 0 u.end)
+    unfolding from_nought
     nought-nought a p h = record { is = rw (← tok.is, eq-eqb t.sort dots d, ← next.is, ← p, h); past = (omega arith, omega arith, next.inside) }
 
     pub nought-one : (a b : Bool) → a ≡ spelled s (bytes "0") u → a ≡ false → b ≡ spelled s (bytes "1") u → b ≡ true
-        → ExistenceIs s from (fromNought s from) (Existence 1 u.end)
-    unfolding fromNought
+        → ExistenceIs s from (from_nought s from) (Existence 1 u.end)
+    unfolding from_nought
     nought-one a b p h q k = record { is = rw (← tok.is, eq-eqb t.sort dots d, ← next.is, ← p, h, ← q, k); past = (omega arith, omega arith, next.inside) }
 
     pub nought-fault : (a b : Bool) → a ≡ spelled s (bytes "0") u → a ≡ false → b ≡ spelled s (bytes "1") u → b ≡ false
-        → (x : Refusal) → x ≡ refusal (syntaxCause u) u.start → ExistenceIs s from (fromNought s from) (Faulty x)
-    unfolding fromNought
+        → (x : Refusal) → x ≡ refusal (syntax_cause u) u.start → ExistenceIs s from (from_nought s from) (Faulty x)
+    unfolding from_nought
     nought-fault a b p h q k x e = record { is = rw (← tok.is, eq-eqb t.sort dots d, ← next.is, ← p, h, ← q, k, e); past = tt }
 
     pub one-one : (b : Bool) → b ≡ spelled s (bytes "1") u → b ≡ true
-        → ExistenceIs s from (fromOne s from) (Existence 2 u.end)
-    unfolding fromOne
+        → ExistenceIs s from (from_one s from) (Existence 2 u.end)
+    unfolding from_one
     one-one b q k = record { is = rw (← tok.is, eq-eqb t.sort dots d, ← next.is, ← q, k); past = (omega arith, omega arith, next.inside) }
 
     pub one-fault : (b : Bool) → b ≡ spelled s (bytes "1") u → b ≡ false → (x : Refusal)
-        → x ≡ refusal (syntaxCause u) u.start → ExistenceIs s from (fromOne s from) (Faulty x)
-    unfolding fromOne
+        → x ≡ refusal (syntax_cause u) u.start → ExistenceIs s from (from_one s from) (Faulty x)
+    unfolding from_one
     one-fault b q k x e = record { is = rw (← tok.is, eq-eqb t.sort dots d, ← next.is, ← q, k, e); past = tt }
 
   -- between the braces
   pub bounds-nought : (a : Bool) → a ≡ spelled s (bytes "0") t → a ≡ true → (r : ExistenceRead)
-      → ExistenceIs s t.end (fromNought s t.end) r → ExistenceIs s from (bounds s from) r
+      → ExistenceIs s t.end (from_nought s t.end) r → ExistenceIs s from (bounds s from) r
   unfolding bounds
   bounds-nought a p h r e = record { is = rw (← tok.is, ← p, h) e.is; past = existence-earlier s from t.end r (omega arith) e.past }
 
   pub bounds-one : (a b : Bool) → a ≡ spelled s (bytes "0") t → a ≡ false → b ≡ spelled s (bytes "1") t → b ≡ true
-      → (r : ExistenceRead) → ExistenceIs s t.end (fromOne s t.end) r → ExistenceIs s from (bounds s from) r
+      → (r : ExistenceRead) → ExistenceIs s t.end (from_one s t.end) r → ExistenceIs s from (bounds s from) r
   unfolding bounds
   bounds-one a b p h q k r e = record { is = rw (← tok.is, ← p, h, ← q, k) e.is; past = existence-earlier s from t.end r (omega arith) e.past }
 
   pub bounds-fault : (a b : Bool) → a ≡ spelled s (bytes "0") t → a ≡ false → b ≡ spelled s (bytes "1") t → b ≡ false
-      → (x : Refusal) → x ≡ refusal (syntaxCause t) t.start → ExistenceIs s from (bounds s from) (Faulty x)
+      → (x : Refusal) → x ≡ refusal (syntax_cause t) t.start → ExistenceIs s from (bounds s from) (Faulty x)
   unfolding bounds
   bounds-fault a b p h q k x e = record { is = rw (← tok.is, ← p, h, ← q, k, e); past = tt }
 
   -- with `existence`, and without
   pub existence-there : t.sort ≡ Spelling.existence → (r : ExistenceRead)
-      → ExistenceIs s t.end (braced s t.end) r → ExistenceIs s from (existenceFrom s from) r
-  unfolding existenceFrom braced existenceClosed
+      → ExistenceIs s t.end (braced s t.end) r → ExistenceIs s from (existence_from s from) r
+  unfolding existence_from braced existence_closed
   existence-there d r e = record { is = rw (← tok.is, eq-eqb t.sort Spelling.existence d) e.is; past = existence-earlier s from t.end r (omega arith) e.past }
 
   pub existence-none : (t.sort ≡ Spelling.existence → ⊥) → from ≤ length s
-      → ExistenceIs s from (existenceFrom s from) (Existence 2 from)
-  unfolding existenceFrom
+      → ExistenceIs s from (existence_from s from) (Existence 2 from)
+  unfolding existence_from
   existence-none n h = record { is = rw (← tok.is, ne_eqb t.sort Spelling.existence n); past = (omega arith, omega arith, h) }
 
 -- the `}`
 module _ (s : List ℕ) (flag from : ℕ) (small : flag ≤ 2) (r : Expected)
-    (e : ExpectIs s closeBrace from (expect s closeBrace from) r) where
-  pub closed-fault : (x : Refusal) → r ≡ Fault x → ExistenceIs s from (existenceClosed s flag from) (Faulty x)
-  unfolding existenceClosed
+    (e : ExpectIs s close_brace from (expect s close_brace from) r) where
+  pub closed-fault : (x : Refusal) → r ≡ Fault x → ExistenceIs s from (existence_closed s flag from) (Faulty x)
+  unfolding existence_closed
   closed-fault x g = record { is = rw (expected-fault e x g); past = tt }
 
   pub closed-there : (t : Token) → r ≡ Taken t
-      → ExistenceIs s from (existenceClosed s flag from) (Existence flag t.end)
-  unfolding existenceClosed
+      → ExistenceIs s from (existence_closed s flag from) (Existence flag t.end)
+  unfolding existence_closed
   closed-there t g = let p = expected-past e t g in record { is = rw (expected-token e t g); past = (small, omega arith, p.2) }
 
 -- what an answer says of the reading that it is
@@ -172,7 +172,7 @@ module _ {s : List ℕ} {from : ℕ} {reading : Reading ℕ} {r : ExistenceRead}
   existence-past flag next g = rw g at e.past
 
 -- an existence between its braces
-module _ (s : List ℕ) (from : ℕ) (o : Expected) (e : ExpectIs s openBrace from (opening s from) o) where
+module _ (s : List ℕ) (from : ℕ) (o : Expected) (e : ExpectIs s open_brace from (opening s from) o) where
   pub braced-fault : (x : Refusal) → o ≡ Fault x → ExistenceIs s from (braced s from) (Faulty x)
   unfolding braced
   braced-fault x g = record { is = rw (expected-fault e x g); past = tt }
@@ -193,7 +193,7 @@ module _ (s : List ℕ) (from : ℕ) (o : Expected) (e : ExpectIs s openBrace fr
         pub closing-small : flag ≤ 2
         closing-small = (existence-past h flag next k).0
 
-        pub braced-there : (r : ExistenceRead) → ExistenceIs s next (existenceClosed s flag next) r
+        pub braced-there : (r : ExistenceRead) → ExistenceIs s next (existence_closed s flag next) r
             → ExistenceIs s from (braced s from) r
         unfolding braced
         braced-there r q =

@@ -5,10 +5,10 @@ use mathlib.Core.List.{List, [], ◌∷◌}
 use lib.ListN.{replicate}
 use Rattle.lexis.specs.Text.{bytes}
 use Rattle.lexis.proofs.Tables.{wrong}
-use Rattle.meaning.specs.Constraints.{no_more, any, nested, leaf, single, ranges, texts, booleans, integers, datePattern, dates, timePattern, durationPattern}
-use Rattle.meaning.proofs.Trees.{range, item, objectWith, attributeWith, objectList}
-use Rattle.cadl_objects.proofs.Computes.{constraintComputes}
-use Rattle.cadl_objects.proofs.Examples.{Case, accepts, refuses, acceptsFrom, refusesFrom, right}
+use Rattle.meaning.specs.Constraints.{no_more, any, nested, leaf, single, ranges, texts, booleans, integers, date_pattern, dates, time_pattern, duration_pattern}
+use Rattle.meaning.proofs.Trees.{range, item, object_with, attribute_with, object_list}
+use Rattle.cadl_objects.proofs.Computes.{constraint_computes}
+use Rattle.cadl_objects.proofs.Examples.{Case, accepts, refuses, accepts_from, refuses_from, right}
 
 pub cases : List Case
 cases =
@@ -86,8 +86,8 @@ cases =
     ∷ refuses (bytes "A matches {*};") 2 13
     ∷ refuses (bytes "A matches {*}ÿ") 2 13
     ∷ refuses (bytes "A matches {*}-") 2 13
-    ∷ accepts (bytes "A matches {*}--") (objectWith 1 (bytes "A") [] no_more)
-    ∷ accepts (bytes "A matches {*}---") (objectWith 1 (bytes "A") [] no_more)
+    ∷ accepts (bytes "A matches {*}--") (object_with 1 (bytes "A") [] no_more)
+    ∷ accepts (bytes "A matches {*}---") (object_with 1 (bytes "A") [] no_more)
     ∷ refuses (bytes "A matches {*}.") 2 13
     ∷ refuses (bytes "-A matches {*}") 2 0
     ∷ refuses (bytes "\"A\" matches {*}") 2 0
@@ -125,29 +125,29 @@ cases =
     ∷ refuses (bytes "A matches {abcdefghijklmnopqrstuvwxyz_0123456789_ABCDEFGHIJKLMNOPQRSTUVWXY matches {*} abcdefghijklmnopqrstuvwxyz_0123456789_ABCDEFGHIJKLMNOPQRSTUVWXYZ matches {*} abcdefghijklmnopqrstuvwxyz_0123456789_ABCDEFGHIJKLMNOPQRSTUVWXY matches {*}}") 4 87
     -- longest match
     ∷ refuses (bytes "A matches {a matches {5--3}}") 2 28
-    ∷ accepts (bytes "A matches {a matches {5--3\n}}") (objectWith 1 (bytes "A") [] (attributeWith 2 2 (bytes "a") (leaf (ranges integers (range 3 2_147_483_653 2_147_483_653 ∷ []))) no_more))
-    ∷ accepts (bytes "A matches {a matches {|5--3\n|}}") (objectWith 1 (bytes "A") [] (attributeWith 2 2 (bytes "a") (leaf (ranges integers (range 3 2_147_483_653 2_147_483_653 ∷ []))) no_more))
-    ∷ accepts (bytes "A matches {a matches {|<--3\n5|}}") (objectWith 1 (bytes "A") [] (attributeWith 2 2 (bytes "a") (leaf (ranges integers (range 3 0 2_147_483_652 ∷ []))) no_more))
-    ∷ accepts (bytes "A matches {a matches {|<-3|}}") (objectWith 1 (bytes "A") [] (attributeWith 2 2 (bytes "a") (leaf (ranges integers (range 3 0 2_147_483_644 ∷ []))) no_more))
-    ∷ accepts (bytes "A matches {a matches {|<=-3|}}") (objectWith 1 (bytes "A") [] (attributeWith 2 2 (bytes "a") (leaf (ranges integers (range 3 0 2_147_483_645 ∷ []))) no_more))
-    ∷ accepts (bytes "A matches {a matches {|>-3..<-1|}}") (objectWith 1 (bytes "A") [] (attributeWith 2 2 (bytes "a") (leaf (ranges integers (range 3 2_147_483_646 2_147_483_646 ∷ []))) no_more))
-    ∷ accepts (bytes "A matches {a matches {|-3..-1|}}") (objectWith 1 (bytes "A") [] (attributeWith 2 2 (bytes "a") (leaf (ranges integers (range 3 2_147_483_645 2_147_483_647 ∷ []))) no_more))
-    ∷ accepts (bytes "A matches {a matches {|-3..--1\n-1|}}") (objectWith 1 (bytes "A") [] (attributeWith 2 2 (bytes "a") (leaf (ranges integers (range 3 2_147_483_645 2_147_483_647 ∷ []))) no_more))
+    ∷ accepts (bytes "A matches {a matches {5--3\n}}") (object_with 1 (bytes "A") [] (attribute_with 2 2 (bytes "a") (leaf (ranges integers (range 3 2_147_483_653 2_147_483_653 ∷ []))) no_more))
+    ∷ accepts (bytes "A matches {a matches {|5--3\n|}}") (object_with 1 (bytes "A") [] (attribute_with 2 2 (bytes "a") (leaf (ranges integers (range 3 2_147_483_653 2_147_483_653 ∷ []))) no_more))
+    ∷ accepts (bytes "A matches {a matches {|<--3\n5|}}") (object_with 1 (bytes "A") [] (attribute_with 2 2 (bytes "a") (leaf (ranges integers (range 3 0 2_147_483_652 ∷ []))) no_more))
+    ∷ accepts (bytes "A matches {a matches {|<-3|}}") (object_with 1 (bytes "A") [] (attribute_with 2 2 (bytes "a") (leaf (ranges integers (range 3 0 2_147_483_644 ∷ []))) no_more))
+    ∷ accepts (bytes "A matches {a matches {|<=-3|}}") (object_with 1 (bytes "A") [] (attribute_with 2 2 (bytes "a") (leaf (ranges integers (range 3 0 2_147_483_645 ∷ []))) no_more))
+    ∷ accepts (bytes "A matches {a matches {|>-3..<-1|}}") (object_with 1 (bytes "A") [] (attribute_with 2 2 (bytes "a") (leaf (ranges integers (range 3 2_147_483_646 2_147_483_646 ∷ []))) no_more))
+    ∷ accepts (bytes "A matches {a matches {|-3..-1|}}") (object_with 1 (bytes "A") [] (attribute_with 2 2 (bytes "a") (leaf (ranges integers (range 3 2_147_483_645 2_147_483_647 ∷ []))) no_more))
+    ∷ accepts (bytes "A matches {a matches {|-3..--1\n-1|}}") (object_with 1 (bytes "A") [] (attribute_with 2 2 (bytes "a") (leaf (ranges integers (range 3 2_147_483_645 2_147_483_647 ∷ []))) no_more))
     ∷ refuses (bytes "A matches {a matches {|3..<-1|}}") 6 29
     ∷ refuses (bytes "A matches {yyyy-mm-ddx matches {*}}") 2 11
-    ∷ accepts (bytes "A matches {yyyy_mm matches {*}}") (objectWith 1 (bytes "A") [] (attributeWith 2 2 (bytes "yyyy_mm") any no_more))
+    ∷ accepts (bytes "A matches {yyyy_mm matches {*}}") (object_with 1 (bytes "A") [] (attribute_with 2 2 (bytes "yyyy_mm") any no_more))
     ∷ refuses (bytes "A matches {at1 matches {[at1]}}") 2 24
     ∷ refuses (bytes "A matches {a matches {2004-05-20..}}") 2 22
-    ∷ accepts (bytes "A matches {a matches {|2004-05-20..2004-05-21|}}") (objectWith 1 (bytes "A") [] (attributeWith 2 2 (bytes "a") (leaf (ranges dates (range 3 20_040_520 20_040_521 ∷ []))) no_more))
-    ∷ accepts (bytes "A matches {a matches {|20040520|}}") (objectWith 1 (bytes "A") [] (attributeWith 2 2 (bytes "a") (leaf (ranges integers (range 3 2_167_524_168 2_167_524_168 ∷ []))) no_more))
+    ∷ accepts (bytes "A matches {a matches {|2004-05-20..2004-05-21|}}") (object_with 1 (bytes "A") [] (attribute_with 2 2 (bytes "a") (leaf (ranges dates (range 3 20_040_520 20_040_521 ∷ []))) no_more))
+    ∷ accepts (bytes "A matches {a matches {|20040520|}}") (object_with 1 (bytes "A") [] (attribute_with 2 2 (bytes "a") (leaf (ranges integers (range 3 2_167_524_168 2_167_524_168 ∷ []))) no_more))
     ∷ refuses (bytes "A matches {a matches {|20040-05-20|}}") 2 28
     ∷ refuses (bytes "A matches {a matches {|2004-05-20-1|}}") 2 33
     ∷ refuses (bytes "A matches {a matches {|2004-05--20\n|}}") 2 27
     ∷ refuses (bytes "A matches {a matches {PdX}}") 2 25
-    ∷ accepts (bytes "A matches {a matches {Pd--X\n}}") (objectWith 1 (bytes "A") [] (attributeWith 2 2 (bytes "a") (leaf (single durationPattern 3 8)) no_more))
+    ∷ accepts (bytes "A matches {a matches {Pd--X\n}}") (object_with 1 (bytes "A") [] (attribute_with 2 2 (bytes "a") (leaf (single duration_pattern 3 8)) no_more))
     ∷ refuses (bytes "A matches {a matches {Pd_}}") 2 25
     ∷ []
 
 pub none-wrong : wrong right 0 cases ≡ []
-unfolding wrong right cases objectList constraintComputes
+unfolding wrong right cases object_list constraint_computes
 none-wrong = refl

@@ -9,25 +9,25 @@ use lib.ListN.{length, length-take, length-drop}
 use borrow.Author.Tests.{eqb-true, eqb-false, ltb-false}
 use mathlib.Core.Logic.{◌≢◌}
 use Rattle.lexis.specs.Runs.{part, listed}
-use Rattle.lexis.specs.contracts.Subsequence.{Sub}
-use Rattle.lexis.specs.Spelling.{matches, existence, openBrace, closeBrace, dots}
-use Rattle.lexis.specs.Tokens.{tokenAt, typeName, name, code, spelling, inner}
+use Rattle.lexis.specs.Clauses.Subsequence.{Sub}
+use Rattle.lexis.specs.Spelling.{matches, existence, open_brace, close_brace, dots}
+use Rattle.lexis.specs.Tokens.{token_at, type_name, name, code, spelling, inner}
 use Rattle.lexis.specs.declared.Token.{Token}
 use Rattle.lexis.proofs.Cases.{by_cond}
 use Rattle.lexis.proofs.Places.{token-found}
 use Rattle.lexis.proofs.Parts.{sub-none, part-sub}
-use Rattle.refusals.specs.Limits.{recordLimit, nameLimit, codeLimit}
+use Rattle.refusals.specs.Limits.{record_limit, name_limit, code_limit}
 use Rattle.refusals.specs.Reading.{got}
-use Rattle.refusals.specs.Expecting.{syntaxFault}
+use Rattle.refusals.specs.Expecting.{syntax_fault}
 use Rattle.refusals.specs.declared.Cause.TheVariants.{TooDeep, TooLong, TooManyRecords, RepeatedName}
 use Rattle.refusals.specs.Refusals.{number_of}
 use Rattle.refusals.proofs.Readings.{Holds, got-holds, cond-holds, then-holds, holds-map}
 use Rattle.refusals.proofs.Tokens.{Passed, strict_of}
 use Rattle.refusals.proofs.Parses.{rank, FaultFrom, Ordered, ordered-parsed, ordered-noting, ordered-wanted, syntax-holds, expect-passes}
-use Rattle.meaning.specs.contracts.Proper.{ProperName}
+use Rattle.meaning.specs.Clauses.Proper.{ProperName}
 use Rattle.cadl_items.proofs.LeafReading.{inner-sub}
-use Rattle.cadl_objects.specs.Existence.{opening, is_zero, isOne, fromNought, fromOne, bounds, existenceFrom}
-use Rattle.cadl_objects.specs.Objects.{objectType, objectCode, attributeName}
+use Rattle.cadl_objects.specs.Existence.{opening, is_zero, is_one, from_nought, from_one, bounds, existence_from}
+use Rattle.cadl_objects.specs.Objects.{object_type, object_code, attribute_name}
 
 -- an existence that was read, and the place behind it
 pub record Exists (low high : ℕ) (e : ℕ) (p : ℕ) : Type 0 where
@@ -39,7 +39,7 @@ pub record Exists (low high : ℕ) (e : ℕ) (p : ℕ) : Type 0 where
 pub record Named (s : List ℕ) (next from : ℕ) (t : Token) (p : ℕ) : Type 0 where
   pub passed : Passed s from t p
   pub proper : ProperName (spelling s t)
-  pub room : next ≢ recordLimit
+  pub room : next ≢ record_limit
 
 -- a TYPE or NAME
 pub record Word (s : List ℕ) (next from : ℕ) (sound : Bool) (l : ℕ) (t : Token) (p : ℕ) : Type 0 where
@@ -60,7 +60,7 @@ module _ (s : List ℕ) where
       let F = FaultFrom s low in
       then-holds F (Passed s from) (Passed s from) _ _ (expect-passes s low from l matches (lit< tt) h) (λ t p q.
       holds-map F (Passed s p) (Passed s from) _ (λ u r x. record { start = omega arith; order = x.order; behind = x.behind; inside = x.inside })
-      (expect-passes s low p (omega (arith, q.start, q.order)) openBrace (lit< tt) q.inside))
+      (expect-passes s low p (omega (arith, q.start, q.order)) open_brace (lit< tt) q.inside))
 
   -- existence may be nothing: the place is at or behind the one before
   module _ (low first : ℕ) (l : low ≤ rank first 0) where
@@ -69,40 +69,40 @@ module _ (s : List ℕ) where
     reached p e f h k = got-holds (FaultFrom s low) (Exists first (length s)) e p (record { least = h; most = k; flag = f })
 
     next-found : (from : ℕ) → first ≤ from → from ≤ length s
-        → (first ≤ (tokenAt s from).end) × ((tokenAt s from).end ≤ length s)
+        → (first ≤ (token_at s from).end) × ((token_at s from).end ≤ length s)
     next-found from g h = let f = token-found s from h in (omega (arith, f.start, f.order), f.inside)
 
     fault-holds : (from : ℕ) → first ≤ from → from ≤ length s
-        → Holds (FaultFrom s low) (Exists first (length s)) (syntaxFault (tokenAt s from))
-    fault-holds from g h = syntax-holds s low from (omega arith) (tokenAt s from) (Exists first (length s)) (token-found s from h)
+        → Holds (FaultFrom s low) (Exists first (length s)) (syntax_fault (token_at s from))
+    fault-holds from g h = syntax-holds s low from (omega arith) (token_at s from) (Exists first (length s)) (token-found s from h)
 
     nought-holds : (from : ℕ) → first ≤ from → from ≤ length s
-        → Holds (FaultFrom s low) (Exists first (length s)) (fromNought s from)
-    unfolding fromNought
+        → Holds (FaultFrom s low) (Exists first (length s)) (from_nought s from)
+    unfolding from_nought
     nought-holds from i h =
         let F = FaultFrom s low in
         let P = Exists first (length s) in
-        let t = tokenAt s from in
-        let u = tokenAt s t.end in
+        let t = token_at s from in
+        let u = token_at s t.end in
         let f = next-found from i h in
         let g = next-found t.end f.0 f.1 in
         cond-holds F P (eqb t.sort dots) _ _
         (λ e. cond-holds F P (is_zero s u) _ _ (λ x. reached u.end _ (omega arith) g.0 g.1)
-        (λ x. cond-holds F P (isOne s u) _ _ (λ y. reached u.end _ (omega arith) g.0 g.1) (λ y. fault-holds t.end f.0 f.1)))
+        (λ x. cond-holds F P (is_one s u) _ _ (λ y. reached u.end _ (omega arith) g.0 g.1) (λ y. fault-holds t.end f.0 f.1)))
         (λ e. reached from _ (omega arith) i h)
 
     one_holds : (from : ℕ) → first ≤ from → from ≤ length s
-        → Holds (FaultFrom s low) (Exists first (length s)) (fromOne s from)
-    unfolding fromOne
+        → Holds (FaultFrom s low) (Exists first (length s)) (from_one s from)
+    unfolding from_one
     one_holds from i h =
         let F = FaultFrom s low in
         let P = Exists first (length s) in
-        let t = tokenAt s from in
-        let u = tokenAt s t.end in
+        let t = token_at s from in
+        let u = token_at s t.end in
         let f = next-found from i h in
         let g = next-found t.end f.0 f.1 in
         cond-holds F P (eqb t.sort dots) _ _
-        (λ e. cond-holds F P (isOne s u) _ _ (λ y. reached u.end _ (omega arith) g.0 g.1) (λ y. fault-holds t.end f.0 f.1))
+        (λ e. cond-holds F P (is_one s u) _ _ (λ y. reached u.end _ (omega arith) g.0 g.1) (λ y. fault-holds t.end f.0 f.1))
         (λ e. reached from _ (omega arith) i h)
 
     bounds-holds : (from : ℕ) → first ≤ from → from ≤ length s
@@ -111,51 +111,51 @@ module _ (s : List ℕ) where
     bounds-holds from i h =
         let F = FaultFrom s low in
         let P = Exists first (length s) in
-        let t = tokenAt s from in
+        let t = token_at s from in
         let f = next-found from i h in
         cond-holds F P (is_zero s t) _ _ (λ e. nought-holds t.end f.0 f.1)
-        (λ e. cond-holds F P (isOne s t) _ _ (λ g. one_holds t.end f.0 f.1) (λ g. fault-holds from i h))
+        (λ e. cond-holds F P (is_one s t) _ _ (λ g. one_holds t.end f.0 f.1) (λ g. fault-holds from i h))
 
-    pub existence-holds : first ≤ length s → Holds (FaultFrom s low) (Exists first (length s)) (existenceFrom s first)
-    unfolding existenceFrom
+    pub existence-holds : first ≤ length s → Holds (FaultFrom s low) (Exists first (length s)) (existence_from s first)
+    unfolding existence_from
     existence-holds h =
         let F = FaultFrom s low in
         let P = Exists first (length s) in
-        let t = tokenAt s first in
+        let t = token_at s first in
         let f = next-found first (omega arith) h in
         cond-holds F P (eqb t.sort existence) _ _
         (λ e. then-holds F P (Passed s t.end) _ _ (opening-holds low t.end (omega (arith, f.0)) f.1) (λ u p q.
         then-holds F P (Exists first (length s)) (bounds s p) _ (bounds-holds p (omega (arith, f.0, q.start, q.order)) q.inside) (λ x r y.
-        then-holds F P (Passed s r) _ _ (expect-passes s low r (omega (arith, y.least)) closeBrace (lit< tt) y.most) (λ v z w.
+        then-holds F P (Passed s r) _ _ (expect-passes s low r (omega (arith, y.least)) close_brace (lit< tt) y.most) (λ v z w.
         reached z x y.flag (omega (arith, y.least, w.start, w.order)) w.inside))))
         (λ e. reached first _ (omega arith) (omega arith) h)
 
   -- a word at a token, and the tests on it
-  named : (next from : ℕ) (t : Token) → Passed s from t t.end → ltb nameLimit (length (spelling s t)) ≡ false
-      → eqb next recordLimit ≡ false → Named s next from t t.end
+  named : (next from : ℕ) (t : Token) → Passed s from t t.end → ltb name_limit (length (spelling s t)) ≡ false
+      → eqb next record_limit ≡ false → Named s next from t t.end
   named next from t q b d =
       let e = length-spelling from t.end t q in
-      let f : length (spelling s t) ≤ nameLimit = ltb-false nameLimit (length (spelling s t)) b in
-      record { passed = q; proper = (omega arith, f); room = eqb-false next recordLimit d }
+      let f : length (spelling s t) ≤ name_limit = ltb-false name_limit (length (spelling s t)) b in
+      record { passed = q; proper = (omega arith, f); room = eqb-false next record_limit d }
 
-  pub passed-at : (sort from : ℕ) → 1 < sort → from ≤ length s → eqb (tokenAt s from).sort sort ≡ true
-      → Passed s from (tokenAt s from) (tokenAt s from).end
+  pub passed-at : (sort from : ℕ) → 1 < sort → from ≤ length s → eqb (token_at s from).sort sort ≡ true
+      → Passed s from (token_at s from) (token_at s from).end
   passed-at sort from k h e =
       let f = token-found s from h in
-      record { start = f.start; order = strict_of sort k (tokenAt s from) s from f (eqb-true _ _ e); behind = refl; inside = f.inside }
+      record { start = f.start; order = strict_of sort k (token_at s from) s from f (eqb-true _ _ e); behind = refl; inside = f.inside }
 
   -- the TYPE of an object, and its code
   pub type-ordered : (levels next from : ℕ) (sound : Bool) (low : ℕ) → low ≤ rank from 0 → from ≤ length s
-      → Ordered s (Word s next from) sound low (objectType s levels next from)
-  unfolding objectType number_of
+      → Ordered s (Word s next from) sound low (object_type s levels next from)
+  unfolding object_type number_of
   type-ordered levels next from sound low l h =
       let P = Word s next from in
-      let t = tokenAt s from in
-      ordered-wanted s P sound low typeName from _ l h (λ e.
-      let q = passed-at typeName from (lit< tt) h e in
+      let t = token_at s from in
+      ordered-wanted s P sound low type_name from _ l h (λ e.
+      let q = passed-at type_name from (lit< tt) h e in
       ordered-noting s P sound low (eqb levels 0) TooDeep t.start _ 3 refl (lit≤ tt) (lit< tt) (omega (arith, q.start)) (omega (arith, q.order, q.inside)) (λ o i a b.
-      ordered-noting s P o i (ltb nameLimit (length (spelling s t))) TooLong t.start _ 4 refl (lit≤ tt) (lit< tt) (omega arith) (omega (arith, q.order, q.inside)) (λ u j c d.
-      ordered-noting s P u j (eqb next recordLimit) TooManyRecords t.start _ 8 refl (lit≤ tt) (lit< tt) (omega arith) (omega (arith, q.order, q.inside)) (λ v k f g.
+      ordered-noting s P o i (ltb name_limit (length (spelling s t))) TooLong t.start _ 4 refl (lit≤ tt) (lit< tt) (omega arith) (omega (arith, q.order, q.inside)) (λ u j c d.
+      ordered-noting s P u j (eqb next record_limit) TooManyRecords t.start _ 8 refl (lit≤ tt) (lit< tt) (omega arith) (omega (arith, q.order, q.inside)) (λ v k f g.
       ordered-parsed s P v k t t.end (record { bound = omega (arith, q.order); passed = q; named = λ z. named next from t q (d (g z).1).0 (g z).0 })))))
 
   pub record CodeRead (from : ℕ) (k : List ℕ) (p : ℕ) : Type 0 where
@@ -169,33 +169,33 @@ module _ (s : List ℕ) where
     pub read : sound ≡ true → CodeRead from k p
 
   pub code-ordered : (from : ℕ) (sound : Bool) (low : ℕ) → low ≤ rank from 0 → from ≤ length s
-      → Ordered s (Coded from) sound low (objectCode s from)
-  unfolding objectCode number_of
+      → Ordered s (Coded from) sound low (object_code s from)
+  unfolding object_code number_of
   code-ordered from sound low l h =
       let P = Coded from in
-      let t = tokenAt s from in
+      let t = token_at s from in
       by_cond (Ordered s P sound low) (eqb t.sort code)
       (λ e. let q = passed-at code from (lit< tt) h e in
-      ordered-noting s P sound low (ltb codeLimit (length (inner s t))) TooLong t.start _ 4 refl (lit≤ tt) (lit< tt) (omega (arith, q.start)) (omega (arith, q.order, q.inside)) (λ o j a c.
+      ordered-noting s P sound low (ltb code_limit (length (inner s t))) TooLong t.start _ 4 refl (lit≤ tt) (lit< tt) (omega (arith, q.start)) (omega (arith, q.order, q.inside)) (λ o j a c.
       ordered-parsed s P o j (inner s t) t.end (record {
         bound = omega (arith, q.order);
         least = omega (arith, q.start, q.order);
         most = q.inside;
-        read = λ z. record { short = ltb-false codeLimit (length (inner s t)) (c z).0; pool = inner-sub s from t.end t q };
+        read = λ z. record { short = ltb-false code_limit (length (inner s t)) (c z).0; pool = inner-sub s from t.end t q };
       })))
       (λ e. ordered-parsed s P sound low [] from (record { bound = l; least = omega arith; most = h; read = λ z. record { short = omega arith; pool = sub-none _ } }))
 
   pub name-ordered : (seen : List (List ℕ)) (next from : ℕ) (sound : Bool) (low : ℕ) → low ≤ rank from 0
       → from ≤ length s
-      → Ordered s (Word s next from) sound low (attributeName s seen next from)
-  unfolding attributeName number_of
+      → Ordered s (Word s next from) sound low (attribute_name s seen next from)
+  unfolding attribute_name number_of
   name-ordered seen next from sound low l h =
       let P = Word s next from in
-      let t = tokenAt s from in
+      let t = token_at s from in
       ordered-wanted s P sound low name from _ l h (λ e.
       let q = passed-at name from (lit< tt) h e in
-      ordered-noting s P sound low (ltb nameLimit (length (spelling s t))) TooLong t.start _ 4 refl (lit≤ tt) (lit< tt) (omega (arith, q.start)) (omega (arith, q.order, q.inside)) (λ o i a b.
-      ordered-noting s P o i (eqb next recordLimit) TooManyRecords t.start _ 8 refl (lit≤ tt) (lit< tt) (omega arith) (omega (arith, q.order, q.inside)) (λ u j c d.
+      ordered-noting s P sound low (ltb name_limit (length (spelling s t))) TooLong t.start _ 4 refl (lit≤ tt) (lit< tt) (omega (arith, q.start)) (omega (arith, q.order, q.inside)) (λ o i a b.
+      ordered-noting s P o i (eqb next record_limit) TooManyRecords t.start _ 8 refl (lit≤ tt) (lit< tt) (omega arith) (omega (arith, q.order, q.inside)) (λ u j c d.
       ordered-noting s P u j (listed (spelling s t) seen) RepeatedName t.start _ 9 refl (lit≤ tt) (lit< tt) (omega arith) (omega (arith, q.order, q.inside)) (λ v k f g.
       ordered-parsed s P v k t t.end (record { bound = omega (arith, q.order); passed = q; named = λ z. named next from t q (b (d (g z).1).1).0 (d (g z).1).0 })))))
 

@@ -8,24 +8,24 @@ use lib.Dec.{eqb, ltb, lit<}
 use lib.ListN.{length}
 use borrow.Author.Tests.{eq-eqb, ne_eqb, lt-ltb, le-ltb}
 use Rattle.lexis.specs.Runs.{part, listed}
-use Rattle.lexis.specs.Tokens.{tokenAt, typeName, name, string, code, spelling, inner}
-use Rattle.lexis.specs.contracts.Answers.{TokenIs}
+use Rattle.lexis.specs.Tokens.{token_at, type_name, name, string, code, spelling, inner}
+use Rattle.lexis.specs.Clauses.Answers.{TokenIs}
 use Rattle.lexis.specs.declared.Token.{Token}
 use Rattle.lexis.proofs.Enclosed.{token-two}
-use Rattle.refusals.specs.Limits.{recordLimit, nameLimit, codeLimit}
+use Rattle.refusals.specs.Limits.{record_limit, name_limit, code_limit}
 use Rattle.refusals.specs.Reading.{Reading}
 use Rattle.refusals.specs.Refusals.{refusal}
 use Rattle.refusals.specs.Expecting.{expect}
-use Rattle.refusals.specs.contracts.Answers.{ExpectIs}
+use Rattle.refusals.specs.Clauses.Answers.{ExpectIs}
 use Rattle.refusals.specs.declared.Cause.TheVariants.{TooDeep, TooLong, TooManyRecords, RepeatedName}
 use Rattle.refusals.specs.declared.Refusal.{Refusal}
 use Rattle.refusals.specs.declared.steps.Expected.{Expected}
 use Rattle.refusals.specs.declared.steps.Expected.TheVariants.{Fault, Taken}
 use Rattle.refusals.proofs.StepLaws.{expected-fault, expected-token, expected-past}
 use Rattle.lexis.proofs.Parts.{part_length}
-use Rattle.cadl_objects.specs.contracts.Told.{objectType, attributeName}
+use Rattle.cadl_objects.specs.Clauses.Told.{object_type, attribute_name}
 use Rattle.cadl_objects.proofs.TreeParts.{type-is, name-is, code_is}
-use Rattle.cadl_objects.specs.contracts.Answers.{Counted, Roomy, WordIs, CodeIs}
+use Rattle.cadl_objects.specs.Clauses.Answers.{Counted, Roomy, WordIs, CodeIs}
 use Rattle.cadl_objects.specs.declared.heads.CodeRead.TheVariants.{Faulty, Code}
 
 -- a token that was taken has so many bytes, and starts behind a place
@@ -37,7 +37,7 @@ module _ {s : List ℕ} {sort next from : ℕ} (room : Counted s next from) {rea
   token-size : length (spelling s t) ≡ t.end - t.start
   token-size = let p = expected-past e t g in part_length s t.start t.end p.2
 
-  taken_word : next < recordLimit → Roomy s next from t
+  taken_word : next < record_limit → Roomy s next from t
   taken_word l = let p = expected-past e t g in record { start = p.0; order = token-order; inside = p.2; records = l }
 
 -- a token that was taken, of any sort
@@ -51,66 +51,66 @@ module _ (s : List ℕ) (sort from : ℕ) (o : Expected) (e : ExpectIs s sort fr
 
 -- a TYPE
 module _ (s : List ℕ) (levels next from : ℕ) (room : Counted s next from) (o : Expected)
-    (e : ExpectIs s typeName from (expect s typeName from) o) where
-  pub type-missing : (x : Refusal) → o ≡ Fault x → WordIs s next from (objectType s levels next from) (Fault x)
+    (e : ExpectIs s type_name from (expect s type_name from) o) where
+  pub type-missing : (x : Refusal) → o ≡ Fault x → WordIs s next from (object_type s levels next from) (Fault x)
   type-missing x g = record { is = rw (type-is s levels next from, expected-fault e x g); past = tt }
 
   module _ (t : Token) (g : o ≡ Taken t) where
-    pub type-deep : levels ≡ 0 → WordIs s next from (objectType s levels next from) (Fault (refusal TooDeep t.start))
+    pub type-deep : levels ≡ 0 → WordIs s next from (object_type s levels next from) (Fault (refusal TooDeep t.start))
     type-deep l = record { is = rw (type-is s levels next from, expected-token e t g, eq-eqb levels 0 l); past = tt }
 
     module _ (l : levels ≡ 0 → ⊥) where
-      pub type-long : nameLimit < t.end - t.start → (x : Refusal) → x ≡ refusal TooLong t.start
-          → WordIs s next from (objectType s levels next from) (Fault x)
-      type-long h x q = record { is = rw (type-is s levels next from, expected-token e t g, ne_eqb levels 0 l, token-size room e (lit< tt) t g, lt-ltb nameLimit (t.end - t.start) h, q); past = tt }
+      pub type-long : name_limit < t.end - t.start → (x : Refusal) → x ≡ refusal TooLong t.start
+          → WordIs s next from (object_type s levels next from) (Fault x)
+      type-long h x q = record { is = rw (type-is s levels next from, expected-token e t g, ne_eqb levels 0 l, token-size room e (lit< tt) t g, lt-ltb name_limit (t.end - t.start) h, q); past = tt }
 
-      module _ (h : t.end - t.start ≤ nameLimit) where
-        pub type-full : next ≡ recordLimit
-            → WordIs s next from (objectType s levels next from) (Fault (refusal TooManyRecords t.start))
-        type-full k = record { is = rw (type-is s levels next from, expected-token e t g, ne_eqb levels 0 l, token-size room e (lit< tt) t g, le-ltb nameLimit (t.end - t.start) h, eq-eqb next recordLimit k); past = tt }
+      module _ (h : t.end - t.start ≤ name_limit) where
+        pub type-full : next ≡ record_limit
+            → WordIs s next from (object_type s levels next from) (Fault (refusal TooManyRecords t.start))
+        type-full k = record { is = rw (type-is s levels next from, expected-token e t g, ne_eqb levels 0 l, token-size room e (lit< tt) t g, le-ltb name_limit (t.end - t.start) h, eq-eqb next record_limit k); past = tt }
 
-        pub type-there : (next ≡ recordLimit → ⊥) → WordIs s next from (objectType s levels next from) (Taken t)
+        pub type-there : (next ≡ record_limit → ⊥) → WordIs s next from (object_type s levels next from) (Taken t)
         type-there k =
             let c = room.records in
             record {
-              is = rw (type-is s levels next from, expected-token e t g, ne_eqb levels 0 l, token-size room e (lit< tt) t g, le-ltb nameLimit (t.end - t.start) h, ne_eqb next recordLimit k);
+              is = rw (type-is s levels next from, expected-token e t g, ne_eqb levels 0 l, token-size room e (lit< tt) t g, le-ltb name_limit (t.end - t.start) h, ne_eqb next record_limit k);
               past = taken_word room e (lit< tt) t g (omega arith);
             }
 
 -- a NAME
 module _ (s : List ℕ) (seen : List (List ℕ)) (next from : ℕ) (room : Counted s next from) (o : Expected)
     (e : ExpectIs s name from (expect s name from) o) where
-  pub name-missing : (x : Refusal) → o ≡ Fault x → WordIs s next from (attributeName s seen next from) (Fault x)
+  pub name-missing : (x : Refusal) → o ≡ Fault x → WordIs s next from (attribute_name s seen next from) (Fault x)
   name-missing x g = record { is = rw (name-is s seen next from, expected-fault e x g); past = tt }
 
   module _ (t : Token) (g : o ≡ Taken t) where
-    pub name-long : nameLimit < t.end - t.start → (x : Refusal) → x ≡ refusal TooLong t.start
-        → WordIs s next from (attributeName s seen next from) (Fault x)
-    name-long h x q = record { is = rw (name-is s seen next from, expected-token e t g, token-size room e (lit< tt) t g, lt-ltb nameLimit (t.end - t.start) h, q); past = tt }
+    pub name-long : name_limit < t.end - t.start → (x : Refusal) → x ≡ refusal TooLong t.start
+        → WordIs s next from (attribute_name s seen next from) (Fault x)
+    name-long h x q = record { is = rw (name-is s seen next from, expected-token e t g, token-size room e (lit< tt) t g, lt-ltb name_limit (t.end - t.start) h, q); past = tt }
 
-    module _ (h : t.end - t.start ≤ nameLimit) where
-      short : ltb nameLimit (length (spelling s t)) ≡ false
-      short = rw (token-size room e (lit< tt) t g) (le-ltb nameLimit (t.end - t.start) h)
+    module _ (h : t.end - t.start ≤ name_limit) where
+      short : ltb name_limit (length (spelling s t)) ≡ false
+      short = rw (token-size room e (lit< tt) t g) (le-ltb name_limit (t.end - t.start) h)
 
-      pub name-full : next ≡ recordLimit
-          → WordIs s next from (attributeName s seen next from) (Fault (refusal TooManyRecords t.start))
-      name-full k = record { is = rw (name-is s seen next from, expected-token e t g, short, eq-eqb next recordLimit k); past = tt }
+      pub name-full : next ≡ record_limit
+          → WordIs s next from (attribute_name s seen next from) (Fault (refusal TooManyRecords t.start))
+      name-full k = record { is = rw (name-is s seen next from, expected-token e t g, short, eq-eqb next record_limit k); past = tt }
 
-      module _ (k : next ≡ recordLimit → ⊥) (b : Bool) (q : b ≡ listed (part s t.start t.end) seen) where
+      module _ (k : next ≡ record_limit → ⊥) (b : Bool) (q : b ≡ listed (part s t.start t.end) seen) where
         pub name-again : b ≡ true
-            → WordIs s next from (attributeName s seen next from) (Fault (refusal RepeatedName t.start))
-        name-again d = record { is = rw (name-is s seen next from, expected-token e t g, short, ne_eqb next recordLimit k, ← q, d); past = tt }
+            → WordIs s next from (attribute_name s seen next from) (Fault (refusal RepeatedName t.start))
+        name-again d = record { is = rw (name-is s seen next from, expected-token e t g, short, ne_eqb next record_limit k, ← q, d); past = tt }
 
-        pub name-there : b ≡ false → WordIs s next from (attributeName s seen next from) (Taken t)
+        pub name-there : b ≡ false → WordIs s next from (attribute_name s seen next from) (Taken t)
         name-there d =
             let c = room.records in
             record {
-              is = rw (name-is s seen next from, expected-token e t g, short, ne_eqb next recordLimit k, ← q, d);
+              is = rw (name-is s seen next from, expected-token e t g, short, ne_eqb next record_limit k, ← q, d);
               past = taken_word room e (lit< tt) t g (omega arith);
             }
 
 -- a code
-module _ (s : List ℕ) (from : ℕ) (inside : from ≤ length s) (t : Token) (tok : TokenIs s from (tokenAt s from) t) where
+module _ (s : List ℕ) (from : ℕ) (inside : from ≤ length s) (t : Token) (tok : TokenIs s from (token_at s from) t) where
   pub code-none : (t.sort ≡ code → ⊥) → CodeIs s from (Code from from from)
   code-none n =
       let z : from - from ≡ 0 = omega arith in
@@ -126,17 +126,17 @@ module _ (s : List ℕ) (from : ℕ) (inside : from ≤ length s) (t : Token) (t
     pub code-ends : 1 ≤ t.end
     code-ends = let a = code-order in omega arith
 
-    pub code-long : codeLimit + 2 < t.end - t.start → (x : Refusal) → x ≡ refusal TooLong t.start
+    pub code-long : code_limit + 2 < t.end - t.start → (x : Refusal) → x ≡ refusal TooLong t.start
         → CodeIs s from (Faulty x)
-    code-long h x q = record { is = rw (code_is s from, ← tok.is, eq-eqb t.sort code k, inner-size, lt-ltb codeLimit (t.end - t.start - 2) (omega arith), q); past = tt }
+    code-long h x q = record { is = rw (code_is s from, ← tok.is, eq-eqb t.sort code k, inner-size, lt-ltb code_limit (t.end - t.start - 2) (omega arith), q); past = tt }
 
-    pub code-there : t.end - t.start ≤ codeLimit + 2 → CodeIs s from (Code (t.start + 1) (t.end - 1) t.end)
+    pub code-there : t.end - t.start ≤ code_limit + 2 → CodeIs s from (Code (t.start + 1) (t.end - 1) t.end)
     code-there h =
         let a = tok.inside in
         let b = tok.start in
         let c = code-order in
         record {
-          is = rw (code_is s from, ← tok.is, eq-eqb t.sort code k, inner-size, le-ltb codeLimit (t.end - t.start - 2) (omega arith));
+          is = rw (code_is s from, ← tok.is, eq-eqb t.sort code k, inner-size, le-ltb code_limit (t.end - t.start - 2) (omega arith));
           past = (omega arith, omega arith, omega arith, tok.inside);
         }
 

@@ -6,33 +6,33 @@ use native.Mathlib.Omega.{arith}
 use lib.Dec.{lit<}
 use lib.ListN.{length}
 use Rattle.lexis.specs.Runs.{part}
-use Rattle.lexis.specs.Spelling.{openBrace}
+use Rattle.lexis.specs.Spelling.{open_brace}
 use Rattle.lexis.specs.declared.Token.{Token}
 use Rattle.refusals.specs.Reading.{Reading, refused, got}
-use Rattle.refusals.specs.contracts.Answers.{tokenReading, ExpectIs}
+use Rattle.refusals.specs.Clauses.Answers.{token_reading, ExpectIs}
 use Rattle.refusals.specs.declared.Refusal.{Refusal}
 use Rattle.refusals.specs.declared.steps.Expected.{Expected}
 use Rattle.refusals.specs.declared.steps.Expected.TheVariants.{Fault, Taken}
 use Rattle.refusals.proofs.StepLaws.{expected-fault, expected-token, expected-past}
-use Rattle.cadl_objects.specs.Existence.{opening, existenceFrom}
-use Rattle.cadl_objects.specs.contracts.Told.{objectType, objectCode, attributeName}
-use Rattle.cadl_objects.specs.contracts.Answers.{ExistenceIs, Roomy, WordIs, codeReading, CodePast, CodeIs, objectHead, attributeHead, OpenedPast, OpenedIs, ObjectHeadPast, ObjectHeadIs, NamedAt, NamedIs, AttributeHeadPast, AttributeHeadIs}
+use Rattle.cadl_objects.specs.Existence.{opening, existence_from}
+use Rattle.cadl_objects.specs.Clauses.Told.{object_type, object_code, attribute_name}
+use Rattle.cadl_objects.specs.Clauses.Answers.{ExistenceIs, Roomy, WordIs, code_reading, CodePast, CodeIs, object_head, attribute_head, OpenedPast, OpenedIs, ObjectHeadPast, ObjectHeadIs, NamedAt, NamedIs, AttributeHeadPast, AttributeHeadIs}
 use Rattle.cadl_objects.specs.declared.existence.ExistenceRead.{ExistenceRead}
-use Rattle.cadl_objects.specs.declared.existence.ExistenceRead.TheVariants as existenceRead
+use Rattle.cadl_objects.specs.declared.existence.ExistenceRead.TheVariants as existence_read
 use Rattle.cadl_objects.specs.declared.heads.CodeRead.{CodeRead}
-use Rattle.cadl_objects.specs.declared.heads.CodeRead.TheVariants as codeRead
+use Rattle.cadl_objects.specs.declared.heads.CodeRead.TheVariants as code_read
 use Rattle.cadl_objects.specs.declared.heads.ObjectHeadRead.{ObjectHeadRead}
-use Rattle.cadl_objects.specs.declared.heads.ObjectHeadRead.TheVariants as objectHeadRead
+use Rattle.cadl_objects.specs.declared.heads.ObjectHeadRead.TheVariants as object_head_read
 use Rattle.cadl_objects.specs.declared.heads.AttributeHeadRead.{AttributeHeadRead}
-use Rattle.cadl_objects.specs.declared.heads.AttributeHeadRead.TheVariants as attributeHeadRead
+use Rattle.cadl_objects.specs.declared.heads.AttributeHeadRead.TheVariants as attribute_head_read
 use Rattle.cadl_objects.proofs.ExistenceSteps.{existence-refused, existence-got, existence-past}
 
 -- the opening brace of an object, and of an attribute
-module _ (s : List ℕ) (from : ℕ) (o : Expected) (e : ExpectIs s openBrace from (opening s from) o) (t : Token) where
-  pub object-shut : (start end : ℕ) (x : Refusal) → o ≡ Fault x → OpenedIs s t start end from (objectHeadRead.Faulty x)
+module _ (s : List ℕ) (from : ℕ) (o : Expected) (e : ExpectIs s open_brace from (opening s from) o) (t : Token) where
+  pub object-shut : (start end : ℕ) (x : Refusal) → o ≡ Fault x → OpenedIs s t start end from (object_head_read.Faulty x)
   object-shut start end x g = record { is = rw (expected-fault e x g); past = tt }
 
-  pub attribute-shut : (flag : ℕ) (x : Refusal) → o ≡ Fault x → NamedIs s t flag from (attributeHeadRead.Faulty x)
+  pub attribute-shut : (flag : ℕ) (x : Refusal) → o ≡ Fault x → NamedIs s t flag from (attribute_head_read.Faulty x)
   attribute-shut flag x g = record { is = rw (expected-fault e x g); past = tt }
 
   module _ (brace : Token) (g : o ≡ Taken brace) where
@@ -40,29 +40,29 @@ module _ (s : List ℕ) (from : ℕ) (o : Expected) (e : ExpectIs s openBrace fr
     behind = let p = expected-past e brace g in let q = p.3 (lit< tt) in omega arith
 
     pub object-opens : (start end : ℕ)
-        → OpenedIs s t start end from (objectHeadRead.Head t.start t.end start end brace.end)
+        → OpenedIs s t start end from (object_head_read.Head t.start t.end start end brace.end)
     object-opens start end = record { is = rw (expected-token e brace g); past = (refl, refl, refl, refl, behind, (expected-past e brace g).2) }
 
     pub attribute-opens : (flag : ℕ)
-        → NamedIs s t flag from (attributeHeadRead.Head t.start t.end flag brace.end)
+        → NamedIs s t flag from (attribute_head_read.Head t.start t.end flag brace.end)
     attribute-opens flag = record { is = rw (expected-token e brace g); past = (refl, refl, refl, behind, (expected-past e brace g).2) }
 
 -- what an answer says of the word that was read
 module _ {s : List ℕ} {next from : ℕ} {reading : Reading Token} {o : Expected} (e : WordIs s next from reading o) where
   word-fault : (x : Refusal) → o ≡ Fault x → reading ≡ refused x
-  word-fault x g = sym e.is ∙ ap tokenReading g
+  word-fault x g = sym e.is ∙ ap token_reading g
 
   word_got : (t : Token) → o ≡ Taken t → reading ≡ got t t.end
-  word_got t g = sym e.is ∙ ap tokenReading g
+  word_got t g = sym e.is ∙ ap token_reading g
 
   word_room : (t : Token) → o ≡ Taken t → Roomy s next from t
   word_room t g = rw g at e.past
 
 -- what an object begins with
 module _ (s : List ℕ) (levels next from : ℕ) (o : Expected)
-    (e : WordIs s next from (objectType s levels next from) o) where
-  pub head-untyped : (x : Refusal) → o ≡ Fault x → ObjectHeadIs s levels next from (objectHeadRead.Faulty x)
-  unfolding objectHead
+    (e : WordIs s next from (object_type s levels next from) o) where
+  pub head-untyped : (x : Refusal) → o ≡ Fault x → ObjectHeadIs s levels next from (object_head_read.Faulty x)
+  unfolding object_head
   head-untyped x g = record { is = rw (word-fault e x g); past = tt }
 
   module _ (t : Token) (g : o ≡ Taken t) where
@@ -70,27 +70,27 @@ module _ (s : List ℕ) (levels next from : ℕ) (o : Expected)
     head-typed = (word_room e t g).inside
 
     module _ (k : CodeRead) (d : CodeIs s t.end k) where
-      pub head-uncoded : (x : Refusal) → k ≡ codeRead.Faulty x
-          → ObjectHeadIs s levels next from (objectHeadRead.Faulty x)
-      unfolding objectHead
-      head-uncoded x q = let f : objectCode s t.end ≡ refused x = sym d.is ∙ ap (codeReading s) q in record { is = rw (word_got e t g, f); past = tt }
+      pub head-uncoded : (x : Refusal) → k ≡ code_read.Faulty x
+          → ObjectHeadIs s levels next from (object_head_read.Faulty x)
+      unfolding object_head
+      head-uncoded x q = let f : object_code s t.end ≡ refused x = sym d.is ∙ ap (code_reading s) q in record { is = rw (word_got e t g, f); past = tt }
 
-      module _ (start end behind : ℕ) (q : k ≡ codeRead.Code start end behind) where
-        code-past : CodePast s t.end (codeRead.Code start end behind)
+      module _ (start end behind : ℕ) (q : k ≡ code_read.Code start end behind) where
+        code-past : CodePast s t.end (code_read.Code start end behind)
         code-past = rw q at d.past
 
         pub head-inside : behind ≤ length s
         head-inside = code-past.3
 
         pub head_opened : (r : ObjectHeadRead) → OpenedIs s t start end behind r → ObjectHeadIs s levels next from r
-        unfolding objectHead
+        unfolding object_head
         head_opened r h =
-            let f : objectCode s t.end ≡ got (part s start end) behind = sym d.is ∙ ap (codeReading s) q in
+            let f : object_code s t.end ≡ got (part s start end) behind = sym d.is ∙ ap (code_reading s) q in
             record { is = rw (word_got e t g, f) h.is; past = places r h.past }
           where
             places : (r : ObjectHeadRead) → OpenedPast s t start end behind r → ObjectHeadPast s next from r
-            places (objectHeadRead.Faulty x) p = tt
-            places (objectHeadRead.Head a b c z y) p =
+            places (object_head_read.Faulty x) p = tt
+            places (object_head_read.Head a b c z y) p =
                 let w = word_room e t g in
                 let v = code-past in
                 record {
@@ -105,32 +105,32 @@ module _ (s : List ℕ) (levels next from : ℕ) (o : Expected)
 
 -- what an attribute begins with
 module _ (s : List ℕ) (seen : List (List ℕ)) (next from : ℕ) (o : Expected)
-    (e : WordIs s next from (attributeName s seen next from) o) where
-  pub head-unnamed : (x : Refusal) → o ≡ Fault x → AttributeHeadIs s seen next from (attributeHeadRead.Faulty x)
-  unfolding attributeHead
+    (e : WordIs s next from (attribute_name s seen next from) o) where
+  pub head-unnamed : (x : Refusal) → o ≡ Fault x → AttributeHeadIs s seen next from (attribute_head_read.Faulty x)
+  unfolding attribute_head
   head-unnamed x g = record { is = rw (word-fault e x g); past = tt }
 
   module _ (t : Token) (g : o ≡ Taken t) where
     pub head-named : t.end ≤ length s
     head-named = (word_room e t g).inside
 
-    module _ (k : ExistenceRead) (d : ExistenceIs s t.end (existenceFrom s t.end) k) where
-      pub head-unsaid : (x : Refusal) → k ≡ existenceRead.Faulty x
-          → AttributeHeadIs s seen next from (attributeHeadRead.Faulty x)
-      unfolding attributeHead
+    module _ (k : ExistenceRead) (d : ExistenceIs s t.end (existence_from s t.end) k) where
+      pub head-unsaid : (x : Refusal) → k ≡ existence_read.Faulty x
+          → AttributeHeadIs s seen next from (attribute_head_read.Faulty x)
+      unfolding attribute_head
       head-unsaid x q = record { is = rw (word_got e t g, existence-refused d x q); past = tt }
 
-      module _ (flag behind : ℕ) (q : k ≡ existenceRead.Existence flag behind) where
+      module _ (flag behind : ℕ) (q : k ≡ existence_read.Existence flag behind) where
         pub head-said : behind ≤ length s
         head-said = (existence-past d flag behind q).2
 
         pub head-braced : (r : AttributeHeadRead) → NamedIs s t flag behind r → AttributeHeadIs s seen next from r
-        unfolding attributeHead
+        unfolding attribute_head
         head-braced r h = record { is = rw (word_got e t g, existence-got d flag behind q) h.is; past = places r h.past }
           where
             places : (r : AttributeHeadRead) → NamedAt s t flag behind r → AttributeHeadPast s next from r
-            places (attributeHeadRead.Faulty x) p = tt
-            places (attributeHeadRead.Head a b c y) p =
+            places (attribute_head_read.Faulty x) p = tt
+            places (attribute_head_read.Head a b c y) p =
                 let w = word_room e t g in
                 let v = existence-past d flag behind q in
                 record {

@@ -6,134 +6,134 @@ use Prim.Native.Nat.{ℕ, zero, suc, ◌+◌}
 use lib.Dec.{eqb, ltb}
 use lib.ListN.{length}
 use Rattle.lexis.specs.Runs.{listed}
-use Rattle.lexis.specs.Spelling.{closeBrace, star}
-use Rattle.lexis.specs.Tokens.{tokenAt, contentTokenAt, textEnd, typeName, name, code, spelling, inner}
-use Rattle.refusals.specs.Limits.{textLimit, levelLimit, recordLimit, nameLimit, codeLimit}
+use Rattle.lexis.specs.Spelling.{close_brace, star}
+use Rattle.lexis.specs.Tokens.{token_at, content_token_at, text_end, type_name, name, code, spelling, inner}
+use Rattle.refusals.specs.Limits.{text_limit, level_limit, record_limit, name_limit, code_limit}
 use Rattle.refusals.specs.declared.Cause.TheVariants.{TextTooLong, TooDeep, TooLong, TooManyRecords, RepeatedName}
 use Rattle.lexis.specs.declared.Token.{Token}
-use Rattle.refusals.specs.Reading.{Reading, refused, got, refuse, readThen, readUnless}
+use Rattle.refusals.specs.Reading.{Reading, refused, got, refuse, read_then, read_unless}
 use Rattle.refusals.specs.Expecting.{expect}
-use Rattle.refusals.specs.Parsing.{asRead, wanted}
+use Rattle.refusals.specs.Parsing.{as_read, wanted}
 use Rattle.refusals.proofs.Parses.{first_then, told-cond, told-noting, told-read, told-then}
 use Rattle.meaning.specs.Constraints.{Object, object, Attributes, no_more, attribute, any, nested, leaf}
 use Rattle.cadl_items.specs.Leaves
-use Rattle.cadl_items.specs.contracts.Told
-use Rattle.cadl_objects.specs.Existence.{opening, existenceFrom}
-use Rattle.cadl_objects.specs.Objects.{Attribute, pastAttribute, head_of}
+use Rattle.cadl_items.specs.Clauses.Told
+use Rattle.cadl_objects.specs.Existence.{opening, existence_from}
+use Rattle.cadl_objects.specs.Objects.{Attribute, past_attribute, head_of}
 use Rattle.cadl_objects.specs.Objects
-use Rattle.cadl_objects.specs.Texts.{objectAlone, constraintText, constraintOf}
-use Rattle.cadl_objects.specs.contracts.Told.{objectType, objectCode, attributeName, value, attributeFrom, attributes, objectFrom}
+use Rattle.cadl_objects.specs.Texts.{object_alone, constraint_text, constraint_of}
+use Rattle.cadl_objects.specs.Clauses.Told.{object_type, object_code, attribute_name, value, attribute_from, attributes, object_from}
 
 -- behind an attribute
-abbrev pub goOn : List ℕ → ℕ → Attribute → (ℕ → Reading Attributes) → ℕ → Reading Attributes
-goOn s next a more p =
-    cond (eqb (tokenAt s p).sort closeBrace) (got (attribute (head_of next a) a.value no_more) (tokenAt s p).end)
-    (readThen (more p) (λ xs q. got (attribute (head_of next a) a.value xs) q))
+abbrev pub go_on : List ℕ → ℕ → Attribute → (ℕ → Reading Attributes) → ℕ → Reading Attributes
+go_on s next a more p =
+    cond (eqb (token_at s p).sort close_brace) (got (attribute (head_of next a) a.value no_more) (token_at s p).end)
+    (read_then (more p) (λ xs q. got (attribute (head_of next a) a.value xs) q))
 
 -- what stands between an object's braces, and the `}`
 abbrev pub body : List ℕ → ℕ → ℕ → ℕ → Reading Attributes
 body s levels next from =
-    cond (eqb (tokenAt s from).sort star) (readThen (expect s closeBrace (tokenAt s from).end) (λ u p. got no_more p)) (attributes s levels (length s + 1) [] next from)
+    cond (eqb (token_at s from).sort star) (read_then (expect s close_brace (token_at s from).end) (λ u p. got no_more p)) (attributes s levels (length s + 1) [] next from)
 
 module _ (s : List ℕ) where
-  pub type-is : (levels next from : ℕ) → objectType s levels next from
-      ≡ readThen (expect s typeName from) (λ t p.
-      readUnless (eqb levels 0) TooDeep t.start
-      (readUnless (ltb nameLimit (length (spelling s t))) TooLong t.start
-      (readUnless (eqb next recordLimit) TooManyRecords t.start (got t p))))
-  unfolding objectType Objects.objectType
+  pub type-is : (levels next from : ℕ) → object_type s levels next from
+      ≡ read_then (expect s type_name from) (λ t p.
+      read_unless (eqb levels 0) TooDeep t.start
+      (read_unless (ltb name_limit (length (spelling s t))) TooLong t.start
+      (read_unless (eqb next record_limit) TooManyRecords t.start (got t p))))
+  unfolding object_type Objects.object_type
   type-is levels next from =
-      told-then (wanted s typeName from) _ _ _ (told-read (expect s typeName from)) (λ t p.
-      told-noting (eqb levels 0) TooDeep t.start _ _ (told-noting (ltb nameLimit (length (spelling s t))) TooLong t.start _ _
-      (told-noting (eqb next recordLimit) TooManyRecords t.start _ _ refl)))
+      told-then (wanted s type_name from) _ _ _ (told-read (expect s type_name from)) (λ t p.
+      told-noting (eqb levels 0) TooDeep t.start _ _ (told-noting (ltb name_limit (length (spelling s t))) TooLong t.start _ _
+      (told-noting (eqb next record_limit) TooManyRecords t.start _ _ refl)))
 
-  pub code_is : (from : ℕ) → objectCode s from
-      ≡ cond (eqb (tokenAt s from).sort code)
-      (readUnless (ltb codeLimit (length (inner s (tokenAt s from)))) TooLong (tokenAt s from).start
-      (got (inner s (tokenAt s from)) (tokenAt s from).end))
+  pub code_is : (from : ℕ) → object_code s from
+      ≡ cond (eqb (token_at s from).sort code)
+      (read_unless (ltb code_limit (length (inner s (token_at s from)))) TooLong (token_at s from).start
+      (got (inner s (token_at s from)) (token_at s from).end))
       (got [] from)
-  unfolding objectCode Objects.objectCode
-  code_is from = let t = tokenAt s from in told-cond (eqb t.sort code) _ _ _ _ (told-noting (ltb codeLimit (length (inner s t))) TooLong t.start _ _ refl) refl
+  unfolding object_code Objects.object_code
+  code_is from = let t = token_at s from in told-cond (eqb t.sort code) _ _ _ _ (told-noting (ltb code_limit (length (inner s t))) TooLong t.start _ _ refl) refl
 
-  pub name-is : (seen : List (List ℕ)) (next from : ℕ) → attributeName s seen next from
-      ≡ readThen (expect s name from) (λ t p.
-      readUnless (ltb nameLimit (length (spelling s t))) TooLong t.start
-      (readUnless (eqb next recordLimit) TooManyRecords t.start
-      (readUnless (listed (spelling s t) seen) RepeatedName t.start (got t p))))
-  unfolding attributeName Objects.attributeName
+  pub name-is : (seen : List (List ℕ)) (next from : ℕ) → attribute_name s seen next from
+      ≡ read_then (expect s name from) (λ t p.
+      read_unless (ltb name_limit (length (spelling s t))) TooLong t.start
+      (read_unless (eqb next record_limit) TooManyRecords t.start
+      (read_unless (listed (spelling s t) seen) RepeatedName t.start (got t p))))
+  unfolding attribute_name Objects.attribute_name
   name-is seen next from =
       told-then (wanted s name from) _ _ _ (told-read (expect s name from)) (λ t p.
-      told-noting (ltb nameLimit (length (spelling s t))) TooLong t.start _ _ (told-noting (eqb next recordLimit) TooManyRecords t.start _ _
+      told-noting (ltb name_limit (length (spelling s t))) TooLong t.start _ _ (told-noting (eqb next record_limit) TooManyRecords t.start _ _
       (told-noting (listed (spelling s t) seen) RepeatedName t.start _ _ refl)))
 
   pub value-is : (levels next from : ℕ) → value s levels next from
-      ≡ cond (eqb (contentTokenAt s from).sort star) (got any (contentTokenAt s from).end)
-      (cond (eqb (contentTokenAt s from).sort typeName) (readThen (objectFrom s levels next from) (λ o p. got (nested o) p))
-      (readThen (Told.leaf s next from) (λ l p. got (leaf l) p)))
-  unfolding value objectFrom Told.leaf
+      ≡ cond (eqb (content_token_at s from).sort star) (got any (content_token_at s from).end)
+      (cond (eqb (content_token_at s from).sort type_name) (read_then (object_from s levels next from) (λ o p. got (nested o) p))
+      (read_then (Told.leaf s next from) (λ l p. got (leaf l) p)))
+  unfolding value object_from Told.leaf
   value-is levels next from =
-      told-cond (eqb (contentTokenAt s from).sort star) _ _ _ _ refl
-      (told-cond (eqb (contentTokenAt s from).sort typeName) _ _ _ _ (first_then (Objects.objectFrom s levels next from) _) (first_then (Leaves.leaf s next from) _))
+      told-cond (eqb (content_token_at s from).sort star) _ _ _ _ refl
+      (told-cond (eqb (content_token_at s from).sort type_name) _ _ _ _ (first_then (Objects.object_from s levels next from) _) (first_then (Leaves.leaf s next from) _))
 
-  pub attribute-is : (levels : ℕ) (seen : List (List ℕ)) (next from : ℕ) → attributeFrom s levels seen next from
-      ≡ readThen (attributeName s seen next from) (λ t p.
-      readThen (existenceFrom s p) (λ e q.
-      readThen (opening s q) (λ u r.
-      readThen (value s levels (next + 1) r) (λ v x.
-      readThen (expect s closeBrace x) (λ w y.
+  pub attribute-is : (levels : ℕ) (seen : List (List ℕ)) (next from : ℕ) → attribute_from s levels seen next from
+      ≡ read_then (attribute_name s seen next from) (λ t p.
+      read_then (existence_from s p) (λ e q.
+      read_then (opening s q) (λ u r.
+      read_then (value s levels (next + 1) r) (λ v x.
+      read_then (expect s close_brace x) (λ w y.
       got (record { existence = e; name = spelling s t; value = v }) y)))))
-  unfolding attributeFrom attributeName value Objects.attributeFrom
+  unfolding attribute_from attribute_name value Objects.attribute_from
   attribute-is levels seen next from =
-      told-then (Objects.attributeName s seen next from) _ _ _ refl (λ t p.
-      told-then (asRead (existenceFrom s p)) _ _ _ (told-read (existenceFrom s p)) (λ e q.
-      told-then (asRead (opening s q)) _ _ _ (told-read (opening s q)) (λ u r.
-      told-then (Objects.value s (Objects.objectFrom s levels) (next + 1) r) _ _ _ refl (λ v x.
-      told-then (wanted s closeBrace x) _ _ _ (told-read (expect s closeBrace x)) (λ w y. refl)))))
+      told-then (Objects.attribute_name s seen next from) _ _ _ refl (λ t p.
+      told-then (as_read (existence_from s p)) _ _ _ (told-read (existence_from s p)) (λ e q.
+      told-then (as_read (opening s q)) _ _ _ (told-read (opening s q)) (λ u r.
+      told-then (Objects.value s (Objects.object_from s levels) (next + 1) r) _ _ _ refl (λ v x.
+      told-then (wanted s close_brace x) _ _ _ (told-read (expect s close_brace x)) (λ w y. refl)))))
 
   pub attributes-is : (levels fuel : ℕ) (seen : List (List ℕ)) (next from : ℕ)
       → attributes s levels (suc fuel) seen next from
-      ≡ readThen (attributeFrom s levels seen next from)
-      (λ a p. goOn s next a (attributes s levels fuel (a.name ∷ seen) (pastAttribute next a)) p)
-  unfolding attributes attributeFrom Objects.attributes
+      ≡ read_then (attribute_from s levels seen next from)
+      (λ a p. go_on s next a (attributes s levels fuel (a.name ∷ seen) (past_attribute next a)) p)
+  unfolding attributes attribute_from Objects.attributes
   attributes-is levels fuel seen next from =
-      told-then (Objects.attributeFrom s (Objects.objectFrom s levels) seen next from) _ _ _ refl (λ a p.
-      told-cond (eqb (tokenAt s p).sort closeBrace) _ _ _ _ refl
-      (first_then (Objects.attributes s (Objects.objectFrom s levels) fuel (a.name ∷ seen) (pastAttribute next a) p) _))
+      told-then (Objects.attribute_from s (Objects.object_from s levels) seen next from) _ _ _ refl (λ a p.
+      told-cond (eqb (token_at s p).sort close_brace) _ _ _ _ refl
+      (first_then (Objects.attributes s (Objects.object_from s levels) fuel (a.name ∷ seen) (past_attribute next a) p) _))
 
   -- an object of levels that are allowed, and one that is too deep
-  pub object-is : (levels next from : ℕ) → objectFrom s (suc levels) next from
-      ≡ readThen (objectType s (suc levels) next from) (λ t p.
-      readThen (objectCode s p) (λ k q.
-      readThen (opening s q) (λ u r.
-      readThen (body s levels (next + 1) r) (λ xs x.
+  pub object-is : (levels next from : ℕ) → object_from s (suc levels) next from
+      ≡ read_then (object_type s (suc levels) next from) (λ t p.
+      read_then (object_code s p) (λ k q.
+      read_then (opening s q) (λ u r.
+      read_then (body s levels (next + 1) r) (λ xs x.
       got (object (record { number = next; type = spelling s t; code = k }) xs) x))))
-  unfolding objectFrom objectType objectCode attributes Objects.objectFrom
+  unfolding object_from object_type object_code attributes Objects.object_from
   object-is levels next from =
-      told-then (Objects.objectType s (suc levels) next from) _ _ _ refl (λ t p.
-      told-then (Objects.objectCode s p) _ _ _ refl (λ k q.
-      told-then (asRead (opening s q)) _ _ _ (told-read (opening s q)) (λ u r.
-      told-then (Objects.body s (Objects.objectFrom s levels) (next + 1) r) _ _ _
-      (told-cond (eqb (tokenAt s r).sort star) _ _ _ _
-      (told-then (wanted s closeBrace (tokenAt s r).end) _ _ _ (told-read (expect s closeBrace (tokenAt s r).end)) (λ z x. refl)) refl) (λ xs x. refl))))
+      told-then (Objects.object_type s (suc levels) next from) _ _ _ refl (λ t p.
+      told-then (Objects.object_code s p) _ _ _ refl (λ k q.
+      told-then (as_read (opening s q)) _ _ _ (told-read (opening s q)) (λ u r.
+      told-then (Objects.body s (Objects.object_from s levels) (next + 1) r) _ _ _
+      (told-cond (eqb (token_at s r).sort star) _ _ _ _
+      (told-then (wanted s close_brace (token_at s r).end) _ _ _ (told-read (expect s close_brace (token_at s r).end)) (λ z x. refl)) refl) (λ xs x. refl))))
 
   unread : (r : Reading Token) (f g : Token → ℕ → Reading Object)
-      → readThen (readThen r (λ t p. refuse {A = Token} TooDeep t.start)) f
-      ≡ readThen (readThen r (λ t p. refuse {A = Token} TooDeep t.start)) g
+      → read_then (read_then r (λ t p. refuse {A = Token} TooDeep t.start)) f
+      ≡ read_then (read_then r (λ t p. refuse {A = Token} TooDeep t.start)) g
   unread (refused x) f g = refl
   unread (got t p) f g = refl
 
   pub object-none : (next from : ℕ) (go : Token → ℕ → Reading Object)
-      → objectFrom s zero next from ≡ readThen (objectType s zero next from) go
-  unfolding objectFrom objectType Objects.objectFrom
+      → object_from s zero next from ≡ read_then (object_type s zero next from) go
+  unfolding object_from object_type Objects.object_from
   object-none next from go =
       let e = type-is zero next from in
-      told-then (Objects.objectType s zero next from) _ _ _ e (λ t p. refl) ∙ (unread (expect s typeName from) _ go ∙ ap (λ r. readThen r go) (sym e))
+      told-then (Objects.object_type s zero next from) _ _ _ e (λ t p. refl) ∙ (unread (expect s type_name from) _ go ∙ ap (λ r. read_then r go) (sym e))
 
 -- a constraint text
-pub constraint-is : (s : List ℕ) → constraintOf s
-    ≡ readUnless (ltb textLimit (length s)) TextTooLong textLimit
-    (readThen (objectFrom s levelLimit 1 0) (λ o p. readThen (expect s textEnd p) (λ t q. got o q)))
-unfolding constraintOf constraintText objectAlone objectFrom
+pub constraint-is : (s : List ℕ) → constraint_of s
+    ≡ read_unless (ltb text_limit (length s)) TextTooLong text_limit
+    (read_then (object_from s level_limit 1 0) (λ o p. read_then (expect s text_end p) (λ t q. got o q)))
+unfolding constraint_of constraint_text object_alone object_from
 constraint-is s =
-    told-noting (ltb textLimit (length s)) TextTooLong textLimit _ _
-    (told-then (Objects.objectFrom s levelLimit 1 0) _ _ _ refl (λ o p. told-then (wanted s textEnd p) _ _ _ (told-read (expect s textEnd p)) (λ t q. refl)))
+    told-noting (ltb text_limit (length s)) TextTooLong text_limit _ _
+    (told-then (Objects.object_from s level_limit 1 0) _ _ _ refl (λ o p. told-then (wanted s text_end p) _ _ _ (told-read (expect s text_end p)) (λ t q. refl)))

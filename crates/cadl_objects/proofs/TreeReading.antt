@@ -13,50 +13,50 @@ use lib.Seq.{take-length}
 use borrow.Author.Tests.{eqb-true, ltb-false, ltb-true}
 use mathlib.Core.Logic.{◌≢◌}
 use Rattle.lexis.specs.Runs.{part}
-use Rattle.lexis.specs.contracts.Subsequence.{Sub}
-use Rattle.lexis.specs.Spelling.{existence, closeBrace, star}
-use Rattle.lexis.specs.Tokens.{tokenAt, contentTokenAt, textEnd, typeName, name}
+use Rattle.lexis.specs.Clauses.Subsequence.{Sub}
+use Rattle.lexis.specs.Spelling.{existence, close_brace, star}
+use Rattle.lexis.specs.Tokens.{token_at, content_token_at, text_end, type_name, name}
 use Rattle.lexis.proofs.Cases.{by_cond}
 use Rattle.lexis.proofs.Places.{token-found}
 use Rattle.lexis.proofs.ContentSteps.{content-found}
 use Rattle.lexis.proofs.Parts.{sub-none, sub-join, sub-wider, sub-length}
-use Rattle.refusals.specs.Limits.{textLimit, levelLimit, recordLimit, poolLimit}
+use Rattle.refusals.specs.Limits.{text_limit, level_limit, record_limit, pool_limit}
 use Rattle.refusals.specs.Reading.{Reading, refused, got}
-use Rattle.refusals.specs.Parsing.{Parse, firstIn}
+use Rattle.refusals.specs.Parsing.{Parse, first_in}
 use Rattle.refusals.specs.declared.Refusal.{Refusal}
 use Rattle.refusals.specs.Refusals.{number_of}
 use Rattle.refusals.proofs.Readings.{Holds, ConstraintRefusal}
 use Rattle.refusals.proofs.Tokens.{Passed, strict_of}
 use Rattle.refusals.proofs.Parses.{rank, FaultFrom, Ordered, ordered-parsed, ordered-then, ordered-wanted, ordered-read, ordered-holds, expect-passes, Passes, passes-holds}
 use Rattle.meaning.specs.Constraints.{Object, Attributes, no_more, attribute, Value, any, nested, leaf}
-use Rattle.meaning.specs.contracts.Proper.{ProperName, ProperObject, ProperAttributes, ProperValue}
-use Rattle.meaning.specs.Counting.{objectRecords, objectPool, objectNumbers, attributeRecords, attributePool, attributeNumbers, valueRecords, valuePool, valueNumbers, up_from}
+use Rattle.meaning.specs.Clauses.Proper.{ProperName, ProperObject, ProperAttributes, ProperValue}
+use Rattle.meaning.specs.Counting.{object_records, object_pool, object_numbers, attribute_records, attribute_pool, attribute_numbers, value_records, value_pool, value_numbers, up_from}
 use Rattle.meaning.proofs.Numbers.{up-append}
 use Rattle.cadl_items.specs.Leaves
 use Rattle.cadl_intervals.proofs.IntervalReading.{token-past}
 use Rattle.cadl_items.proofs.LeafReading.{TreeRead, LeafRead, leaf-ordered}
-use Rattle.cadl_objects.specs.Objects.{value, Attribute, attributeFrom, pastAttribute, head_of, attributes, body, objectBy, deeperObject, objectFrom}
-use Rattle.cadl_objects.specs.contracts.Told
-use Rattle.cadl_objects.specs.Texts.{objectAlone, constraintText, constraintOf}
+use Rattle.cadl_objects.specs.Objects.{value, Attribute, attribute_from, past_attribute, head_of, attributes, body, object_by, deeper_object, object_from}
+use Rattle.cadl_objects.specs.Clauses.Told
+use Rattle.cadl_objects.specs.Texts.{object_alone, constraint_text, constraint_of}
 use Rattle.cadl_objects.proofs.HeadReading.{Exists, Word, opening-holds, existence-holds, passed-at, type-ordered, Coded, code-ordered, name-ordered, spelling-sub}
 
 -- trees that were read from a place on, the first record's number given
 abbrev pub ObjectRead : List ℕ → ℕ → ℕ → Object → ℕ → Type 0
-ObjectRead s next from o p = TreeRead s next from (objectNumbers o) (objectRecords o) (ProperObject o) (objectPool o) p
+ObjectRead s next from o p = TreeRead s next from (object_numbers o) (object_records o) (ProperObject o) (object_pool o) p
 
 abbrev pub AttributesRead : List ℕ → ℕ → ℕ → Attributes → ℕ → Type 0
-AttributesRead s next from xs p = TreeRead s next from (attributeNumbers xs) (attributeRecords xs) (ProperAttributes xs) (attributePool xs) p
+AttributesRead s next from xs p = TreeRead s next from (attribute_numbers xs) (attribute_records xs) (ProperAttributes xs) (attribute_pool xs) p
 
 abbrev pub ValueRead : List ℕ → ℕ → ℕ → Value → ℕ → Type 0
-ValueRead s next from v p = TreeRead s next from (valueNumbers v) (valueRecords v) (ProperValue v) (valuePool v) p
+ValueRead s next from v p = TreeRead s next from (value_numbers v) (value_records v) (ProperValue v) (value_pool v) p
 
 pub record AttributeRead (s : List ℕ) (next from : ℕ) (a : Attribute) (p : ℕ) : Type 0 where
   pub least : from + 1 ≤ p
   pub most : p ≤ length s
-  pub numbers : valueNumbers a.value ≡ up_from (next + 1) (valueRecords a.value)
-  pub room : next ≤ recordLimit → next + 1 + valueRecords a.value ≤ recordLimit
+  pub numbers : value_numbers a.value ≡ up_from (next + 1) (value_records a.value)
+  pub room : next ≤ record_limit → next + 1 + value_records a.value ≤ record_limit
   pub proper : (a.existence ≤ 2) × ProperName a.name × ProperValue a.value
-  pub pool : Sub (a.name ++ valuePool a.value) (part s from p)
+  pub pool : Sub (a.name ++ value_pool a.value) (part s from p)
 
 -- objects from a place on are in order
 abbrev Below : List ℕ → ℕ → (ℕ → ℕ → Parse Object) → Type 0
@@ -65,11 +65,11 @@ Below s first down = (next from : ℕ) (sound : Bool) (low : ℕ) → first ≤ 
 module _ (s : List ℕ) (first : ℕ) (down : ℕ → ℕ → Parse Object) (below : Below s first down) where
   value-ordered : (next from : ℕ) (sound : Bool) (low : ℕ) → first ≤ from → low ≤ rank from 0 → from ≤ length s
       → Ordered s (Passes s from (ValueRead s next from)) sound low (value s down next from)
-  unfolding valueNumbers valueRecords valuePool ProperValue
+  unfolding value_numbers value_records value_pool ProperValue
   value-ordered next from sound low i l h =
       let P = Passes s from (ValueRead s next from) in
       let C = Ordered s P sound low in
-      let t = contentTokenAt s from in
+      let t = content_token_at s from in
       let f = content-found s from h in
       by_cond C (eqb t.sort star)
       (λ e. let b : from + 1 ≤ t.end = omega (arith, f.start, strict_of star (lit< tt) t s from f (eqb-true t.sort star e)) in
@@ -79,7 +79,7 @@ module _ (s : List ℕ) (first : ℕ) (down : ℕ → ℕ → Parse Object) (bel
         most = f.inside;
         tree = λ z. record { least = b; most = f.inside; numbers = refl; room = λ m. omega arith; proper = tt; pool = sub-none _ };
       }))
-      (λ e. by_cond C (eqb t.sort typeName)
+      (λ e. by_cond C (eqb t.sort type_name)
       (λ f. ordered-then s P (Passes s from (ObjectRead s next from)) sound low (down next from) _ (below next from sound low i l h)
       (λ o j x p c q. ordered-parsed s P o j (nested x) p (record { bound = q.bound; least = q.least; most = q.most; tree = q.tree })))
       (λ f. ordered-then s P (Passes s from (LeafRead s next from)) sound low (Leaves.leaf s next from) _ (leaf-ordered s next from sound low l h)
@@ -87,8 +87,8 @@ module _ (s : List ℕ) (first : ℕ) (down : ℕ → ℕ → Parse Object) (bel
 
   attribute-ordered : (seen : List (List ℕ)) (next from : ℕ) (sound : Bool) (low : ℕ) → first ≤ from → low ≤ rank from 0
       → from ≤ length s
-      → Ordered s (Passes s from (AttributeRead s next from)) sound low (attributeFrom s down seen next from)
-  unfolding attributeFrom
+      → Ordered s (Passes s from (AttributeRead s next from)) sound low (attribute_from s down seen next from)
+  unfolding attribute_from
   attribute-ordered seen next from sound low i l h =
       let n = length s in
       let P = Passes s from (AttributeRead s next from) in
@@ -98,9 +98,9 @@ module _ (s : List ℕ) (first : ℕ) (down : ℕ → ℕ → Parse Object) (bel
       ordered-read s P (Passed s r) o₀ j _ _ (opening-holds s j r (omega (arith, x.least, q₀.bound)) x.most) (λ u y z.
       ordered-then s P (Passes s y (ValueRead s (next + 1) y)) o₀ j _ _
       (value-ordered (next + 1) y o₀ j (omega (arith, q.start, q.order, x.least, z.start, z.order)) (omega (arith, x.least, q₀.bound, z.start, z.order)) z.inside) (λ o₁ j₁ v w c₁ k.
-      ordered-wanted s P o₁ j₁ closeBrace w _ k.bound k.most (λ d.
-      let g = passed-at s closeBrace w (lit< tt) k.most d in
-      let m = (tokenAt s w).end in
+      ordered-wanted s P o₁ j₁ close_brace w _ k.bound k.most (λ d.
+      let g = passed-at s close_brace w (lit< tt) k.most d in
+      let m = (token_at s w).end in
       ordered-parsed s P o₁ j₁ _ m (record {
         bound = omega (arith, k.bound, g.start, g.order);
         least = omega (arith, q.start, q.order, x.least, z.start, z.order, k.least, g.start, g.order);
@@ -122,39 +122,39 @@ module _ (s : List ℕ) (first : ℕ) (down : ℕ → ℕ → Parse Object) (bel
   -- an attribute before others: numbers and pool
   first_holds : (next from p q : ℕ) (a : Attribute) (more : Attributes) → AttributeRead s next from a p → p ≤ q
       → q ≤ length s
-      → attributeNumbers more ≡ up_from (pastAttribute next a) (attributeRecords more)
-      → (pastAttribute next a ≤ recordLimit → pastAttribute next a + attributeRecords more ≤ recordLimit)
+      → attribute_numbers more ≡ up_from (past_attribute next a) (attribute_records more)
+      → (past_attribute next a ≤ record_limit → past_attribute next a + attribute_records more ≤ record_limit)
       → ProperAttributes more
-      → Sub (attributePool more) (part s p q)
+      → Sub (attribute_pool more) (part s p q)
       → AttributesRead s next from (attribute (head_of next a) a.value more) q
-  unfolding attributeNumbers attributeRecords attributePool ProperAttributes
+  unfolding attribute_numbers attribute_records attribute_pool ProperAttributes
   first_holds next from p q a more h l k ns room proper sub = record {
     least = omega arith;
     most = k;
-    numbers = ap (λ (xs : List ℕ). next ∷ xs) (rw (h.numbers, ns, up-append (valueRecords a.value) (attributeRecords more) (next + 1)));
+    numbers = ap (λ (xs : List ℕ). next ∷ xs) (rw (h.numbers, ns, up-append (value_records a.value) (attribute_records more) (next + 1)));
     room = λ m. let z = room (h.room m) in omega arith;
     proper = (h.proper.0, h.proper.1, h.proper.2, proper);
-    pool = rw (← append_assoc a.name (valuePool a.value) (attributePool more)) (sub-join s from p q (omega arith) l h.pool sub);
+    pool = rw (← append_assoc a.name (value_pool a.value) (attribute_pool more)) (sub-join s from p q (omega arith) l h.pool sub);
   }
 
   attributes-ordered : (fuel : ℕ) (seen : List (List ℕ)) (next from : ℕ) (sound : Bool) (low : ℕ)
       → length s < from + fuel → first ≤ from → low ≤ rank from 0 → from ≤ length s
       → Ordered s (Passes s from (AttributesRead s next from)) sound low (attributes s down fuel seen next from)
-  unfolding attributes attributeNumbers attributeRecords attributePool ProperAttributes
+  unfolding attributes attribute_numbers attribute_records attribute_pool ProperAttributes
   attributes-ordered zero seen next from sound low k i l h = absurd (omega arith)
   attributes-ordered (suc fuel) seen next from sound low k i l h =
       let P = Passes s from (AttributesRead s next from) in
       ordered-then s P (Passes s from (AttributeRead s next from)) sound low _ _ (attribute-ordered seen next from sound low i l h) (λ o j a p c q.
-      by_cond (Ordered s P o j) (eqb (tokenAt s p).sort closeBrace)
-      (λ e. let b = token-past s p closeBrace q.most (lit< tt) e in
-      ordered-parsed s P o j _ (tokenAt s p).end (record {
+      by_cond (Ordered s P o j) (eqb (token_at s p).sort close_brace)
+      (λ e. let b = token-past s p close_brace q.most (lit< tt) e in
+      ordered-parsed s P o j _ (token_at s p).end (record {
         bound = omega (arith, q.bound, b.least);
         least = omega (arith, q.least, b.least);
         most = b.most;
-        tree = λ z. first_holds next from p (tokenAt s p).end a no_more (q.tree z) (omega (arith, b.least)) b.most refl (λ m. omega arith) tt (sub-none _);
+        tree = λ z. first_holds next from p (token_at s p).end a no_more (q.tree z) (omega (arith, b.least)) b.most refl (λ m. omega arith) tt (sub-none _);
       }))
-      (λ e. ordered-then s P (Passes s p (AttributesRead s (pastAttribute next a) p)) o j (attributes s down fuel (a.name ∷ seen) (pastAttribute next a) p) _
-      (attributes-ordered fuel (a.name ∷ seen) (pastAttribute next a) p o j (omega (arith, q.least)) (omega (arith, q.least)) q.bound q.most) (λ u v xs r d x.
+      (λ e. ordered-then s P (Passes s p (AttributesRead s (past_attribute next a) p)) o j (attributes s down fuel (a.name ∷ seen) (past_attribute next a) p) _
+      (attributes-ordered fuel (a.name ∷ seen) (past_attribute next a) p o j (omega (arith, q.least)) (omega (arith, q.least)) q.bound q.most) (λ u v xs r d x.
       ordered-parsed s P u v _ r (record {
         bound = x.bound;
         least = omega (arith, q.least, x.least);
@@ -164,13 +164,13 @@ module _ (s : List ℕ) (first : ℕ) (down : ℕ → ℕ → Parse Object) (bel
 
   body-ordered : (next from : ℕ) (sound : Bool) (low : ℕ) → first ≤ from → low ≤ rank from 0 → from ≤ length s
       → Ordered s (Passes s from (AttributesRead s next from)) sound low (body s down next from)
-  unfolding attributeNumbers attributeRecords attributePool ProperAttributes
+  unfolding attribute_numbers attribute_records attribute_pool ProperAttributes
   body-ordered next from sound low i l h =
       let P = Passes s from (AttributesRead s next from) in
-      let t = tokenAt s from in
+      let t = token_at s from in
       by_cond (Ordered s P sound low) (eqb t.sort star)
       (λ e. let b = token-past s from star h (lit< tt) e in
-      ordered-read s P (Passed s t.end) sound low _ _ (expect-passes s low t.end (omega (arith, b.least)) closeBrace (lit< tt) b.most) (λ u p q.
+      ordered-read s P (Passed s t.end) sound low _ _ (expect-passes s low t.end (omega (arith, b.least)) close_brace (lit< tt) b.most) (λ u p q.
       ordered-parsed s P sound low no_more p (record {
         bound = omega (arith, b.least, q.start, q.order);
         least = omega (arith, b.least, q.start, q.order);
@@ -182,8 +182,8 @@ module _ (s : List ℕ) (first : ℕ) (down : ℕ → ℕ → Parse Object) (bel
 -- an object, those inside which lie behind its first byte
 by-ordered : (s : List ℕ) (levels : ℕ) (down : ℕ → ℕ → Parse Object) (next from : ℕ) (sound : Bool) (low : ℕ)
     → Below s (from + 1) down → low ≤ rank from 0 → from ≤ length s
-    → Ordered s (Passes s from (ObjectRead s next from)) sound low (objectBy s levels down next from)
-unfolding objectNumbers objectRecords objectPool ProperObject
+    → Ordered s (Passes s from (ObjectRead s next from)) sound low (object_by s levels down next from)
+unfolding object_numbers object_records object_pool ProperObject
 by-ordered s levels down next from sound low below l h =
     let P = Passes s from (ObjectRead s next from) in
     ordered-then s P (Word s next from) sound low _ _ (type-ordered s levels next from sound low l h) (λ o₀ j t p c₀ q₀.
@@ -214,56 +214,56 @@ by-ordered s levels down next from sound low below l h =
 
 deeper-ordered : (s : List ℕ) (fuel next from : ℕ) (sound : Bool) (low : ℕ) → length s < from + fuel → low ≤ rank from 0
     → from ≤ length s
-    → Ordered s (Passes s from (ObjectRead s next from)) sound low (deeperObject s fuel next from)
-unfolding deeperObject
+    → Ordered s (Passes s from (ObjectRead s next from)) sound low (deeper_object s fuel next from)
+unfolding deeper_object
 deeper-ordered s zero next from sound low e l h = absurd (omega arith)
 deeper-ordered s (suc fuel) next from sound low e l h =
-    by-ordered s 1 (deeperObject s fuel) next from sound low (λ n at o j i k m. deeper-ordered s fuel n at o j (omega arith) k m) l h
+    by-ordered s 1 (deeper_object s fuel) next from sound low (λ n at o j i k m. deeper-ordered s fuel n at o j (omega arith) k m) l h
 
 -- an object, at any level
 object-ordered : (s : List ℕ) (levels next from : ℕ) (sound : Bool) (low : ℕ) → low ≤ rank from 0 → from ≤ length s
-    → Ordered s (Passes s from (ObjectRead s next from)) sound low (objectFrom s levels next from)
-unfolding objectFrom
+    → Ordered s (Passes s from (ObjectRead s next from)) sound low (object_from s levels next from)
+unfolding object_from
 object-ordered s zero next from sound low l h =
-    by-ordered s zero (deeperObject s (length s + 1)) next from sound low (λ n at o j i k m. deeper-ordered s (length s + 1) n at o j (omega arith) k m) l h
-object-ordered s (suc levels) next from sound low l h = by-ordered s (suc levels) (objectFrom s levels) next from sound low (λ n at o j i k m. object-ordered s levels n at o j k m) l h
+    by-ordered s zero (deeper_object s (length s + 1)) next from sound low (λ n at o j i k m. deeper-ordered s (length s + 1) n at o j (omega arith) k m) l h
+object-ordered s (suc levels) next from sound low l h = by-ordered s (suc levels) (object_from s levels) next from sound low (λ n at o j i k m. object-ordered s levels n at o j k m) l h
 
 -- what reading tells of an object, and of what holds objects
 pub object-holds : (s : List ℕ) (levels next from : ℕ) → from ≤ length s
-    → Holds (ConstraintRefusal s) (ObjectRead s next from) (Told.objectFrom s levels next from)
-unfolding Told.objectFrom
+    → Holds (ConstraintRefusal s) (ObjectRead s next from) (Told.object_from s levels next from)
+unfolding Told.object_from
 object-holds s levels next from h = passes-holds s from _ _ (object-ordered s levels next from true 0 (omega arith) h)
 
 module _ (s : List ℕ) (levels next from : ℕ) (h : from ≤ length s) where
-  below : Below s 0 (objectFrom s levels)
+  below : Below s 0 (object_from s levels)
   below n at o j i k m = object-ordered s levels n at o j k m
 
   pub value-holds : Holds (ConstraintRefusal s) (ValueRead s next from) (Told.value s levels next from)
   unfolding Told.value
-  value-holds = passes-holds s from _ _ (value-ordered s 0 (objectFrom s levels) below next from true 0 (omega arith) (omega arith) h)
+  value-holds = passes-holds s from _ _ (value-ordered s 0 (object_from s levels) below next from true 0 (omega arith) (omega arith) h)
 
   pub attribute-holds : (seen : List (List ℕ))
-      → Holds (ConstraintRefusal s) (AttributeRead s next from) (Told.attributeFrom s levels seen next from)
-  unfolding Told.attributeFrom
-  attribute-holds seen = passes-holds s from _ _ (attribute-ordered s 0 (objectFrom s levels) below seen next from true 0 (omega arith) (omega arith) h)
+      → Holds (ConstraintRefusal s) (AttributeRead s next from) (Told.attribute_from s levels seen next from)
+  unfolding Told.attribute_from
+  attribute-holds seen = passes-holds s from _ _ (attribute-ordered s 0 (object_from s levels) below seen next from true 0 (omega arith) (omega arith) h)
 
 -- a text's tree: its records are numbered from 1 on in pre-order, and its pool's bytes are bytes of the text, in order
 pub record Accepted (s : List ℕ) (o : Object) (p : ℕ) : Type 0 where
-  pub numbers : objectNumbers o ≡ up_from 1 (objectRecords o)
-  pub room : 1 + objectRecords o ≤ recordLimit
+  pub numbers : object_numbers o ≡ up_from 1 (object_records o)
+  pub room : 1 + object_records o ≤ record_limit
   pub proper : ProperObject o
-  pub pool : Sub (objectPool o) (part s 0 (length s))
-  pub short : length s ≤ textLimit
+  pub pool : Sub (object_pool o) (part s 0 (length s))
+  pub short : length s ≤ text_limit
   pub inside : p ≤ length s
 
 -- a text that is not too long: its faults come in order and lie in it
 pub alone-ordered : (s : List ℕ)
-    → Ordered s (λ o l x p. o ≡ true → length s ≤ textLimit → Accepted s x p) true 0 (objectAlone s)
-unfolding objectAlone
+    → Ordered s (λ o l x p. o ≡ true → length s ≤ text_limit → Accepted s x p) true 0 (object_alone s)
+unfolding object_alone
 alone-ordered s =
-    let P : Bool → ℕ → Object → ℕ → Type 0 = λ o l x p. o ≡ true → length s ≤ textLimit → Accepted s x p in
-    ordered-then s P (Passes s 0 (ObjectRead s 1 0)) true 0 _ _ (object-ordered s levelLimit 1 0 true 0 (omega arith) (omega arith)) (λ o j x p c q.
-    ordered-wanted s P o j textEnd p _ q.bound q.most (λ e.
+    let P : Bool → ℕ → Object → ℕ → Type 0 = λ o l x p. o ≡ true → length s ≤ text_limit → Accepted s x p in
+    ordered-then s P (Passes s 0 (ObjectRead s 1 0)) true 0 _ _ (object-ordered s level_limit 1 0 true 0 (omega arith) (omega arith)) (λ o j x p c q.
+    ordered-wanted s P o j text_end p _ q.bound q.most (λ e.
     ordered-parsed s P o j x _ (λ z short.
     let v = q.tree z in
     record {
@@ -276,51 +276,51 @@ alone-ordered s =
     })))
 
 -- what reading tells of a text
-pub constraint-holds : (s : List ℕ) → Holds (ConstraintRefusal s) (Accepted s) (constraintOf s)
-unfolding constraintOf constraintText number_of Holds
+pub constraint-holds : (s : List ℕ) → Holds (ConstraintRefusal s) (Accepted s) (constraint_of s)
+unfolding constraint_of constraint_text number_of Holds
 constraint-holds s =
-    by_cond (λ (w : Parse Object). Holds (ConstraintRefusal s) (Accepted s) (firstIn w)) (ltb textLimit (length s))
-    (λ e. let l = ltb-true textLimit (length s) e in (omega arith, λ n. omega arith))
-    (λ e. told (firstIn (objectAlone s)) (ordered-holds s _ true 0 (objectAlone s) (alone-ordered s)) (ltb-false textLimit (length s) e))
+    by_cond (λ (w : Parse Object). Holds (ConstraintRefusal s) (Accepted s) (first_in w)) (ltb text_limit (length s))
+    (λ e. let l = ltb-true text_limit (length s) e in (omega arith, λ n. omega arith))
+    (λ e. told (first_in (object_alone s)) (ordered-holds s _ true 0 (object_alone s) (alone-ordered s)) (ltb-false text_limit (length s) e))
   where
-    told : (r : Reading Object) → Holds (FaultFrom s 0) (λ x p. true ≡ true → length s ≤ textLimit → Accepted s x p) r
-        → length s ≤ textLimit → Holds (ConstraintRefusal s) (Accepted s) r
+    told : (r : Reading Object) → Holds (FaultFrom s 0) (λ x p. true ≡ true → length s ≤ text_limit → Accepted s x p) r
+        → length s ≤ text_limit → Holds (ConstraintRefusal s) (Accepted s) r
     told (refused x) h l = (h.inside, λ n. let m = h.most in omega arith)
     told (got x p) h l = h refl l
 
 -- a refusal's place lies in the text, and its number is not 10
-pub place_inside : (s : List ℕ) (r : Refusal) → constraintOf s ≡ refused r → r.place ≤ length s
+pub place_inside : (s : List ℕ) (r : Refusal) → constraint_of s ≡ refused r → r.place ≤ length s
 unfolding Holds
 place_inside s r e = (rw e at (constraint-holds s)).0
 
-pub not-ten : (s : List ℕ) (r : Refusal) → constraintOf s ≡ refused r → number_of r.cause ≢ 10
+pub not-ten : (s : List ℕ) (r : Refusal) → constraint_of s ≡ refused r → number_of r.cause ≢ 10
 unfolding Holds
 not-ten s r e = (rw e at (constraint-holds s)).1
 
 -- the record numbers of a tree are its pre-order
-pub pre-order : (s : List ℕ) (o : Object) (p : ℕ) → constraintOf s ≡ got o p
-    → objectNumbers o ≡ up_from 1 (objectRecords o)
+pub pre-order : (s : List ℕ) (o : Object) (p : ℕ) → constraint_of s ≡ got o p
+    → object_numbers o ≡ up_from 1 (object_records o)
 unfolding Holds
 pre-order s o p e = let h : Accepted s o p = rw e at (constraint-holds s) in h.numbers
 
 -- each pool byte comes from a byte of its own of the text
-pub pool-from-text : (s : List ℕ) (o : Object) (p : ℕ) → constraintOf s ≡ got o p → Sub (objectPool o) s
+pub pool-from-text : (s : List ℕ) (o : Object) (p : ℕ) → constraint_of s ≡ got o p → Sub (object_pool o) s
 unfolding Holds
 pool-from-text s o p e = let h : Accepted s o p = rw e at (constraint-holds s) in rw (sub-zero, take-length s) at h.pool
 
 -- so the pool of an accepted text is within its limit
-pub pool-fits : (s : List ℕ) (o : Object) (p : ℕ) → constraintOf s ≡ got o p → length (objectPool o) ≤ poolLimit
+pub pool-fits : (s : List ℕ) (o : Object) (p : ℕ) → constraint_of s ≡ got o p → length (object_pool o) ≤ pool_limit
 unfolding Holds
 pool-fits s o p e =
     let h : Accepted s o p = rw e at (constraint-holds s) in
     omega (arith, sub-length (pool-from-text s o p e), h.short)
 
 -- the records of an accepted text are within their limit
-pub records-fit : (s : List ℕ) (o : Object) (p : ℕ) → constraintOf s ≡ got o p → 1 + objectRecords o ≤ recordLimit
+pub records-fit : (s : List ℕ) (o : Object) (p : ℕ) → constraint_of s ≡ got o p → 1 + object_records o ≤ record_limit
 unfolding Holds
 records-fit s o p e = let h : Accepted s o p = rw e at (constraint-holds s) in h.room
 
 -- every part of an accepted text's tree is proper
-pub tree-proper : (s : List ℕ) (o : Object) (p : ℕ) → constraintOf s ≡ got o p → ProperObject o
+pub tree-proper : (s : List ℕ) (o : Object) (p : ℕ) → constraint_of s ≡ got o p → ProperObject o
 unfolding Holds
 tree-proper s o p e = let h : Accepted s o p = rw e at (constraint-holds s) in h.proper

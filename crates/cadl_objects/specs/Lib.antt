@@ -1,4 +1,4 @@
 pub mod Existence
 pub mod Objects
 pub mod Texts
-pub mod contracts
+pub mod Clauses

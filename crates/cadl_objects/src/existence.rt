@@ -1,13 +1,13 @@
 // Existence, and what opens the braces of objects and attributes.
 ghost use Rattle.std.specs.Prelude.{◌≡◌, ◌&&◌, ◌≤◌, eqb, length};
 ghost use Rattle.lexis.specs.Runs.{same};
-ghost use Rattle.lexis.specs.Spelling.{openBrace};
-ghost use Rattle.lexis.specs.Tokens.{tokenAt, integer, spelling};
-ghost use Rattle.lexis.specs.contracts.Answers.{TokenIs};
-ghost use Rattle.refusals.specs.contracts.Answers.{ExpectIs};
-ghost use Rattle.cadl_items.specs.contracts.Spans.{Within};
-ghost use Rattle.cadl_objects.specs.Existence.{opening, fromNought, fromOne, bounds, existenceFrom};
-ghost use Rattle.cadl_objects.specs.contracts.Answers.{ExistenceIs, existenceClosed, braced};
+ghost use Rattle.lexis.specs.Spelling.{open_brace};
+ghost use Rattle.lexis.specs.Tokens.{token_at, integer, spelling};
+ghost use Rattle.lexis.specs.Clauses.Answers.{TokenIs};
+ghost use Rattle.refusals.specs.Clauses.Answers.{ExpectIs};
+ghost use Rattle.cadl_items.specs.Clauses.Spans.{Within};
+ghost use Rattle.cadl_objects.specs.Existence.{opening, from_nought, from_one, bounds, existence_from};
+ghost use Rattle.cadl_objects.specs.Clauses.Answers.{ExistenceIs, existence_closed, braced};
 
 use lexis::runs::same_bytes;
 use lexis::tokens::token_at;
@@ -25,8 +25,8 @@ pub enum ExistenceRead {
 
 // `matches {` from a place on, where the next token is t.
 pub fn opening(s: &[u8], from: usize, t: Token) -> Expected
-    requires { TokenIs s.now from (tokenAt s.now from) t }
-    ensures { ExpectIs s.now openBrace from (opening s.now from) result }
+    requires { TokenIs s.now from (token_at s.now from) t }
+    ensures { ExpectIs s.now open_brace from (opening s.now from) result }
 {
     if t.sort != MATCHES {
         let fault = syntax_fault(t);
@@ -51,7 +51,7 @@ fn spells(s: &[u8], t: Token, w: &[u8]) -> bool
 // Behind `0`: nothing more, `..0` or `..1`.
 fn from_nought(s: &[u8], from: usize) -> ExistenceRead
     requires { from ≤ length s.now }
-    ensures { ExistenceIs s.now from (fromNought s.now from) result }
+    ensures { ExistenceIs s.now from (from_nought s.now from) result }
 {
     let t = token_at(s, from);
     if t.sort != DOTS {
@@ -80,7 +80,7 @@ fn from_nought(s: &[u8], from: usize) -> ExistenceRead
 // Behind `1`: nothing more or `..1`.
 fn from_one(s: &[u8], from: usize) -> ExistenceRead
     requires { from ≤ length s.now }
-    ensures { ExistenceIs s.now from (fromOne s.now from) result }
+    ensures { ExistenceIs s.now from (from_one s.now from) result }
 {
     let t = token_at(s, from);
     if t.sort != DOTS {
@@ -119,7 +119,7 @@ fn bounds(s: &[u8], from: usize) -> ExistenceRead
 // The `}` of an existence.
 fn closing(s: &[u8], flag: u8, from: usize) -> ExistenceRead
     requires { (from ≤ length s.now) × (flag ≤ 2) }
-    ensures { ExistenceIs s.now from (existenceClosed s.now flag from) result }
+    ensures { ExistenceIs s.now from (existence_closed s.now flag from) result }
 {
     match expect(s, CLOSE_BRACE, from) {
         Expected::Fault(fault) => {
@@ -155,8 +155,8 @@ fn braced(s: &[u8], from: usize) -> ExistenceRead
 // The existence from a place behind a NAME on, where the next token is t; 1..1 where there is none.
 pub fn existence_from(s: &[u8], from: usize, t: Token) -> ExistenceRead
     requires from_in_bounds { from ≤ length s.now }
-    requires token_is { TokenIs s.now from (tokenAt s.now from) t }
-    ensures { ExistenceIs s.now from (existenceFrom s.now from) result }
+    requires token_is { TokenIs s.now from (token_at s.now from) t }
+    ensures { ExistenceIs s.now from (existence_from s.now from) result }
 {
     if t.sort == EXISTENCE {
         return braced(s, t.end);

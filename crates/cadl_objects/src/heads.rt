@@ -1,10 +1,10 @@
 // What objects and attributes begin with: a TYPE, a code or a NAME, up to the opening brace.
 ghost use Rattle.std.specs.Prelude.{◌≤◌, length};
-ghost use Rattle.lexis.specs.Tokens.{tokenAt};
-ghost use Rattle.lexis.specs.contracts.Answers.{TokenIs};
-ghost use Rattle.cadl_items.specs.contracts.Spans.{earlier, SpansIn};
-ghost use Rattle.cadl_objects.specs.contracts.Told.{objectType, attributeName};
-ghost use Rattle.cadl_objects.specs.contracts.Answers.{Counted, WordIs, CodeIs, OpenedIs, ObjectHeadIs, NamedIs, AttributeHeadIs};
+ghost use Rattle.lexis.specs.Tokens.{token_at};
+ghost use Rattle.lexis.specs.Clauses.Answers.{TokenIs};
+ghost use Rattle.cadl_items.specs.Clauses.Spans.{earlier, SpansIn};
+ghost use Rattle.cadl_objects.specs.Clauses.Told.{object_type, attribute_name};
+ghost use Rattle.cadl_objects.specs.Clauses.Answers.{Counted, WordIs, CodeIs, OpenedIs, ObjectHeadIs, NamedIs, AttributeHeadIs};
 
 use crate::existence::{ExistenceRead, existence_from, opening};
 use cadl_items::spans::repeated;
@@ -56,7 +56,7 @@ const BRACKETS: usize = 2;
 // A TYPE that starts an object, where so many levels are left.
 fn object_type(s: &[u8], levels: usize, next: usize, from: usize) -> Expected
     requires { Counted s.now next from }
-    ensures { WordIs s.now next from (objectType s.now levels next from) result }
+    ensures { WordIs s.now next from (object_type s.now levels next from) result }
 {
     match expect(s, TYPE_NAME, from) {
         Expected::Fault(fault) => {
@@ -120,7 +120,7 @@ fn attribute_name(
     requires counted { Counted s.now next from }
     requires spans_in { SpansIn s.now names.now first top }
     ensures { WordIs s.now next from
-        (attributeName s.now (earlier s.now names.now first top) next from) result }
+        (attribute_name s.now (earlier s.now names.now first top) next from) result }
 {
     match expect(s, NAME, from) {
         Expected::Fault(fault) => {
@@ -199,8 +199,8 @@ pub fn object_head(s: &[u8], levels: usize, next: usize, from: usize) -> ObjectH
 // The token from a place on, which is u where the place is the one that u was read from.
 fn token_behind(s: &[u8], from: usize, u: Token, place: usize) -> Token
     requires place_in_bounds { place ≤ length s.now }
-    requires token_is { TokenIs s.now from (tokenAt s.now from) u }
-    ensures { TokenIs s.now place (tokenAt s.now place) result }
+    requires token_is { TokenIs s.now from (token_at s.now from) u }
+    ensures { TokenIs s.now place (token_at s.now place) result }
 {
     if place == from {
         return u;
@@ -210,7 +210,7 @@ fn token_behind(s: &[u8], from: usize, u: Token, place: usize) -> Token
 
 // The opening brace of an attribute whose name and existence are read, where the next token is u.
 fn attribute_opening(s: &[u8], t: Token, flag: u8, from: usize, u: Token) -> AttributeHeadRead
-    requires { TokenIs s.now from (tokenAt s.now from) u }
+    requires { TokenIs s.now from (token_at s.now from) u }
     ensures { NamedIs s.now t flag from result }
 {
     match opening(s, from, u) {

@@ -7,80 +7,80 @@ use native.Mathlib.Omega.{arith}
 use lib.ListN.{length}
 use lib.Seq.{sets}
 use Rattle.lexis.specs.Runs.{part}
-use Rattle.lexis.specs.Spelling.{closeBrace}
+use Rattle.lexis.specs.Spelling.{close_brace}
 use Rattle.lexis.specs.declared.Token.{Token}
 use Rattle.lexis.proofs.Parts.{part_length}
 use Rattle.lexis.proofs.Stores.{sets_behind}
-use Rattle.refusals.specs.Reading.{Reading, refused, got, readThen}
+use Rattle.refusals.specs.Reading.{Reading, refused, got, read_then}
 use Rattle.refusals.specs.Expecting.{expect}
 use Rattle.refusals.specs.declared.Refusal.{Refusal}
 use Rattle.refusals.proofs.Readings.{Holds}
 use Rattle.meaning.specs.Constraints.{Value}
-use Rattle.meaning.specs.Counting.{valuePool}
-use Rattle.cadl_items.specs.contracts.Spans.{first_of, second_of, earlier, SpansIn}
-use Rattle.cadl_items.specs.contracts.Items.{Kept}
+use Rattle.meaning.specs.Counting.{value_pool}
+use Rattle.cadl_items.specs.Clauses.Spans.{first_of, second_of, earlier, SpansIn}
+use Rattle.cadl_items.specs.Clauses.Items.{Kept}
 use Rattle.cadl_items.proofs.ItemLaws.{item-first, item-second, item-kept, first-kept, second-kept, all-kept}
-use Rattle.cadl_objects.specs.Objects.{Attribute, pastAttribute}
-use Rattle.cadl_objects.specs.contracts.Told.{value, attributeFrom}
-use Rattle.cadl_objects.specs.contracts.Answers.{NamedAttribute, attributeHead, namedReading, NamedPast, AttributeHeadIs}
+use Rattle.cadl_objects.specs.Objects.{Attribute, past_attribute}
+use Rattle.cadl_objects.specs.Clauses.Told.{value, attribute_from}
+use Rattle.cadl_objects.specs.Clauses.Answers.{NamedAttribute, attribute_head, named_reading, NamedPast, AttributeHeadIs}
 use Rattle.cadl_objects.specs.declared.heads.AttributeHeadRead.{AttributeHeadRead}
-use Rattle.cadl_objects.specs.declared.heads.AttributeHeadRead.TheVariants as attributeHeadRead
+use Rattle.cadl_objects.specs.declared.heads.AttributeHeadRead.TheVariants as attribute_head_read
 use Rattle.cadl_objects.proofs.TreeReading.{ValueRead, AttributeRead, value-holds}
-use Rattle.table.specs.Records.{recordSize, encodes}
-use Rattle.compile_flatten.specs.Flatten.{valueLink, valueTable}
-use Rattle.compile_emission.specs.contracts.Answers.{spot, written, linkBelow, Room, PartFits, NameRoom, NameKept, attributeRow, nextLink, closedAttribute, CloseIs, CloseRoom}
-use Rattle.compile.specs.contracts.Answers.{TreeIs, Stacked, attributeWritten, Pushed, AttributeIs, AttributeRoom}
+use Rattle.table.specs.Records.{record_size, encodes}
+use Rattle.compile_flatten.specs.Flatten.{value_link, value_table}
+use Rattle.compile_emission.specs.Clauses.Answers.{spot, written, link_below, Room, PartFits, NameRoom, NameKept, attribute_row, next_link, closed_attribute, CloseIs, CloseRoom}
+use Rattle.compile.specs.Clauses.Answers.{TreeIs, Stacked, attribute_written, Pushed, AttributeIs, AttributeRoom}
 use Rattle.compile_emission.specs.declared.spots.Spot.{Spot}
 use Rattle.compile_emission.specs.declared.spots.TreeRead.{TreeRead}
 use Rattle.compile_emission.specs.declared.spots.TreeRead.TheVariants.{Refused, Read}
-use Rattle.compile_emission.specs.declared.spots.AttributeRead as attributeReads
-use Rattle.compile_emission.specs.declared.spots.AttributeRead.TheVariants as attributeRead
+use Rattle.compile_emission.specs.declared.spots.AttributeRead as attribute_reads
+use Rattle.compile_emission.specs.declared.spots.AttributeRead.TheVariants as attribute_read
 use Rattle.compile_flatten.proofs.FlattenLaws.{value-length}
 use Rattle.compile_emission.proofs.TreeWriting.{row_below, IsTree, is-tree, is-refused, tree-room, value-link}
-use Rattle.compile.proofs.ReadingLaws.{behindName, attribute-by}
+use Rattle.compile.proofs.ReadingLaws.{behind_name, attribute-by}
 
 -- ---- an attribute
 
 abbrev pub AttributeOf : List ℕ → ℕ → Spot → ℕ → ℕ → List ℕ → Reading Attribute
-AttributeOf s levels p first top names = attributeFrom s levels (earlier s names first top) p.next p.place
+AttributeOf s levels p first top names = attribute_from s levels (earlier s names first top) p.next p.place
 
-abbrev attributeAs : ℕ → List ℕ → Value → Attribute
-attributeAs flag w v = record { existence = flag; name = w; value = v }
+abbrev attribute_as : ℕ → List ℕ → Value → Attribute
+attribute_as flag w v = record { existence = flag; name = w; value = v }
 
 -- an attribute's record below its value's, and its `}`
 attribute-written : (s : List ℕ) (little : Bool) (p : Spot) (flag : ℕ) (w : List ℕ) (v : Value) (place : ℕ)
     (rs bs : List ℕ) (x : Reading Token)
-    → linkBelow (p.next + 1) (p.next + 1 + length (valueTable v (p.pool + length w))) ≡ valueLink v
-    → closedAttribute s little p flag w
-    (spot place (p.next + 1 + length (valueTable v (p.pool + length w))) (p.pool + length w + length (valuePool v)))
-    (sets rs (recordSize * (p.next + 1)) (encodes little (valueTable v (p.pool + length w))))
-    (sets (sets bs p.pool w) (p.pool + length w) (valuePool v)) x
-    ≡ attributeWritten s little p rs bs (readThen x (λ u at. got (attributeAs flag w v) at))
-unfolding closedAttribute attributeWritten
+    → link_below (p.next + 1) (p.next + 1 + length (value_table v (p.pool + length w))) ≡ value_link v
+    → closed_attribute s little p flag w
+    (spot place (p.next + 1 + length (value_table v (p.pool + length w))) (p.pool + length w + length (value_pool v)))
+    (sets rs (record_size * (p.next + 1)) (encodes little (value_table v (p.pool + length w))))
+    (sets (sets bs p.pool w) (p.pool + length w) (value_pool v)) x
+    ≡ attribute_written s little p rs bs (read_then x (λ u at. got (attribute_as flag w v) at))
+unfolding closed_attribute attribute_written
 attribute-written s little p flag w v place rs bs (refused x) h = refl
 attribute-written s little p flag w v place rs bs (got t at) h =
-    let table = valueTable v (p.pool + length w) in
+    let table = value_table v (p.pool + length w) in
     let next = p.next + 1 + length table in
-    let r = row_below little (attributeRow flag w p.pool (linkBelow (p.next + 1) next) (nextLink s at next)) table p.next rs refl in
-    let b = sets_behind w (valuePool v) bs p.pool (p.pool + length w) refl in
+    let r = row_below little (attribute_row flag w p.pool (link_below (p.next + 1) next) (next_link s at next)) table p.next rs refl in
+    let b = sets_behind w (value_pool v) bs p.pool (p.pool + length w) refl in
     rw (r, b, h)
 
 -- an attribute behind its head has the head's name
 name_of : (s : List ℕ) (levels n : ℕ) (h : NamedAttribute) (r : ℕ) (a : Attribute) (at : ℕ)
-    → behindName s levels n h r ≡ got a at → a.name ≡ h.name
+    → behind_name s levels n h r ≡ got a at → a.name ≡ h.name
 name_of s levels n h r a at e = by (value s levels (n + 1) r) e
   where
     two : (v : Value) (y : Reading Token)
-        → readThen y (λ u z. got (attributeAs h.existence h.name v) z) ≡ got a at → a.name ≡ h.name
+        → read_then y (λ u z. got (attribute_as h.existence h.name v) z) ≡ got a at → a.name ≡ h.name
     two v (refused x) f = let z : ◌≡◌ {A = ℕ} 0 1 = cc in absurd (omega arith)
-    two v (got u z) f = let k : a ≡ attributeAs h.existence h.name v = cc in ap (λ (x : Attribute). x.name) k
+    two v (got u z) f = let k : a ≡ attribute_as h.existence h.name v = cc in ap (λ (x : Attribute). x.name) k
 
     by : (x : Reading Value)
-        → readThen x (λ v y. readThen (expect s closeBrace y) (λ u z. got (attributeAs h.existence h.name v) z))
+        → read_then x (λ v y. read_then (expect s close_brace y) (λ u z. got (attribute_as h.existence h.name v) z))
         ≡ got a at
         → a.name ≡ h.name
     by (refused x) f = let z : ◌≡◌ {A = ℕ} 0 1 = cc in absurd (omega arith)
-    by (got v y) f = two v (expect s closeBrace y) f
+    by (got v y) f = two v (expect s close_brace y) f
 
 -- names that stay
 pub kept-both : {a b : ℕ} {x y z : List ℕ} → a ≤ b → Kept a x y → Kept b y z → Kept a x z
@@ -91,21 +91,21 @@ module _ {s : List ℕ} {p : Spot} {first top : ℕ} {names : List ℕ} (room : 
   abbrev Seen : List (List ℕ)
   Seen = earlier s names first top
 
-  head-is : (k : AttributeHeadRead) → o ≡ k → namedReading s k ≡ attributeHead s Seen p.next p.place
+  head-is : (k : AttributeHeadRead) → o ≡ k → named_reading s k ≡ attribute_head s Seen p.next p.place
   head-is k g = rw g at e.is
 
   module _ (levels : ℕ) where
     refused-is : {little : Bool} {rs bs names' rs' bs' : List ℕ} {x : Refusal} → Kept top names names'
         → AttributeOf s levels p first top names ≡ refused x
-        → AttributeIs s little levels p first top names rs bs names' rs' bs' (attributeRead.Refused x)
-    unfolding attributeWritten
+        → AttributeIs s little levels p first top names rs bs names' rs' bs' (attribute_read.Refused x)
+    unfolding attribute_written
     refused-is k f = record { is = rw f; kept = k; pushed = λ a at g. let z : ◌≡◌ {A = ℕ} 0 1 = cc in absurd (omega arith) }
 
-    pub attribute-faulty : (little : Bool) (rs bs : List ℕ) (x : Refusal) → o ≡ attributeHeadRead.Faulty x
-        → AttributeIs s little levels p first top names rs bs names rs bs (attributeRead.Refused x)
+    pub attribute-faulty : (little : Bool) (rs bs : List ℕ) (x : Refusal) → o ≡ attribute_head_read.Faulty x
+        → AttributeIs s little levels p first top names rs bs names rs bs (attribute_read.Refused x)
     attribute-faulty little rs bs x g = refused-is (all-kept names top) (attribute-by s levels Seen p.next p.place ∙ rw (← head-is _ g))
 
-  module _ {start end flag next : ℕ} (g : o ≡ attributeHeadRead.Head start end flag next) where
+  module _ {start end flag next : ℕ} (g : o ≡ attribute_head_read.Head start end flag next) where
     named_past : NamedPast s p.next p.place start end flag next
     named_past = rw g at e.past
 
@@ -135,11 +135,11 @@ module _ {s : List ℕ} {p : Spot} {first top : ℕ} {names : List ℕ} (room : 
 
       module _ (levels : ℕ) (little : Bool) (rs : List ℕ) {names2 rs2 bs2 : List ℕ} {r : TreeRead}
           (d : TreeIs (top + 1) names1 names2
-          (written valueTable valuePool little q rs bs1 (value s levels q.next q.place)) rs2 bs2 r) where
+          (written value_table value_pool little q rs bs1 (value s levels q.next q.place)) rs2 bs2 r) where
         abbrev inside : Reading Value
         inside = value s levels (p.next + 1) next
 
-        head_read : AttributeOf s levels p first top names ≡ behindName s levels p.next
+        head_read : AttributeOf s levels p first top names ≡ behind_name s levels p.next
             (record { name = word; existence = flag }) next
         head_read = attribute-by s levels Seen p.next p.place ∙ rw (← head-is _ g)
 
@@ -150,28 +150,28 @@ module _ {s : List ℕ} {p : Spot} {first top : ℕ} {names : List ℕ} (room : 
         same-value = ap (λ (y : Spot). value s levels y.next y.place) put.spot
 
         pub value-refused : (x : Refusal) → r ≡ Refused x
-            → AttributeIs s little levels p first top names rs bs names2 rs2 bs2 (attributeRead.Refused x)
+            → AttributeIs s little levels p first top names rs bs names2 rs2 bs2 (attribute_read.Refused x)
         value-refused x k =
-            let f = is-refused valueTable valuePool little q rs bs1 rs2 bs2 x _ (rw k at d.is) in
+            let f = is-refused value_table value_pool little q rs bs1 rs2 bs2 x _ (rw k at d.is) in
             refused-is levels still (head_read ∙ rw (← same-value, f))
 
         module _ {v : Spot} (k : r ≡ Read v) where
-          read : IsTree valueTable valuePool little q rs bs1 rs2 bs2 v (value s levels q.next q.place)
-          read = is-tree valueTable valuePool little q rs bs1 rs2 bs2 v _ (rw k at d.is)
+          read : IsTree value_table value_pool little q rs bs1 rs2 bs2 v (value s levels q.next q.place)
+          read = is-tree value_table value_pool little q rs bs1 rs2 bs2 v _ (rw k at d.is)
 
           value-is : inside ≡ got read.tree v.place
           value-is = sym same-value ∙ read.is
 
-          spot_is : v ≡ spot v.place (p.next + 1 + length (valueTable read.tree (p.pool + length word)))
-              (p.pool + length word + length (valuePool read.tree))
-          spot_is = read.spot ∙ ap (λ (y : Spot). spot v.place (y.next + length (valueTable read.tree y.pool)) (y.pool + length (valuePool read.tree))) put.spot
+          spot_is : v ≡ spot v.place (p.next + 1 + length (value_table read.tree (p.pool + length word)))
+              (p.pool + length word + length (value_pool read.tree))
+          spot_is = read.spot ∙ ap (λ (y : Spot). spot v.place (y.next + length (value_table read.tree y.pool)) (y.pool + length (value_pool read.tree))) put.spot
 
-          records-are : rs2 ≡ sets rs (recordSize * (p.next + 1))
-              (encodes little (valueTable read.tree (p.pool + length word)))
-          records-are = read.records ∙ ap (λ (y : Spot). sets rs (recordSize * y.next) (encodes little (valueTable read.tree y.pool))) put.spot
+          records-are : rs2 ≡ sets rs (record_size * (p.next + 1))
+              (encodes little (value_table read.tree (p.pool + length word)))
+          records-are = read.records ∙ ap (λ (y : Spot). sets rs (record_size * y.next) (encodes little (value_table read.tree y.pool))) put.spot
 
-          bytes-are : bs2 ≡ sets (sets bs p.pool word) (p.pool + length word) (valuePool read.tree)
-          bytes-are = read.bytes ∙ λ i. sets (put.bytes i) (put.spot i).pool (valuePool read.tree)
+          bytes-are : bs2 ≡ sets (sets bs p.pool word) (p.pool + length word) (value_pool read.tree)
+          bytes-are = read.bytes ∙ λ i. sets (put.bytes i) (put.spot i).pool (value_pool read.tree)
 
           read-in : ValueRead s (p.next + 1) next read.tree v.place
           unfolding Holds
@@ -182,20 +182,20 @@ module _ {s : List ℕ} {p : Spot} {first top : ℕ} {names : List ℕ} (room : 
               let h = named_past in
               let x = spot next (p.next + 1) (p.pool + length word) in
               let w : Room s x = rw put.spot at value-stacked.room in
-              let n : v.next ≡ p.next + 1 + length (valueTable read.tree (p.pool + length word)) = ap (λ (y : Spot). y.next) spot_is in
+              let n : v.next ≡ p.next + 1 + length (value_table read.tree (p.pool + length word)) = ap (λ (y : Spot). y.next) spot_is in
               record {
                 lies = name-fits.lies;
-                bytes = let m : v.pool ≡ p.pool + length word + length (valuePool read.tree) = ap (λ (y : Spot). y.pool) spot_is in omega (arith, part_length s start end name-fits.lies.inside);
-                room = tree-room {p = x} {q = v} (valueTable read.tree (p.pool + length word)) w read-in (value-length read.tree (p.pool + length word)) spot_is;
+                bytes = let m : v.pool ≡ p.pool + length word + length (value_pool read.tree) = ap (λ (y : Spot). y.pool) spot_is in omega (arith, part_length s start end name-fits.lies.inside);
+                room = tree-room {p = x} {q = v} (value_table read.tree (p.pool + length word)) w read-in (value-length read.tree (p.pool + length word)) spot_is;
                 order = omega arith;
               }
 
-          link-is : linkBelow (p.next + 1)
-              (p.next + 1 + length (valueTable read.tree (p.pool + length word))) ≡ valueLink read.tree
+          link-is : link_below (p.next + 1)
+              (p.next + 1 + length (value_table read.tree (p.pool + length word))) ≡ value_link read.tree
           link-is = rw (value-length read.tree (p.pool + length word)) (value-link read.tree (p.next + 1) read-in.numbers read-in.proper)
 
-          whole : AttributeOf s levels p first top names ≡ readThen (expect s closeBrace v.place)
-              (λ u at. got (attributeAs flag word read.tree) at)
+          whole : AttributeOf s levels p first top names ≡ read_then (expect s close_brace v.place)
+              (λ u at. got (attribute_as flag word read.tree) at)
           whole = head_read ∙ rw value-is
 
           on_stack : length names ≡ 4_096 → Pushed s names2 top word
@@ -207,13 +207,13 @@ module _ {s : List ℕ} {p : Spot} {first top : ℕ} {names : List ℕ} (room : 
               let b : second_of names2 top ≡ end = second-kept (top + 1) names1 names2 d.kept top (omega arith) ∙ rw put.stack (item-second names top start end l) in
               record { is = λ i. part s (a i) (b i); lies = rw (a, b) name-fits.lies }
 
-          pub value-closed : (rs3 : List ℕ) (z : attributeReads.AttributeRead) → length names ≡ 4_096
+          pub value-closed : (rs3 : List ℕ) (z : attribute_reads.AttributeRead) → length names ≡ 4_096
               → CloseIs s little p flag word v rs2 rs3 z
               → AttributeIs s little levels p first top names rs bs names2 rs3 bs2 z
           value-closed rs3 z long f =
-              let x = expect s closeBrace v.place in
+              let x = expect s close_brace v.place in
               record {
-                is = f.is bs2 ∙ (λ i. closedAttribute s little p flag word (spot_is i) (records-are i) (bytes-are i) x) ∙ attribute-written s little p flag word read.tree v.place rs bs x link-is ∙ ap (attributeWritten s little p rs bs) (sym whole);
+                is = f.is bs2 ∙ (λ i. closed_attribute s little p flag word (spot_is i) (records-are i) (bytes-are i) x) ∙ attribute-written s little p flag word read.tree v.place rs bs x link-is ∙ ap (attribute_written s little p rs bs) (sym whole);
                 kept = still;
                 pushed = λ a at j. rw (name_of s levels p.next (record { name = word; existence = flag }) next a at (sym head_read ∙ j)) (on_stack long);
               }

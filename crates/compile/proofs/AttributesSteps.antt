@@ -10,38 +10,38 @@ use lib.Dec.{eqb}
 use lib.ListN.{length, length-append}
 use lib.Seq.{sets}
 use Rattle.lexis.specs.Runs.{part}
-use Rattle.lexis.specs.Spelling.{closeBrace}
-use Rattle.lexis.specs.Tokens.{tokenAt}
+use Rattle.lexis.specs.Spelling.{close_brace}
+use Rattle.lexis.specs.Tokens.{token_at}
 use Rattle.lexis.proofs.Stores.{sets_behind}
-use Rattle.refusals.specs.Reading.{Reading, refused, got, readThen}
+use Rattle.refusals.specs.Reading.{Reading, refused, got, read_then}
 use Rattle.refusals.specs.declared.Refusal.{Refusal}
 use Rattle.refusals.proofs.Readings.{Holds}
 use Rattle.meaning.specs.Constraints.{Attributes, no_more, attribute}
-use Rattle.meaning.specs.Counting.{attributePool, valuePool, valueRecords}
-use Rattle.cadl_items.specs.contracts.Spans.{first_of, second_of, spanAt, latest, earlier, Within}
-use Rattle.cadl_items.specs.contracts.Items.{Kept}
+use Rattle.meaning.specs.Counting.{attribute_pool, value_pool, value_records}
+use Rattle.cadl_items.specs.Clauses.Spans.{first_of, second_of, span_at, latest, earlier, Within}
+use Rattle.cadl_items.specs.Clauses.Items.{Kept}
 use Rattle.cadl_items.proofs.ItemLaws.{first-kept, second-kept, all-kept}
-use Rattle.cadl_objects.specs.Objects.{Attribute, pastAttribute, head_of}
-use Rattle.cadl_objects.proofs.TreeParts.{goOn}
-use Rattle.cadl_objects.specs.contracts.Told.{value, attributes}
+use Rattle.cadl_objects.specs.Objects.{Attribute, past_attribute, head_of}
+use Rattle.cadl_objects.proofs.TreeParts.{go_on}
+use Rattle.cadl_objects.specs.Clauses.Told.{value, attributes}
 use Rattle.cadl_objects.proofs.TreeReading.{AttributeRead, attribute-holds}
-use Rattle.table.specs.Records.{Record, recordSize, encodes}
-use Rattle.compile_flatten.specs.Flatten.{attributesLink, valueLink, attributesTable, valueTable}
-use Rattle.compile_emission.specs.contracts.Answers.{spot, Wrote, wrote, written, Room, attributeRow, attributeWrote}
-use Rattle.compile.specs.contracts.Answers.{TreeIs, Stacked, attributeWritten, Pushed, AttributeIs, AttributeRoom}
+use Rattle.table.specs.Records.{Record, record_size, encodes}
+use Rattle.compile_flatten.specs.Flatten.{attributes_link, value_link, attributes_table, value_table}
+use Rattle.compile_emission.specs.Clauses.Answers.{spot, Wrote, wrote, written, Room, attribute_row, attribute_wrote}
+use Rattle.compile.specs.Clauses.Answers.{TreeIs, Stacked, attribute_written, Pushed, AttributeIs, AttributeRoom}
 use Rattle.compile_emission.specs.declared.spots.Spot.{Spot}
 use Rattle.compile_emission.specs.declared.spots.TreeRead.TheVariants.{Refused, Read}
-use Rattle.compile_emission.specs.declared.spots.AttributeRead as attributeReads
-use Rattle.compile_emission.specs.declared.spots.AttributeRead.TheVariants as attributeRead
+use Rattle.compile_emission.specs.declared.spots.AttributeRead as attribute_reads
+use Rattle.compile_emission.specs.declared.spots.AttributeRead.TheVariants as attribute_read
 use Rattle.compile_flatten.proofs.FlattenLaws.{value-length}
 use Rattle.compile_emission.proofs.TreeWriting.{counted-value, rows_behind, pool-below}
 use Rattle.compile.proofs.ReadingLaws.{Linked, linked, turn}
 use Rattle.compile.proofs.AttributeSteps.{AttributeOf, kept-both}
 
 -- an attribute that was read, whether the object's `}` follows or not
-abbrev ended : Bool → Spot → attributeReads.AttributeRead
-ended true q = attributeRead.Last q
-ended false q = attributeRead.More q
+abbrev ended : Bool → Spot → attribute_reads.AttributeRead
+ended true q = attribute_read.Last q
+ended false q = attribute_read.More q
 
 -- what an answer says of the attribute that was read
 record IsAttribute (s : List ℕ) (little : Bool) (p : Spot) (rs bs rs' bs' : List ℕ) (last : Bool) (q : Spot)
@@ -49,116 +49,116 @@ record IsAttribute (s : List ℕ) (little : Bool) (p : Spot) (rs bs rs' bs' : Li
   pub a : Attribute
   pub at : ℕ
   pub is : x ≡ got a at
-  pub sort : eqb (tokenAt s at).sort closeBrace ≡ last
-  pub spot : q ≡ spot (cond last (tokenAt s at).end at)
-      (p.next + 1 + length (valueTable a.value (p.pool + length a.name)))
-      (p.pool + length a.name + length (valuePool a.value))
-  pub records : rs' ≡ sets rs (recordSize * p.next)
+  pub sort : eqb (token_at s at).sort close_brace ≡ last
+  pub spot : q ≡ spot (cond last (token_at s at).end at)
+      (p.next + 1 + length (value_table a.value (p.pool + length a.name)))
+      (p.pool + length a.name + length (value_pool a.value))
+  pub records : rs' ≡ sets rs (record_size * p.next)
       (encodes little
-      (attributeRow a.existence a.name p.pool (valueLink a.value)
-      (cond last 0 (p.next + 1 + length (valueTable a.value (p.pool + length a.name))))
-      ∷ valueTable a.value (p.pool + length a.name)))
-  pub bytes : bs' ≡ sets bs p.pool (a.name ++ valuePool a.value)
+      (attribute_row a.existence a.name p.pool (value_link a.value)
+      (cond last 0 (p.next + 1 + length (value_table a.value (p.pool + length a.name))))
+      ∷ value_table a.value (p.pool + length a.name)))
+  pub bytes : bs' ≡ sets bs p.pool (a.name ++ value_pool a.value)
 
 module _ (s : List ℕ) (little : Bool) (p : Spot) (rs bs rs' bs' : List ℕ) where
   is-attribute : (last : Bool) (q : Spot) (x : Reading Attribute)
-      → attributeWrote (ended last q) rs' bs' ≡ attributeWritten s little p rs bs x
+      → attribute_wrote (ended last q) rs' bs' ≡ attribute_written s little p rs bs x
       → IsAttribute s little p rs bs rs' bs' last q x
-  unfolding attributeWritten
+  unfolding attribute_written
   is-attribute true q (refused x) e =
-      let o : attributeRead.Last q ≡ attributeRead.Refused x = ap (λ (w : Wrote attributeReads.AttributeRead). w.answer) e in
+      let o : attribute_read.Last q ≡ attribute_read.Refused x = ap (λ (w : Wrote attribute_reads.AttributeRead). w.answer) e in
       let z : ◌≡◌ {A = ℕ} 0 1 = cc in
       absurd (omega arith)
   is-attribute false q (refused x) e =
-      let o : attributeRead.More q ≡ attributeRead.Refused x = ap (λ (w : Wrote attributeReads.AttributeRead). w.answer) e in
+      let o : attribute_read.More q ≡ attribute_read.Refused x = ap (λ (w : Wrote attribute_reads.AttributeRead). w.answer) e in
       let z : ◌≡◌ {A = ℕ} 0 1 = cc in
       absurd (omega arith)
-  is-attribute last q (got a at) e = by last (eqb (tokenAt s at).sort closeBrace) refl e
+  is-attribute last q (got a at) e = by last (eqb (token_at s at).sort close_brace) refl e
     where
       table : List Record
-      table = valueTable a.value (p.pool + length a.name)
+      table = value_table a.value (p.pool + length a.name)
 
       next : ℕ
       next = p.next + 1 + length table
 
       pool : ℕ
-      pool = p.pool + length a.name + length (valuePool a.value)
+      pool = p.pool + length a.name + length (value_pool a.value)
 
-      by : (last b : Bool) → eqb (tokenAt s at).sort closeBrace ≡ b
-          → attributeWrote (ended last q) rs' bs' ≡ record {
-            answer = cond b (attributeRead.Last (spot (tokenAt s at).end next pool)) (attributeRead.More (spot at next pool));
-            records = sets rs (recordSize * p.next) (encodes little (attributeRow a.existence a.name p.pool (valueLink a.value) (cond b 0 next) ∷ table));
-            bytes = sets bs p.pool (a.name ++ valuePool a.value);
+      by : (last b : Bool) → eqb (token_at s at).sort close_brace ≡ b
+          → attribute_wrote (ended last q) rs' bs' ≡ record {
+            answer = cond b (attribute_read.Last (spot (token_at s at).end next pool)) (attribute_read.More (spot at next pool));
+            records = sets rs (record_size * p.next) (encodes little (attribute_row a.existence a.name p.pool (value_link a.value) (cond b 0 next) ∷ table));
+            bytes = sets bs p.pool (a.name ++ value_pool a.value);
           }
           → IsAttribute s little p rs bs rs' bs' last q (got a at)
       by true true f g =
-          let o : attributeRead.Last q ≡ attributeRead.Last (spot (tokenAt s at).end next pool) = ap (λ (w : Wrote attributeReads.AttributeRead). w.answer) g in
-          record { a = a; at = at; is = refl; sort = f; spot = (cc); records = ap (λ (w : Wrote attributeReads.AttributeRead). w.records) g; bytes = ap (λ (w : Wrote attributeReads.AttributeRead). w.bytes) g }
+          let o : attribute_read.Last q ≡ attribute_read.Last (spot (token_at s at).end next pool) = ap (λ (w : Wrote attribute_reads.AttributeRead). w.answer) g in
+          record { a = a; at = at; is = refl; sort = f; spot = (cc); records = ap (λ (w : Wrote attribute_reads.AttributeRead). w.records) g; bytes = ap (λ (w : Wrote attribute_reads.AttributeRead). w.bytes) g }
       by false false f g =
-          let o : attributeRead.More q ≡ attributeRead.More (spot at next pool) = ap (λ (w : Wrote attributeReads.AttributeRead). w.answer) g in
-          record { a = a; at = at; is = refl; sort = f; spot = (cc); records = ap (λ (w : Wrote attributeReads.AttributeRead). w.records) g; bytes = ap (λ (w : Wrote attributeReads.AttributeRead). w.bytes) g }
+          let o : attribute_read.More q ≡ attribute_read.More (spot at next pool) = ap (λ (w : Wrote attribute_reads.AttributeRead). w.answer) g in
+          record { a = a; at = at; is = refl; sort = f; spot = (cc); records = ap (λ (w : Wrote attribute_reads.AttributeRead). w.records) g; bytes = ap (λ (w : Wrote attribute_reads.AttributeRead). w.bytes) g }
       by true false f g =
-          let o : attributeRead.Last q ≡ attributeRead.More (spot at next pool) = ap (λ (w : Wrote attributeReads.AttributeRead). w.answer) g in
+          let o : attribute_read.Last q ≡ attribute_read.More (spot at next pool) = ap (λ (w : Wrote attribute_reads.AttributeRead). w.answer) g in
           let z : ◌≡◌ {A = ℕ} 0 1 = cc in
           absurd (omega arith)
       by false true f g =
-          let o : attributeRead.More q ≡ attributeRead.Last (spot (tokenAt s at).end next pool) = ap (λ (w : Wrote attributeReads.AttributeRead). w.answer) g in
+          let o : attribute_read.More q ≡ attribute_read.Last (spot (token_at s at).end next pool) = ap (λ (w : Wrote attribute_reads.AttributeRead). w.answer) g in
           let z : ◌≡◌ {A = ℕ} 0 1 = cc in
           absurd (omega arith)
 
   is-not : (y : Refusal) (x : Reading Attribute)
-      → attributeWrote (attributeRead.Refused y) rs' bs' ≡ attributeWritten s little p rs bs x → x ≡ refused y
-  unfolding attributeWritten
-  is-not y (refused x) e = let o : attributeRead.Refused y ≡ attributeRead.Refused x = ap (λ (w : Wrote attributeReads.AttributeRead). w.answer) e in cc
-  is-not y (got a at) e = by _ _ (eqb (tokenAt s at).sort closeBrace) (ap (λ (w : Wrote attributeReads.AttributeRead). w.answer) e)
+      → attribute_wrote (attribute_read.Refused y) rs' bs' ≡ attribute_written s little p rs bs x → x ≡ refused y
+  unfolding attribute_written
+  is-not y (refused x) e = let o : attribute_read.Refused y ≡ attribute_read.Refused x = ap (λ (w : Wrote attribute_reads.AttributeRead). w.answer) e in cc
+  is-not y (got a at) e = by _ _ (eqb (token_at s at).sort close_brace) (ap (λ (w : Wrote attribute_reads.AttributeRead). w.answer) e)
     where
-      by : (u v : Spot) (b : Bool) → attributeRead.Refused y ≡ cond b (attributeRead.Last u) (attributeRead.More v)
+      by : (u v : Spot) (b : Bool) → attribute_read.Refused y ≡ cond b (attribute_read.Last u) (attribute_read.More v)
           → got a at ≡ refused y
       by u v true o = let z : ◌≡◌ {A = ℕ} 0 1 = cc in absurd (omega arith)
       by u v false o = let z : ◌≡◌ {A = ℕ} 0 1 = cc in absurd (omega arith)
 
 -- an attribute that is written, and the attributes behind it
 step : (little : Bool) (p : Spot) (a : Attribute) (place link : ℕ) (rs bs : List ℕ) (rest : Reading Attributes)
-    → ((xs : Attributes) (at : ℕ) → rest ≡ got xs at → attributesLink xs ≡ link)
-    → written attributesTable attributePool little
-    (spot place (p.next + 1 + length (valueTable a.value (p.pool + length a.name)))
-    (p.pool + length a.name + length (valuePool a.value)))
-    (sets rs (recordSize * p.next)
+    → ((xs : Attributes) (at : ℕ) → rest ≡ got xs at → attributes_link xs ≡ link)
+    → written attributes_table attribute_pool little
+    (spot place (p.next + 1 + length (value_table a.value (p.pool + length a.name)))
+    (p.pool + length a.name + length (value_pool a.value)))
+    (sets rs (record_size * p.next)
     (encodes little
-    (attributeRow a.existence a.name p.pool (valueLink a.value) link
-    ∷ valueTable a.value (p.pool + length a.name))))
-    (sets bs p.pool (a.name ++ valuePool a.value)) rest
-    ≡ written attributesTable attributePool little p rs bs
-    (readThen rest (λ xs at. got (attribute (head_of p.next a) a.value xs) at))
-unfolding written attributesTable attributePool
+    (attribute_row a.existence a.name p.pool (value_link a.value) link
+    ∷ value_table a.value (p.pool + length a.name))))
+    (sets bs p.pool (a.name ++ value_pool a.value)) rest
+    ≡ written attributes_table attribute_pool little p rs bs
+    (read_then rest (λ xs at. got (attribute (head_of p.next a) a.value xs) at))
+unfolding written attributes_table attribute_pool
 step little p a place link rs bs (refused x) h = refl
 step little p a place link rs bs (got xs at) h =
     let w = a.name in
     let v = a.value in
-    let table = valueTable v (p.pool + length w) in
+    let table = value_table v (p.pool + length w) in
     let next = p.next + 1 + length table in
-    let pool = p.pool + length w + length (valuePool v) in
-    let more = attributesTable xs pool in
-    let row : ℕ → Record = λ l. attributeRow a.existence w p.pool (valueLink v) l in
+    let pool = p.pool + length w + length (value_pool v) in
+    let more = attributes_table xs pool in
+    let row : ℕ → Record = λ l. attribute_row a.existence w p.pool (value_link v) l in
     let n : next + length more ≡ p.next + suc (length (table ++ more)) = simp length-append (omega arith) in
-    let m : pool + length (attributePool xs) ≡ p.pool + length (w ++ (valuePool v ++ attributePool xs)) = simp length-append (omega arith) in
-    let r : sets (sets rs (recordSize * p.next) (encodes little (row link ∷ table))) (recordSize * next) (encodes little more) ≡ sets rs (recordSize * p.next) (encodes little (row link ∷ (table ++ more)))
+    let m : pool + length (attribute_pool xs) ≡ p.pool + length (w ++ (value_pool v ++ attribute_pool xs)) = simp length-append (omega arith) in
+    let r : sets (sets rs (record_size * p.next) (encodes little (row link ∷ table))) (record_size * next) (encodes little more) ≡ sets rs (record_size * p.next) (encodes little (row link ∷ (table ++ more)))
     = rows_behind little (row link ∷ table) more p.next next rs (refl, counted-value v (p.pool + length w)) (omega arith) in
-    let l : p.pool + length (w ++ valuePool v) ≡ pool = simp length-append (omega arith) in
-    let b : sets (sets bs p.pool (w ++ valuePool v)) pool (attributePool xs) ≡ sets bs p.pool (w ++ (valuePool v ++ attributePool xs))
-    = sets_behind (w ++ valuePool v) (attributePool xs) bs p.pool pool l ∙ ap (λ (y : List ℕ). sets bs p.pool y) (append_assoc w (valuePool v) (attributePool xs)) in
-    let k : attributesLink xs ≡ link = h xs at refl in
+    let l : p.pool + length (w ++ value_pool v) ≡ pool = simp length-append (omega arith) in
+    let b : sets (sets bs p.pool (w ++ value_pool v)) pool (attribute_pool xs) ≡ sets bs p.pool (w ++ (value_pool v ++ attribute_pool xs))
+    = sets_behind (w ++ value_pool v) (attribute_pool xs) bs p.pool pool l ∙ ap (λ (y : List ℕ). sets bs p.pool y) (append_assoc w (value_pool v) (attribute_pool xs)) in
+    let k : attributes_link xs ≡ link = h xs at refl in
     λ i. record {
       answer = Read (spot at (n i) (m i));
-      records = (r ∙ ap (λ (y : ℕ). sets rs (recordSize * p.next) (encodes little (row y ∷ (table ++ more)))) (sym k)) i;
+      records = (r ∙ ap (λ (y : ℕ). sets rs (record_size * p.next) (encodes little (row y ∷ (table ++ more)))) (sym k)) i;
       bytes = b i;
     }
 
 -- no more attributes: nothing more is written
 none_more : (little : Bool) (place next pool : ℕ) (rs bs : List ℕ)
     → wrote (Read (spot place next pool)) rs bs
-    ≡ written attributesTable attributePool little (spot place next pool) rs bs (got no_more place)
-unfolding written attributesTable attributePool
+    ≡ written attributes_table attribute_pool little (spot place next pool) rs bs (got no_more place)
+unfolding written attributes_table attribute_pool
 none_more little place next pool rs bs = rw (add-zero, add-zero)
 
 -- names that are kept, and one more
@@ -179,7 +179,7 @@ module _ {s : List ℕ} {first top : ℕ} {names names' : List ℕ} {w : List �
       let n = top - first in
       let a : top + 1 - first ≡ suc n = omega arith in
       let b : first + n ≡ top = omega arith in
-      let c = latest-kept (spanAt s names') (spanAt s names) first n (λ j l i. part s (first-kept top names names' k j (omega arith) i) (second-kept top names names' k j (omega arith) i)) in
+      let c = latest-kept (span_at s names') (span_at s names) first n (λ j l i. part s (first-kept top names names' k j (omega arith) i) (second-kept top names names' k j (omega arith) i)) in
       rw (a, b, h.is, c)
 
   lies_more : ((i : ℕ) → first ≤ i → i < top → Within s (first_of names i) (second_of names i)) → (i : ℕ) → first ≤ i
@@ -198,9 +198,9 @@ pub record InAttributes (s : List ℕ) (little : Bool) (levels : ℕ) (p : Spot)
   pub order : first ≤ top
   pub enough : length s < q.place + fuel
   pub kept : Kept first names₀ names
-  pub is : written attributesTable attributePool little q rs bs
+  pub is : written attributes_table attribute_pool little q rs bs
       (attributes s levels fuel (earlier s names first top) q.next q.place)
-      ≡ written attributesTable attributePool little p rs₀ bs₀
+      ≡ written attributes_table attribute_pool little p rs₀ bs₀
       (attributes s levels (length s + 1) [] p.next p.place)
 
 pub attributes-start : (s : List ℕ) (little : Bool) (levels : ℕ) {p : Spot} {first : ℕ} (rs bs names : List ℕ)
@@ -219,7 +219,7 @@ attributes-start s little levels {first = first} rs bs names h =
 
 module _ {s : List ℕ} {little : Bool} {levels : ℕ} {p : Spot} {first : ℕ} {rs₀ bs₀ names₀ : List ℕ} {q : Spot}
     {top : ℕ} {rs bs names : List ℕ} (inv : InAttributes s little levels p first rs₀ bs₀ names₀ q top rs bs names)
-    {names' rs' bs' : List ℕ} {r : attributeReads.AttributeRead}
+    {names' rs' bs' : List ℕ} {r : attribute_reads.AttributeRead}
     (d : AttributeIs s little levels q first top names rs bs names' rs' bs' r) where
   abbrev Whole : Reading Attributes
   Whole = attributes s levels (length s + 1) [] p.next p.place
@@ -231,13 +231,13 @@ module _ {s : List ℕ} {little : Bool} {levels : ℕ} {p : Spot} {first : ℕ} 
   still = kept-both inv.order inv.kept d.kept
 
   one-turn : attributes s levels inv.fuel (earlier s names first top) Here q.place
-      ≡ readThen (AttributeOf s levels q first top names)
-      (λ a at. goOn s Here a
-      (attributes s levels (inv.fuel - 1) (a.name ∷ earlier s names first top) (pastAttribute Here a)) at)
+      ≡ read_then (AttributeOf s levels q first top names)
+      (λ a at. go_on s Here a
+      (attributes s levels (inv.fuel - 1) (a.name ∷ earlier s names first top) (past_attribute Here a)) at)
   one-turn = turn s levels inv.fuel (earlier s names first top) Here q.place (let a = inv.enough in let b = inv.room.stacked.room.inside in omega arith)
 
-  pub attributes-not : (x : Refusal) → r ≡ attributeRead.Refused x
-      → TreeIs first names₀ names' (written attributesTable attributePool little p rs₀ bs₀ Whole) rs' bs' (Refused x)
+  pub attributes-not : (x : Refusal) → r ≡ attribute_read.Refused x
+      → TreeIs first names₀ names' (written attributes_table attribute_pool little p rs₀ bs₀ Whole) rs' bs' (Refused x)
   unfolding written
   attributes-not x g =
       let f = is-not s little q rs bs rs' bs' x (AttributeOf s levels q first top names) (rw g at d.is) in
@@ -249,10 +249,10 @@ module _ {s : List ℕ} {little : Bool} {levels : ℕ} {p : Spot} {first : ℕ} 
     read = is-attribute s little q rs bs rs' bs' last z (AttributeOf s levels q first top names) (rw g at d.is)
 
     abbrev Rest : Reading Attributes
-    Rest = attributes s levels (inv.fuel - 1) (read.a.name ∷ earlier s names first top) (pastAttribute Here read.a) read.at
+    Rest = attributes s levels (inv.fuel - 1) (read.a.name ∷ earlier s names first top) (past_attribute Here read.a) read.at
 
-    turned : attributes s levels inv.fuel (earlier s names first top) Here q.place ≡ goOn s Here read.a
-        (attributes s levels (inv.fuel - 1) (read.a.name ∷ earlier s names first top) (pastAttribute Here read.a))
+    turned : attributes s levels inv.fuel (earlier s names first top) Here q.place ≡ go_on s Here read.a
+        (attributes s levels (inv.fuel - 1) (read.a.name ∷ earlier s names first top) (past_attribute Here read.a))
         read.at
     turned = one-turn ∙ rw read.is
 
@@ -260,24 +260,24 @@ module _ {s : List ℕ} {little : Bool} {levels : ℕ} {p : Spot} {first : ℕ} 
     unfolding Holds
     read-in = rw read.is at (attribute-holds s levels Here q.place inv.room.stacked.room.inside (earlier s names first top))
 
-  pub attributes-last : (z : Spot) → r ≡ attributeRead.Last z
-      → TreeIs first names₀ names' (written attributesTable attributePool little p rs₀ bs₀ Whole) rs' bs' (Read z)
-  unfolding written attributesTable attributePool
+  pub attributes-last : (z : Spot) → r ≡ attribute_read.Last z
+      → TreeIs first names₀ names' (written attributes_table attribute_pool little p rs₀ bs₀ Whole) rs' bs' (Read z)
+  unfolding written attributes_table attribute_pool
   attributes-last z g =
       let e = read true z g in
       let a = e.a in
-      let t = tokenAt s e.at in
+      let t = token_at s e.at in
       let f : attributes s levels inv.fuel (earlier s names first top) Here q.place ≡ got (attribute (head_of q.next a) a.value no_more) t.end = turned true z g ∙ rw e.sort in
-      let n = q.next + 1 + length (valueTable a.value (q.pool + length a.name)) in
-      let m = q.pool + length a.name + length (valuePool a.value) in
+      let n = q.next + 1 + length (value_table a.value (q.pool + length a.name)) in
+      let m = q.pool + length a.name + length (value_pool a.value) in
       let w = step little q a t.end 0 rs bs (got no_more t.end) (λ xs at k. let j : no_more ≡ xs = cc in rw (← j)) in
-      let v : wrote (Read z) rs' bs' ≡ written attributesTable attributePool little (spot t.end n m) rs' bs' (got no_more t.end) = ap (λ (y : Spot). wrote (Read y) rs' bs') e.spot ∙ none_more little t.end n m rs' bs' in
+      let v : wrote (Read z) rs' bs' ≡ written attributes_table attribute_pool little (spot t.end n m) rs' bs' (got no_more t.end) = ap (λ (y : Spot). wrote (Read y) rs' bs') e.spot ∙ none_more little t.end n m rs' bs' in
       record {
-        is = v ∙ (λ i. written attributesTable attributePool little (spot t.end n m) (e.records i) (e.bytes i) (got no_more t.end)) ∙ w ∙ rw f at inv.is;
+        is = v ∙ (λ i. written attributes_table attribute_pool little (spot t.end n m) (e.records i) (e.bytes i) (got no_more t.end)) ∙ w ∙ rw f at inv.is;
         kept = still;
       }
 
-  module _ {z : Spot} (g : r ≡ attributeRead.More z) where
+  module _ {z : Spot} (g : r ≡ attribute_read.More z) where
     seen_next : earlier s names' first (top + 1) ≡ (read false z g).a.name ∷ earlier s names first top
     seen_next = names_more inv.order d.kept (d.pushed _ _ (read false z g).is)
 
@@ -297,10 +297,10 @@ module _ {s : List ℕ} {little : Bool} {levels : ℕ} {p : Spot} {first : ℕ} 
         let v = inv.room.stacked.room in
         let l = value-length a.value (q.pool + length a.name) in
         let x : z.place ≡ e.at = ap (λ (y : Spot). y.place) e.spot in
-        let n : z.next ≡ q.next + 1 + length (valueTable a.value (q.pool + length a.name)) = ap (λ (y : Spot). y.next) e.spot in
-        let m : z.pool ≡ q.pool + length a.name + length (valuePool a.value) = ap (λ (y : Spot). y.pool) e.spot in
-        let h = pool-below s q.pool q.place e.at (a.name ++ valuePool a.value) v.bytes (omega (arith, k.least)) k.most k.pool in
-        let i = length-append a.name (valuePool a.value) in
+        let n : z.next ≡ q.next + 1 + length (value_table a.value (q.pool + length a.name)) = ap (λ (y : Spot). y.next) e.spot in
+        let m : z.pool ≡ q.pool + length a.name + length (value_pool a.value) = ap (λ (y : Spot). y.pool) e.spot in
+        let h = pool-below s q.pool q.place e.at (a.name ++ value_pool a.value) v.bytes (omega (arith, k.least)) k.most k.pool in
+        let i = length-append a.name (value_pool a.value) in
         let u = k.room v.records in
         let t = k.most in
         record { inside = omega arith; short = v.short; records = omega arith; bytes = omega arith }
@@ -312,13 +312,13 @@ module _ {s : List ℕ} {little : Bool} {levels : ℕ} {p : Spot} {first : ℕ} 
         let k = read-in false z g in
         let l = value-length a.value (q.pool + length a.name) in
         let x : z.place ≡ e.at = ap (λ (y : Spot). y.place) e.spot in
-        let n : z.next ≡ q.next + 1 + length (valueTable a.value (q.pool + length a.name)) = ap (λ (y : Spot). y.next) e.spot in
+        let n : z.next ≡ q.next + 1 + length (value_table a.value (q.pool + length a.name)) = ap (λ (y : Spot). y.next) e.spot in
         let few : top + 1 ≤ z.next = let f = inv.room.stacked.few in omega arith in
         let rest = Rest false z g in
-        let lk : Linked (q.next + 1 + valueRecords a.value) rest = linked s levels (inv.fuel - 1) (a.name ∷ earlier s names first top) (pastAttribute Here a) e.at in
-        let next = q.next + 1 + length (valueTable a.value (q.pool + length a.name)) in
-        let pool = q.pool + length a.name + length (valuePool a.value) in
-        let t : attributes s levels inv.fuel (earlier s names first top) Here q.place ≡ readThen rest (λ xs at. got (attribute (head_of q.next a) a.value xs) at) = turned false z g ∙ rw e.sort in
+        let lk : Linked (q.next + 1 + value_records a.value) rest = linked s levels (inv.fuel - 1) (a.name ∷ earlier s names first top) (past_attribute Here a) e.at in
+        let next = q.next + 1 + length (value_table a.value (q.pool + length a.name)) in
+        let pool = q.pool + length a.name + length (value_pool a.value) in
+        let t : attributes s levels inv.fuel (earlier s names first top) Here q.place ≡ read_then rest (λ xs at. got (attribute (head_of q.next a) a.value xs) at) = turned false z g ∙ rw e.sort in
         let w = step little q a e.at next rs bs rest (λ xs at y. by rest lk xs at y ∙ ap (λ (j : ℕ). q.next + 1 + j) (sym l)) in
         let same : attributes s levels (inv.fuel - 1) (earlier s names' first (top + 1)) next e.at ≡ rest
         = λ i. attributes s levels (inv.fuel - 1) (seen_next i) (q.next + 1 + l i) e.at in
@@ -328,12 +328,12 @@ module _ {s : List ℕ} {little : Bool} {levels : ℕ} {p : Spot} {first : ℕ} 
           order = let o = inv.order in omega arith;
           enough = let f = inv.enough in let c = k.least in omega arith;
           kept = still;
-          is = (λ i. written attributesTable attributePool little (e.spot i) (e.records i) (e.bytes i) (attributes s levels (inv.fuel - 1) (earlier s names' first (top + 1)) (e.spot i).next (e.spot i).place))
-              ∙ ap (written attributesTable attributePool little (spot e.at next pool) _ _) same ∙ w ∙ rw t at inv.is;
+          is = (λ i. written attributes_table attribute_pool little (e.spot i) (e.records i) (e.bytes i) (attributes s levels (inv.fuel - 1) (earlier s names' first (top + 1)) (e.spot i).next (e.spot i).place))
+              ∙ ap (written attributes_table attribute_pool little (spot e.at next pool) _ _) same ∙ w ∙ rw t at inv.is;
         }
       where
         by : {n : ℕ} (x : Reading Attributes) → Linked n x → (xs : Attributes) (at : ℕ) → x ≡ got xs at
-            → attributesLink xs ≡ n
+            → attributes_link xs ≡ n
         by (refused y) l xs at f = let z : ◌≡◌ {A = ℕ} 0 1 = cc in absurd (omega arith)
         by (got ys y) l xs at f = let z : ys ≡ xs = cc in rw (← z) l
 

@@ -4,8 +4,8 @@ use mathlib.Core.List.{List}
 use Prim.Native.Nat.{ℕ}
 use lib.Dec.{eqb}
 use Rattle.lexis.specs.Runs.{same}
-use Rattle.refusals.proofs.Examples.{isRefusal, is_refused, isGiven}
-use Rattle.compile.specs.Compile.{compileAnswer}
+use Rattle.refusals.proofs.Examples.{is_refusal, is_refused, is_given}
+use Rattle.compile.specs.Compile.{compile_answer}
 
 -- a text, the order asked, the output before; the answer, and the output behind it: a refusal leaves it as it was
 pub data Case : Type 0 where
@@ -14,8 +14,8 @@ pub data Case : Type 0 where
 
 unfoldable pub right : Case → Bool
 right (compiles text little out length after) =
-    let a = compileAnswer text little out in
-    isGiven a.answer (λ l. eqb l length) && same a.out after
+    let a = compile_answer text little out in
+    is_given a.answer (λ l. eqb l length) && same a.out after
 right (refuses text little out number place) =
-    let a = compileAnswer text little out in
-    is_refused a.answer (λ r. isRefusal r number place) && same a.out out
+    let a = compile_answer text little out in
+    is_refused a.answer (λ r. is_refusal r number place) && same a.out out

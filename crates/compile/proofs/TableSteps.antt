@@ -10,17 +10,17 @@ use lib.ListN.{length, drop, length-append}
 use lib.Seq.{sets, take_at}
 use borrow.Author.Tests.{lt-ltb, le-ltb}
 use Rattle.lexis.specs.Runs.{part}
-use Rattle.lexis.specs.Tokens.{textEnd}
+use Rattle.lexis.specs.Tokens.{text_end}
 use Rattle.lexis.specs.declared.Token.{Token}
 use Rattle.lexis.proofs.Stores.{sets_behind}
 use Rattle.lexis.proofs.Parts.{part_length}
-use Rattle.refusals.specs.Limits.{textLimit, levelLimit, recordLimit, poolLimit}
+use Rattle.refusals.specs.Limits.{text_limit, level_limit, record_limit, pool_limit}
 use Rattle.refusals.specs.Refusals.{refusal}
-use Rattle.refusals.specs.Reading.{Reading, refused, got, readThen}
+use Rattle.refusals.specs.Reading.{Reading, refused, got, read_then}
 use Rattle.refusals.specs.Outcomes
-use Rattle.refusals.specs.Outcomes.{gave, unless, afterReading, writes, answered, write}
+use Rattle.refusals.specs.Outcomes.{gave, unless, after_reading, writes, answered, write}
 use Rattle.refusals.specs.Expecting.{expect}
-use Rattle.refusals.specs.contracts.Answers.{ExpectIs}
+use Rattle.refusals.specs.Clauses.Answers.{ExpectIs}
 use Rattle.refusals.specs.declared.Cause.TheVariants.{TextTooLong, OutputTooShort}
 use Rattle.refusals.specs.declared.Refusal.{Refusal}
 use Rattle.refusals.specs.declared.steps.Expected.{Expected}
@@ -29,18 +29,18 @@ use Rattle.refusals.proofs.StepLaws.{expected-fault, expected-token}
 use Rattle.refusals.proofs.Readings.{Holds}
 use Rattle.refusals.proofs.Outcomes.{front-stored}
 use Rattle.meaning.specs.Constraints.{Object}
-use Rattle.meaning.specs.Counting.{objectPool}
-use Rattle.cadl_objects.specs.contracts.Told.{objectFrom}
+use Rattle.meaning.specs.Counting.{object_pool}
+use Rattle.cadl_objects.specs.Clauses.Told.{object_from}
 use Rattle.cadl_objects.proofs.TreeParts.{constraint-is}
 use Rattle.cadl_objects.proofs.TreeReading.{ObjectRead, object-holds}
-use Rattle.table.specs.Records.{Record, recordSize, encode, encodes, bytes_of, make}
-use Rattle.table.specs.contracts.Answers.{plainEntry, recordOf}
+use Rattle.table.specs.Records.{Record, record_size, encode, encodes, bytes_of, make}
+use Rattle.table.specs.Clauses.Answers.{plain_entry, record_of}
 use Rattle.table.specs.declared.records.Entry.{Entry}
 use Rattle.table.proofs.RecordLaws.{length-encode, length-encodes}
-use Rattle.compile_flatten.specs.Flatten.{objectTable, imageOfTree}
-use Rattle.compile.specs.Compile.{tableFor, compileAnswer}
-use Rattle.compile_emission.specs.contracts.Answers.{PartPut, spot, written}
-use Rattle.compile.specs.contracts.Answers.{TreeIs, answer_of, tableWritten, TableRoom, finished}
+use Rattle.compile_flatten.specs.Flatten.{object_table, image_of_tree}
+use Rattle.compile.specs.Compile.{table_for, compile_answer}
+use Rattle.compile_emission.specs.Clauses.Answers.{PartPut, spot, written}
+use Rattle.compile.specs.Clauses.Answers.{TreeIs, answer_of, table_written, TableRoom, finished}
 use Rattle.compile_emission.specs.declared.spots.Spot.{Spot}
 use Rattle.compile_emission.specs.declared.spots.TreeRead.{TreeRead}
 use Rattle.compile_emission.specs.declared.spots.TreeRead.TheVariants.{Refused, Read}
@@ -51,59 +51,59 @@ use Rattle.compile_emission.proofs.TreeWriting.{counted-object, row_below, IsTre
 -- ---- the records and the pool in the output
 
 -- the entry of a header
-pub header-entry-is : (count pool : ℕ) (x : Entry) → x ≡ plainEntry 0 0
-    → recordOf (record { kind = x.kind; flag = x.flag; a = count; b = pool; c = 1; d = x.d; e = x.e })
+pub header-entry-is : (count pool : ℕ) (x : Entry) → x ≡ plain_entry 0 0
+    → record_of (record { kind = x.kind; flag = x.flag; a = count; b = pool; c = 1; d = x.d; e = x.e })
     ≡ make 0 0 (count ∷ pool ∷ 1 ∷ [])
 header-entry-is count pool x g = λ i. record { kind = (g i).kind; flag = (g i).flag; fields = count ∷ pool ∷ 1 ∷ (g i).d ∷ (g i).e ∷ [] }
 
 module _ (little : Bool) (end : ℕ) (q : Spot) (rs bs out : List ℕ) where
-  pub output-short : length out < recordSize * q.next + q.pool
+  pub output-short : length out < record_size * q.next + q.pool
       → answered (Outcomes.refused (refusal OutputTooShort end)) out
-      ≡ write (tableWritten little end q rs bs (length out)) out
-  unfolding tableWritten
-  output-short h = rw (lt-ltb (length out) (recordSize * q.next + q.pool) h)
+      ≡ write (table_written little end q rs bs (length out)) out
+  unfolding table_written
+  output-short h = rw (lt-ltb (length out) (record_size * q.next + q.pool) h)
 
   pub output-written : (rs1 out1 out2 : List ℕ) (a b c d : ℕ) (e : Entry) → TableRoom q → length rs1 ≡ 49_152
-      → length bs ≡ 16_384 → recordSize * q.next + q.pool ≤ length out → a ≡ q.next → b ≡ q.pool
-      → recordOf e ≡ make 0 0 (a ∷ b ∷ 1 ∷ [])
-      → rs1 ≡ sets rs (recordSize * 0) (encode little (recordOf e)) → PartPut rs1 0 (recordSize * q.next) 0 out out1 c
-      → PartPut bs 0 q.pool (recordSize * q.next) out1 out2 d
-      → answered (gave (recordSize * q.next + q.pool)) out2 ≡ write (tableWritten little end q rs bs (length out)) out
-  unfolding tableWritten
+      → length bs ≡ 16_384 → record_size * q.next + q.pool ≤ length out → a ≡ q.next → b ≡ q.pool
+      → record_of e ≡ make 0 0 (a ∷ b ∷ 1 ∷ [])
+      → rs1 ≡ sets rs (record_size * 0) (encode little (record_of e)) → PartPut rs1 0 (record_size * q.next) 0 out out1 c
+      → PartPut bs 0 q.pool (record_size * q.next) out1 out2 d
+      → answered (gave (record_size * q.next + q.pool)) out2 ≡ write (table_written little end q rs bs (length out)) out
+  unfolding table_written
   output-written rs1 out1 out2 a b c d e t lr lb h x y r w f g =
-      let row : recordOf e ≡ make 0 0 (q.next ∷ q.pool ∷ 1 ∷ []) = r ∙ λ i. make 0 0 (x i ∷ y i ∷ 1 ∷ []) in
+      let row : record_of e ≡ make 0 0 (q.next ∷ q.pool ∷ 1 ∷ []) = r ∙ λ i. make 0 0 (x i ∷ y i ∷ 1 ∷ []) in
       let headed = sets rs 0 (encode little (make 0 0 (q.next ∷ q.pool ∷ 1 ∷ []))) in
       let v : rs1 ≡ headed = w ∙ ap (λ (z : Record). sets rs 0 (encode little z)) row in
-      let front = part headed 0 (recordSize * q.next) in
+      let front = part headed 0 (record_size * q.next) in
       let back = part bs 0 q.pool in
-      let n : length front ≡ recordSize * q.next = part_length headed 0 (recordSize * q.next) (rw (← v) (omega arith)) ∙ sub-zero _ in
+      let n : length front ≡ record_size * q.next = part_length headed 0 (record_size * q.next) (rw (← v) (omega arith)) ∙ sub-zero _ in
       let m : length (front ++ back) ≤ length out = rw length-append (omega (arith, part_length bs 0 q.pool (omega arith))) in
       let k : out2 ≡ (front ++ back) ++ drop (length (front ++ back)) out =
-      g.bytes ∙ ap (λ o. sets o (recordSize * q.next) back) (f.bytes ∙ ap (λ l. sets out 0 (part l 0 (recordSize * q.next))) v)
-      ∙ sets_behind front back out 0 (recordSize * q.next) (zero-add _ ∙ n) ∙ front-stored (front ++ back) out m in
-      rw (k, le-ltb (length out) (recordSize * q.next + q.pool) h)
+      g.bytes ∙ ap (λ o. sets o (record_size * q.next) back) (f.bytes ∙ ap (λ l. sets out 0 (part l 0 (record_size * q.next))) v)
+      ∙ sets_behind front back out 0 (record_size * q.next) (zero-add _ ∙ n) ∙ front-stored (front ++ back) out m in
+      rw (k, le-ltb (length out) (record_size * q.next + q.pool) h)
 
 -- ---- the text's end
 
 module _ {text : List ℕ} (q : Spot) {o : Expected}
-    (e : ExpectIs text textEnd q.place (expect text textEnd q.place) o) (little : Bool) (rs bs out : List ℕ) where
+    (e : ExpectIs text text_end q.place (expect text text_end q.place) o) (little : Bool) (rs bs out : List ℕ) where
   pub finish-fault : (x : Refusal) → o ≡ Fault x
       → answered (Outcomes.refused x) out
-      ≡ write (finished little text q rs bs (length out) (expect text textEnd q.place)) out
+      ≡ write (finished little text q rs bs (length out) (expect text text_end q.place)) out
   finish-fault x g = rw (expected-fault e x g)
 
   pub finish-taken : (t : Token) (r : CompileResult) (out1 : List ℕ) → o ≡ Taken t
-      → answered (answer_of r) out1 ≡ write (tableWritten little (length text) q rs bs (length out)) out
+      → answered (answer_of r) out1 ≡ write (table_written little (length text) q rs bs (length out)) out
       → answered (answer_of r) out1
-      ≡ write (finished little text q rs bs (length out) (expect text textEnd q.place)) out
+      ≡ write (finished little text q rs bs (length out) (expect text text_end q.place)) out
   finish-taken t r out1 g h = rw (expected-token e t g) h
 
 -- ---- compiling
 
-pub compile-long : (text out : List ℕ) (little : Bool) → textLimit < length text
-    → answered (Outcomes.refused (refusal TextTooLong textLimit)) out ≡ compileAnswer text little out
-unfolding compileAnswer
-compile-long text out little h = rw (constraint-is text, lt-ltb textLimit (length text) h)
+pub compile-long : (text out : List ℕ) (little : Bool) → text_limit < length text
+    → answered (Outcomes.refused (refusal TextTooLong text_limit)) out ≡ compile_answer text little out
+unfolding compile_answer
+compile-long text out little h = rw (constraint-is text, lt-ltb text_limit (length text) h)
 
 -- what stands in front is taken from where it was put
 front-part : (l xs : List ℕ) (n : ℕ) → n ≡ length xs → n ≤ length l → part (sets l 0 xs) 0 n ≡ xs
@@ -111,65 +111,65 @@ front-part l xs n e h = let k : length xs ≤ length l = omega arith in rw (sub-
 
 -- the table of a tree that is in the scratch
 table_is : (little : Bool) (end place room : ℕ) (o : Object) (rs bs : List ℕ) → length rs ≡ 49_152 → length bs ≡ 16_384
-    → suc (length (objectTable o 0)) ≤ recordLimit → length (objectPool o) ≤ poolLimit
-    → tableWritten little end (spot place (suc (length (objectTable o 0))) (length (objectPool o)))
-    (sets rs (recordSize * 1) (encodes little (objectTable o 0))) (sets bs 0 (objectPool o)) room
-    ≡ tableFor little end room o
-unfolding tableWritten imageOfTree bytes_of
+    → suc (length (object_table o 0)) ≤ record_limit → length (object_pool o) ≤ pool_limit
+    → table_written little end (spot place (suc (length (object_table o 0))) (length (object_pool o)))
+    (sets rs (record_size * 1) (encodes little (object_table o 0))) (sets bs 0 (object_pool o)) room
+    ≡ table_for little end room o
+unfolding table_written image_of_tree bytes_of
 table_is little end place room o rs bs lr lb h k =
-    let t = objectTable o 0 in
-    let b = objectPool o in
+    let t = object_table o 0 in
+    let b = object_pool o in
     let n = suc (length t) in
     let head = make 0 0 (n ∷ length b ∷ 1 ∷ []) in
     let front : List ℕ = encode little head ++ encodes little t in
     let le = length-encode little head refl in
     let lt = length-encodes little t (counted-object o 0) in
-    let lf : recordSize * n ≡ length front = sym (length-append (encode little head) (encodes little t) ∙ omega arith) in
+    let lf : record_size * n ≡ length front = sym (length-append (encode little head) (encodes little t) ∙ omega arith) in
     let first = row_below little head t 0 rs refl in
-    let a : part (sets (sets rs (recordSize * 1) (encodes little t)) 0 (encode little head)) 0 (recordSize * n) ≡ front = rw first (front-part rs front (recordSize * n) lf (omega arith)) in
+    let a : part (sets (sets rs (record_size * 1) (encodes little t)) 0 (encode little head)) 0 (record_size * n) ≡ front = rw first (front-part rs front (record_size * n) lf (omega arith)) in
     let c : part (sets bs 0 b) 0 (length b) ≡ b = front-part bs b (length b) refl (omega arith) in
     let whole : List ℕ = encode little head ++ (encodes little t ++ b) in
-    let lw : recordSize * n + length b ≡ length whole = sym (length-append (encode little head) (encodes little t ++ b) ∙ simp length-append (omega arith)) in
-    let w : part (sets (sets rs (recordSize * 1) (encodes little t)) 0 (encode little head)) 0 (recordSize * n) ++ part (sets bs 0 b) 0 (length b) ≡ whole = (λ i. a i ++ c i) ∙ append_assoc (encode little head) (encodes little t) b in
+    let lw : record_size * n + length b ≡ length whole = sym (length-append (encode little head) (encodes little t ++ b) ∙ simp length-append (omega arith)) in
+    let w : part (sets (sets rs (record_size * 1) (encodes little t)) 0 (encode little head)) 0 (record_size * n) ++ part (sets bs 0 b) 0 (length b) ≡ whole = (λ i. a i ++ c i) ∙ append_assoc (encode little head) (encodes little t) b in
     λ i. unless (ltb room (lw i)) (refusal OutputTooShort end) (gave (writes (w i) (lw i)))
 
-module _ (text : List ℕ) (short : length text ≤ textLimit) (little : Bool) (rs bs names names1 rs1 bs1 out : List ℕ)
+module _ (text : List ℕ) (short : length text ≤ text_limit) (little : Bool) (rs bs names names1 rs1 bs1 out : List ℕ)
     (r : TreeRead)
     (d : TreeIs 0 names names1
-    (written objectTable objectPool little (spot 0 1 0) rs bs (objectFrom text levelLimit 1 0)) rs1 bs1 r) where
+    (written object_table object_pool little (spot 0 1 0) rs bs (object_from text level_limit 1 0)) rs1 bs1 r) where
   pub compile-refused : (x : Refusal) → r ≡ Refused x
-      → answered (Outcomes.refused x) out ≡ compileAnswer text little out
-  unfolding compileAnswer
+      → answered (Outcomes.refused x) out ≡ compile_answer text little out
+  unfolding compile_answer
   compile-refused x g =
-      let f = is-refused objectTable objectPool little (spot 0 1 0) rs bs rs1 bs1 x _ (rw g at d.is) in
-      rw (constraint-is text, le-ltb textLimit (length text) short, f)
+      let f = is-refused object_table object_pool little (spot 0 1 0) rs bs rs1 bs1 x _ (rw g at d.is) in
+      rw (constraint-is text, le-ltb text_limit (length text) short, f)
 
   module _ (q : Spot) (g : r ≡ Read q) where
-    read : IsTree objectTable objectPool little (spot 0 1 0) rs bs rs1 bs1 q (objectFrom text levelLimit 1 0)
-    read = is-tree objectTable objectPool little (spot 0 1 0) rs bs rs1 bs1 q _ (rw g at d.is)
+    read : IsTree object_table object_pool little (spot 0 1 0) rs bs rs1 bs1 q (object_from text level_limit 1 0)
+    read = is-tree object_table object_pool little (spot 0 1 0) rs bs rs1 bs1 q _ (rw g at d.is)
 
     tree : ObjectRead text 1 0 read.tree q.place
     unfolding Holds
-    tree = rw read.is at (object-holds text levelLimit 1 0 (omega arith))
+    tree = rw read.is at (object-holds text level_limit 1 0 (omega arith))
 
-    spot_is : q ≡ spot q.place (suc (length (objectTable read.tree 0))) (length (objectPool read.tree))
+    spot_is : q ≡ spot q.place (suc (length (object_table read.tree 0))) (length (object_pool read.tree))
     spot_is =
-        let e : 0 + length (objectPool read.tree) ≡ length (objectPool read.tree) = omega arith in
-        let f : 1 + length (objectTable read.tree 0) ≡ suc (length (objectTable read.tree 0)) = omega arith in
+        let e : 0 + length (object_pool read.tree) ≡ length (object_pool read.tree) = omega arith in
+        let f : 1 + length (object_table read.tree 0) ≡ suc (length (object_table read.tree 0)) = omega arith in
         read.spot ∙ λ i. spot q.place (f i) (e i)
 
-    next-is : q.next ≡ suc (length (objectTable read.tree 0))
+    next-is : q.next ≡ suc (length (object_table read.tree 0))
     next-is = ap (λ (y : Spot). y.next) spot_is
 
-    pool-is : q.pool ≡ length (objectPool read.tree)
+    pool-is : q.pool ≡ length (object_pool read.tree)
     pool-is = ap (λ (y : Spot). y.pool) spot_is
 
-    records-room : suc (length (objectTable read.tree 0)) ≤ recordLimit
+    records-room : suc (length (object_table read.tree 0)) ≤ record_limit
     records-room = let l = object-length read.tree 0 in let m = tree.room (omega arith) in omega arith
 
-    pool-room : length (objectPool read.tree) ≤ poolLimit
+    pool-room : length (object_pool read.tree) ≤ pool_limit
     pool-room =
-        let l = pool-below text 0 0 q.place (objectPool read.tree) (omega arith) (omega arith) tree.most tree.pool in
+        let l = pool-below text 0 0 q.place (object_pool read.tree) (omega arith) (omega arith) tree.most tree.pool in
         let m = tree.most in
         omega arith
 
@@ -181,16 +181,16 @@ module _ (text : List ℕ) (short : length text ≤ textLimit) (little : Bool) (
 
     pub compile-done : (z : CompileResult) (out1 : List ℕ) → length rs ≡ 49_152 → length bs ≡ 16_384
         → answered (answer_of z) out1
-        ≡ write (finished little text q rs1 bs1 (length out) (expect text textEnd q.place)) out
-        → answered (answer_of z) out1 ≡ compileAnswer text little out
-    unfolding compileAnswer
+        ≡ write (finished little text q rs1 bs1 (length out) (expect text text_end q.place)) out
+        → answered (answer_of z) out1 ≡ compile_answer text little out
+    unfolding compile_answer
     compile-done z out1 lr lb h =
-        h ∙ ap (λ o. write o out) (by (expect text textEnd q.place)) ∙ rw (constraint-is text, le-ltb textLimit (length text) short, read.is)
+        h ∙ ap (λ o. write o out) (by (expect text text_end q.place)) ∙ rw (constraint-is text, le-ltb text_limit (length text) short, read.is)
       where
         by : (x : Reading Token)
             → finished little text q rs1 bs1 (length out) x
-            ≡ afterReading (readThen x (λ t p. got read.tree p)) (tableFor little (length text) (length out))
+            ≡ after_reading (read_then x (λ t p. got read.tree p)) (table_for little (length text) (length out))
         by (refused x) = refl
         by (got t p) =
-            (λ i. tableWritten little (length text) (spot_is i) (read.records i) (read.bytes i) (length out))
+            (λ i. table_written little (length text) (spot_is i) (read.records i) (read.bytes i) (length out))
             ∙ table_is little (length text) q.place (length out) read.tree rs bs lr lb records-room pool-room

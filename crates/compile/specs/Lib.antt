@@ -1,2 +1,2 @@
 pub mod Compile
-pub mod contracts
+pub mod Clauses

@@ -4,8 +4,8 @@ mod output;
 
 ghost use Rattle.std.specs.Prelude.{◌≡◌};
 ghost use Rattle.refusals.specs.Outcomes.{answered};
-ghost use Rattle.compile.specs.Compile.{compileAnswer};
-ghost use Rattle.compile.specs.contracts.Answers.{answer_of};
+ghost use Rattle.compile.specs.Compile.{compile_answer};
+ghost use Rattle.compile.specs.Clauses.Answers.{answer_of};
 
 use crate::objects::read_object;
 use crate::output::finish;
@@ -24,7 +24,7 @@ pub enum CompileResult {
 // Compiles a constraint text into a table in the order asked, with the lowest byte first where `little` holds. A refusal changes no byte of the output.
 pub fn compile(text: &[u8], little: bool, out: &mut [u8]) -> CompileResult
     ensures { answered (answer_of result) out.new
-        ≡ compileAnswer text.now little out.old }
+        ≡ compile_answer text.now little out.old }
 {
     if TEXT_LIMIT < text.len() {
         return CompileResult::Refused(Refusal {

@@ -1,10 +1,10 @@
 // Objects and attributes, read and written; the levels left fall from object to object.
 ghost use Rattle.std.specs.Prelude.{[], ◌+◌, ◌≤◌, length};
-ghost use Rattle.meaning.specs.Counting.{objectPool, attributePool, valuePool};
-ghost use Rattle.cadl_objects.specs.contracts.Told.{value, attributes, objectFrom};
-ghost use Rattle.compile_flatten.specs.Flatten.{objectTable, attributesTable, valueTable};
-ghost use Rattle.compile_emission.specs.contracts.Answers.{written};
-ghost use Rattle.compile.specs.contracts.Answers.{Stacked, TreeIs, EndIs, AttributeRoom, AttributeIs};
+ghost use Rattle.meaning.specs.Counting.{object_pool, attribute_pool, value_pool};
+ghost use Rattle.cadl_objects.specs.Clauses.Told.{value, attributes, object_from};
+ghost use Rattle.compile_flatten.specs.Flatten.{object_table, attributes_table, value_table};
+ghost use Rattle.compile_emission.specs.Clauses.Answers.{written};
+ghost use Rattle.compile.specs.Clauses.Answers.{Stacked, TreeIs, EndIs, AttributeRoom, AttributeIs};
 
 use cadl_objects::heads::{AttributeHeadRead, ObjectHeadRead, attribute_head, object_head};
 use compile_emission::heads::{close_attribute, keep_name, open_object};
@@ -48,8 +48,8 @@ pub fn read_object(
 ) -> TreeRead
     requires { Stacked s.now p top }
     ensures { TreeIs top names.old names.new
-        (written objectTable objectPool little p records.old bytes.old
-        (objectFrom s.now levels p.next p.place))
+        (written object_table object_pool little p records.old bytes.old
+        (object_from s.now levels p.next p.place))
         records.new bytes.new result }
 {
     match object_head(s, levels, p.next, p.place) {
@@ -88,7 +88,7 @@ fn read_attributes(
 ) -> TreeRead
     requires { Stacked s.now p first }
     ensures { TreeIs first names.old names.new
-        (written attributesTable attributePool little p records.old bytes.old
+        (written attributes_table attribute_pool little p records.old bytes.old
         (attributes s.now levels (length s.now + 1) [] p.next p.place))
         records.new bytes.new result }
 {
@@ -164,7 +164,7 @@ fn read_value(
 ) -> TreeRead
     requires { Stacked s.now p top }
     ensures { TreeIs top names.old names.new
-        (written valueTable valuePool little p records.old bytes.old
+        (written value_table value_pool little p records.old bytes.old
         (value s.now levels p.next p.place))
         records.new bytes.new result }
 {

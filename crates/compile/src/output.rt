@@ -1,11 +1,11 @@
 // A table from the scratch to the output.
 ghost use Rattle.std.specs.Prelude.{◌≡◌, [], ◌∷◌, ◌≤◌, ◌<◌, length};
 ghost use Rattle.table.specs.Records.{make};
-ghost use Rattle.lexis.specs.Tokens.{textEnd};
+ghost use Rattle.lexis.specs.Tokens.{text_end};
 ghost use Rattle.refusals.specs.Expecting.{expect};
-ghost use Rattle.table.specs.contracts.Answers.{recordOf};
+ghost use Rattle.table.specs.Clauses.Answers.{record_of};
 ghost use Rattle.refusals.specs.Outcomes.{answered, write};
-ghost use Rattle.compile.specs.contracts.Answers.{answer_of, tableWritten, TableRoom, finished};
+ghost use Rattle.compile.specs.Clauses.Answers.{answer_of, table_written, TableRoom, finished};
 
 use crate::CompileResult;
 use cadl_items::spans::narrow;
@@ -23,7 +23,7 @@ const ROOT: u32 = 1;
 
 // A table's header: the number of its records, the bytes of its pool and its root.
 fn header_entry(count: u32, pool: u32) -> Entry
-    ensures { recordOf result ≡ make 0 0 (count ∷ pool ∷ 1 ∷ []) }
+    ensures { record_of result ≡ make 0 0 (count ∷ pool ∷ 1 ∷ []) }
 {
     let mut entry = plain(HEADER_KIND, 0);
     entry.a = count;
@@ -43,7 +43,7 @@ fn write_table(
 ) -> CompileResult
     requires { TableRoom q }
     ensures { answered (answer_of result) out.new
-        ≡ write (tableWritten little end q records.old bytes.now (length out.old))
+        ≡ write (table_written little end q records.old bytes.now (length out.old))
         out.old }
 {
     let size = RECORD_SIZE * q.next;
@@ -79,7 +79,7 @@ pub fn finish(
     ensures { answered (answer_of result) out.new
         ≡ write
         (finished little text.now q records.old bytes.now (length out.old)
-        (expect text.now textEnd q.place))
+        (expect text.now text_end q.place))
         out.old }
 {
     match expect(text, TEXT_END, q.place) {

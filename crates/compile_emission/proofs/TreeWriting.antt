@@ -7,21 +7,21 @@ use native.Mathlib.Omega.{arith}
 use lib.ListN.{length}
 use lib.Seq.{sets}
 use Rattle.lexis.specs.Runs.{part}
-use Rattle.lexis.specs.contracts.Subsequence.{Sub}
+use Rattle.lexis.specs.Clauses.Subsequence.{Sub}
 use Rattle.lexis.proofs.Stores.{sets-sets, sets_behind}
 use Rattle.lexis.proofs.Parts.{sub-length}
 use Rattle.refusals.specs.Reading.{Reading, refused, got}
 use Rattle.refusals.specs.declared.Refusal.{Refusal}
 use Rattle.meaning.specs.Constraints.{RangeSort, Range, Text, Leaf, single, ranges, texts, Object, object, Attributes, no_more, attribute, Value, any, nested, leaf}
-use Rattle.meaning.specs.Admission.{firstRange, firstText}
-use Rattle.meaning.specs.Counting.{rangeNumbers, textNumbers, valueRecords, valueNumbers, objectNumbers, objectRecords, up_from}
-use Rattle.meaning.specs.contracts.Proper.{ProperValue}
+use Rattle.meaning.specs.Admission.{first_range, first_text}
+use Rattle.meaning.specs.Counting.{range_numbers, text_numbers, value_records, value_numbers, object_numbers, object_records, up_from}
+use Rattle.meaning.specs.Clauses.Proper.{ProperValue}
 use Rattle.cadl_items.proofs.LeafReading.{TreeRead}
 use Rattle.lexis.proofs.Parts.{part_length}
-use Rattle.table.specs.Records.{Record, recordSize, fieldCount, encode, encodes}
+use Rattle.table.specs.Records.{Record, record_size, field_count, encode, encodes}
 use Rattle.table.proofs.RecordLaws.{AllCounted, length-encode, length-encodes}
-use Rattle.compile_flatten.specs.Flatten.{rangeRecords, stringRecords, recordsOfLeaf, valueLink, objectTable, attributesTable, valueTable}
-use Rattle.compile_emission.specs.contracts.Answers.{spot, Wrote, wrote, written, linkBelow, Room}
+use Rattle.compile_flatten.specs.Flatten.{range_records, string_records, records_of_leaf, value_link, object_table, attributes_table, value_table}
+use Rattle.compile_emission.specs.Clauses.Answers.{spot, Wrote, wrote, written, link_below, Room}
 use Rattle.compile_emission.specs.declared.spots.Spot.{Spot}
 use Rattle.compile_emission.specs.declared.spots.TreeRead.TheVariants.{Refused, Read}
 use Rattle.compile_emission.specs.declared.spots.TreeRead
@@ -33,33 +33,33 @@ counted-append : (xs ys : List Record) → AllCounted xs → AllCounted ys → A
 counted-append [] ys f g = g
 counted-append (x ∷ xs) ys f g = (f.0, counted-append xs ys f.1 g)
 
-counted-ranges : (sort : RangeSort) (l : List Range) → AllCounted (rangeRecords sort l)
+counted-ranges : (sort : RangeSort) (l : List Range) → AllCounted (range_records sort l)
 counted-ranges sort [] = tt
 counted-ranges sort (x ∷ xs) = (refl, counted-ranges sort xs)
 
-counted-strings : (l : List Text) (pool : ℕ) → AllCounted (stringRecords pool l)
+counted-strings : (l : List Text) (pool : ℕ) → AllCounted (string_records pool l)
 counted-strings [] pool = tt
 counted-strings (x ∷ xs) pool = (refl, counted-strings xs (pool + length x.text))
 
-counted-leaf : (l : Leaf) (pool : ℕ) → AllCounted (recordsOfLeaf pool l)
+counted-leaf : (l : Leaf) (pool : ℕ) → AllCounted (records_of_leaf pool l)
 counted-leaf (single sort n flag) pool = (refl, tt)
 counted-leaf (ranges sort l) pool = counted-ranges sort l
 counted-leaf (texts l) pool = counted-strings l pool
 
 -- every record of a tree has all its fields
 mutual
-  unfolding objectTable attributesTable valueTable
+  unfolding object_table attributes_table value_table
 
-  pub counted-object : (o : Object) (pool : ℕ) → AllCounted (objectTable o pool)
+  pub counted-object : (o : Object) (pool : ℕ) → AllCounted (object_table o pool)
   counted-object (object h xs) pool = (refl, counted-attributes xs (pool + length h.type + length h.code))
 
-  pub counted-attributes : (xs : Attributes) (pool : ℕ) → AllCounted (attributesTable xs pool)
+  pub counted-attributes : (xs : Attributes) (pool : ℕ) → AllCounted (attributes_table xs pool)
   counted-attributes no_more pool = tt
   counted-attributes (attribute h v more) pool =
       let behind = pool + length h.name in
-      (refl, counted-append (valueTable v behind) _ (counted-value v behind) (counted-attributes more _))
+      (refl, counted-append (value_table v behind) _ (counted-value v behind) (counted-attributes more _))
 
-  pub counted-value : (v : Value) (pool : ℕ) → AllCounted (valueTable v pool)
+  pub counted-value : (v : Value) (pool : ℕ) → AllCounted (value_table v pool)
   counted-value any pool = tt
   counted-value (nested o) pool = counted-object o pool
   counted-value (leaf l) pool = counted-leaf l pool
@@ -71,20 +71,20 @@ encodes-append little (x ∷ xs) ys = rw (encodes-append little xs ys, append_as
 
 -- records behind others
 pub rows_behind : (little : Bool) (xs ys : List Record) (n m : ℕ) (out : List ℕ) → AllCounted xs → m ≡ n + length xs
-    → sets (sets out (recordSize * n) (encodes little xs)) (recordSize * m) (encodes little ys)
-    ≡ sets out (recordSize * n) (encodes little (xs ++ ys))
+    → sets (sets out (record_size * n) (encodes little xs)) (record_size * m) (encodes little ys)
+    ≡ sets out (record_size * n) (encodes little (xs ++ ys))
 rows_behind little xs ys n m out f e =
     let l = length-encodes little xs f in
-    sets_behind (encodes little xs) (encodes little ys) out (recordSize * n) (recordSize * m) (omega arith) ∙ ap (λ (x : List ℕ). sets out (recordSize * n) x) (sym (encodes-append little xs ys))
+    sets_behind (encodes little xs) (encodes little ys) out (record_size * n) (record_size * m) (omega arith) ∙ ap (λ (x : List ℕ). sets out (record_size * n) x) (sym (encodes-append little xs ys))
 
 -- a record below others that are written already
-pub row_below : (little : Bool) (r : Record) (xs : List Record) (n : ℕ) (out : List ℕ) → length r.fields ≡ fieldCount
-    → sets (sets out (recordSize * (n + 1)) (encodes little xs)) (recordSize * n) (encode little r)
-    ≡ sets out (recordSize * n) (encodes little (r ∷ xs))
+pub row_below : (little : Bool) (r : Record) (xs : List Record) (n : ℕ) (out : List ℕ) → length r.fields ≡ field_count
+    → sets (sets out (record_size * (n + 1)) (encodes little xs)) (record_size * n) (encode little r)
+    ≡ sets out (record_size * n) (encodes little (r ∷ xs))
 row_below little r xs n out f =
     let l = length-encode little r f in
-    sym (sets-sets (encode little r) (encodes little xs) out (recordSize * n) (recordSize * (n + 1)) (omega arith))
-    ∙ sets_behind (encode little r) (encodes little xs) out (recordSize * n) (recordSize * (n + 1)) (omega arith)
+    sym (sets-sets (encode little r) (encodes little xs) out (record_size * n) (record_size * (n + 1)) (omega arith))
+    ∙ sets_behind (encode little r) (encodes little xs) out (record_size * n) (record_size * (n + 1)) (omega arith)
 
 -- ---- what an answer says of the tree that was read
 
@@ -93,7 +93,7 @@ pub record IsTree {A : Type 0} (table : A → ℕ → List Record) (pool : A →
   pub tree : A
   pub is : x ≡ got tree q.place
   pub spot : q ≡ spot q.place (p.next + length (table tree p.pool)) (p.pool + length (pool tree))
-  pub records : rs' ≡ sets rs (recordSize * p.next) (encodes little (table tree p.pool))
+  pub records : rs' ≡ sets rs (record_size * p.next) (encodes little (table tree p.pool))
   pub bytes : bs' ≡ sets bs p.pool (pool tree)
 
 module _ {A : Type 0} (table : A → ℕ → List Record) (pool : A → List ℕ) (little : Bool) (p : Spot)
@@ -144,17 +144,17 @@ tree-room {s} {p} {q} {bs = bs} table room h l e =
     record { inside = h.most; short = room.short; records = omega arith; bytes = omega arith }
 
 -- the link to a value is the number of its first record, 0 where it has none
-ranges-link : (l : List Range) (n : ℕ) → 1 ≤ length l → rangeNumbers l ≡ up_from n (length l) → firstRange l ≡ n
+ranges-link : (l : List Range) (n : ℕ) → 1 ≤ length l → range_numbers l ≡ up_from n (length l) → first_range l ≡ n
 ranges-link [] n h e = absurd (omega arith)
 ranges-link (x ∷ xs) n h e = cc
 
-texts-link : (l : List Text) (n : ℕ) → 1 ≤ length l → textNumbers l ≡ up_from n (length l) → firstText l ≡ n
+texts-link : (l : List Text) (n : ℕ) → 1 ≤ length l → text_numbers l ≡ up_from n (length l) → first_text l ≡ n
 texts-link [] n h e = absurd (omega arith)
 texts-link (x ∷ xs) n h e = cc
 
-pub value-link : (v : Value) (n : ℕ) → valueNumbers v ≡ up_from n (valueRecords v) → ProperValue v
-    → linkBelow n (n + valueRecords v) ≡ valueLink v
-unfolding valueNumbers valueRecords objectNumbers objectRecords ProperValue
+pub value-link : (v : Value) (n : ℕ) → value_numbers v ≡ up_from n (value_records v) → ProperValue v
+    → link_below n (n + value_records v) ≡ value_link v
+unfolding value_numbers value_records object_numbers object_records ProperValue
 value-link any n e g = sym (pick-none n (n + 0) n (omega arith))
 value-link (nested (object h xs)) n e g = let k : n ≡ h.number = cc in sym (pick-there n _ n h.number (omega arith) (sym k))
 value-link (leaf (single sort m f)) n e g = let k : n ≡ m = cc in sym (pick-there n _ n m (omega arith) (sym k))

@@ -13,21 +13,21 @@ use borrow.Author.Tests.{lt-ltb, le-ltb, ltb-true, ltb-false}
 use Rattle.lexis.specs.Runs.{part}
 use Rattle.lexis.proofs.Stores.{sets_behind}
 use Rattle.meaning.specs.Constraints.{RangeSort, Range}
-use Rattle.meaning.specs.Counting.{textPool}
-use Rattle.meaning.specs.Admission.{firstRange, firstText}
-use Rattle.cadl_items.specs.contracts.Spans.{first_of, second_of, spanAt, Within}
-use Rattle.cadl_items.specs.contracts.Answers.{itemsFrom, rangeAt, textAt, rangeSortOf}
+use Rattle.meaning.specs.Counting.{text_pool}
+use Rattle.meaning.specs.Admission.{first_range, first_text}
+use Rattle.cadl_items.specs.Clauses.Spans.{first_of, second_of, span_at, Within}
+use Rattle.cadl_items.specs.Clauses.Answers.{items_from, range_at, text_at, range_sort_of}
 use Rattle.cadl_items.specs.declared.leaves.RangeSort as declared
-use Rattle.cadl_items.specs.declared.leaves.RangeSort.TheVariants as rangeSort
-use Rattle.values.specs.Integers.{twosComplement}
+use Rattle.cadl_items.specs.declared.leaves.RangeSort.TheVariants as range_sort
+use Rattle.values.specs.Integers.{twos_complement}
 use Rattle.lexis.proofs.Parts.{part_length}
-use Rattle.meaning.specs.Sorts.{rangeRow, textKind}
-use Rattle.table.specs.Records.{Record, recordSize, fieldCount, encode, encodes, make}
-use Rattle.table.specs.contracts.Answers.{plainEntry, recordOf}
+use Rattle.meaning.specs.Sorts.{range_row, text_kind}
+use Rattle.table.specs.Records.{Record, record_size, field_count, encode, encodes, make}
+use Rattle.table.specs.Clauses.Answers.{plain_entry, record_of}
 use Rattle.table.specs.declared.records.Entry.{Entry}
 use Rattle.table.proofs.RecordLaws.{length-encode}
-use Rattle.compile_flatten.specs.Flatten.{placeFor, rangeRecords, stringRecords}
-use Rattle.compile_emission.specs.contracts.Answers.{CopyFits, PartFits, PartPut, pooledPlace, linkBelow, spot, Puts, ListWritingRoom, TextFits, TextPut, TextsRoom, TextsPut}
+use Rattle.compile_flatten.specs.Flatten.{place_for, range_records, string_records}
+use Rattle.compile_emission.specs.Clauses.Answers.{CopyFits, PartFits, PartPut, pooled_place, link_below, spot, Puts, ListWritingRoom, TextFits, TextPut, TextsRoom, TextsPut}
 use Rattle.compile_emission.specs.declared.spots.Spot.{Spot}
 use Rattle.compile_emission.specs.declared.spots.TreeRead.TheVariants.{Read}
 use Rattle.compile_flatten.proofs.FlattenLaws.{strings-length}
@@ -40,11 +40,11 @@ pub pick-none : (a b v : ℕ) → b ≤ a → 0 ≡ cond (ltb a b) v 0
 pick-none a b v h = rw (le-ltb a b h)
 
 -- an end of a closed pair, by its sort
-pub end-integer : (sort : declared.RangeSort) (x r : ℕ) → sort ≡ rangeSort.Integers → r ≡ twosComplement x
-    → r ≡ (rangeRow (rangeSortOf sort)).end x
+pub end-integer : (sort : declared.RangeSort) (x r : ℕ) → sort ≡ range_sort.Integers → r ≡ twos_complement x
+    → r ≡ (range_row (range_sort_of sort)).end x
 end-integer sort x r h e = rw h e
 
-pub end-date : (sort : declared.RangeSort) (x : ℕ) → sort ≡ rangeSort.Dates → x ≡ (rangeRow (rangeSortOf sort)).end x
+pub end-date : (sort : declared.RangeSort) (x : ℕ) → sort ≡ range_sort.Dates → x ≡ (range_row (range_sort_of sort)).end x
 end-date sort x h = rw h
 
 -- ---- a part of the text in the pool
@@ -90,10 +90,10 @@ module _ {s : List ℕ} {start end at : ℕ} {before : List ℕ} (h : CopyFits s
 
 -- a part's place in the pool
 pub place-part : (s : List ℕ) (start end at : ℕ) → Within s start end
-    → pooledPlace start end at ≡ placeFor (part s start end) at
+    → pooled_place start end at ≡ place_for (part s start end) at
 place-part s start end at w = by (ltb start end) refl
   where
-    by : (b : Bool) → ltb start end ≡ b → cond b at 0 ≡ placeFor (part s start end) at
+    by : (b : Bool) → ltb start end ≡ b → cond b at 0 ≡ place_for (part s start end) at
     by true e = rw (part-cons s start end (ltb-true start end e) w.inside)
     by false e = rw (part_none s start end (ltb-false start end e))
 
@@ -101,7 +101,7 @@ place-part s start end at w = by (ltb start end) refl
 
 -- one record
 pub single-put : (little : Bool) (p : Spot) (place kind flag : ℕ) (before after : List ℕ) (e : Entry)
-    → e ≡ plainEntry kind flag → after ≡ sets before (recordSize * p.next) (encode little (recordOf e))
+    → e ≡ plain_entry kind flag → after ≡ sets before (record_size * p.next) (encode little (record_of e))
     → Puts little p place (make kind flag [] ∷ []) 0 before after (Read (spot place (p.next + 1) p.pool))
 single-put little p place kind flag before after e k w = record {
   answer = ap (λ x. Read (spot place (p.next + 1) x)) (sym (add-zero p.pool));
@@ -109,72 +109,72 @@ single-put little p place kind flag before after e k w = record {
 }
 
 -- a record in front of others
-pub front : (little : Bool) (r : Record) (rs : List Record) (n : ℕ) (out : List ℕ) → length r.fields ≡ fieldCount
-    → sets (sets out (recordSize * n) (encode little r)) (recordSize * (n + 1)) (encodes little rs)
-    ≡ sets out (recordSize * n) (encodes little (r ∷ rs))
+pub front : (little : Bool) (r : Record) (rs : List Record) (n : ℕ) (out : List ℕ) → length r.fields ≡ field_count
+    → sets (sets out (record_size * n) (encode little r)) (record_size * (n + 1)) (encodes little rs)
+    ≡ sets out (record_size * n) (encodes little (r ∷ rs))
 front little r rs n out h =
-    sets_behind (encode little r) (encodes little rs) out (recordSize * n) (recordSize * (n + 1)) (let l = length-encode little r h in omega arith)
+    sets_behind (encode little r) (encodes little rs) out (record_size * n) (record_size * (n + 1)) (let l = length-encode little r h in omega arith)
 
 -- ---- integers and dates
 
-items-length : {A : Type 0} (f : ℕ → ℕ → A) (number i n : ℕ) → length (itemsFrom f number i n) ≡ n
-unfolding itemsFrom
+items-length : {A : Type 0} (f : ℕ → ℕ → A) (number i n : ℕ) → length (items_from f number i n) ≡ n
+unfolding items_from
 items-length f number i zero = refl
 items-length f number i (suc n) = ap suc (items-length f (number + 1) (i + 1) n)
 
 first_range : (scratch : List ℕ) (m i k end : ℕ) → end ≡ m + k
-    → firstRange (itemsFrom (rangeAt scratch) m i k) ≡ linkBelow m end
-unfolding itemsFrom
+    → first_range (items_from (range_at scratch) m i k) ≡ link_below m end
+unfolding items_from
 first_range scratch m i zero end e = pick-none m end m (omega arith)
 first_range scratch m i (suc k) end e = pick-there m end m m (omega arith) refl
 
 first-text : (s scratch : List ℕ) (m i k end : ℕ) → end ≡ m + k
-    → firstText (itemsFrom (textAt s scratch) m i k) ≡ linkBelow m end
-unfolding itemsFrom
+    → first_text (items_from (text_at s scratch) m i k) ≡ link_below m end
+unfolding items_from
 first-text s scratch m i zero end e = pick-none m end m (omega arith)
 first-text s scratch m i (suc k) end e = pick-there m end m m (omega arith) refl
 
-ranges-length : (sort : RangeSort) (l : List Range) → length (rangeRecords sort l) ≡ length l
+ranges-length : (sort : RangeSort) (l : List Range) → length (range_records sort l) ≡ length l
 ranges-length sort [] = refl
 ranges-length sort (x ∷ xs) = ap suc (ranges-length sort xs)
 
 -- the record of an integer or a date
-pub range-row : (sort : RangeSort) (low high next a b k : ℕ) (x : Entry) → k ≡ (rangeRow sort).kind → x ≡ plainEntry k 0
-    → a ≡ (rangeRow sort).end low → b ≡ (rangeRow sort).end high
-    → recordOf (record { kind = x.kind; flag = x.flag; a = a; b = b; c = x.c; d = x.d; e = next })
-    ≡ make (rangeRow sort).kind 0 ((rangeRow sort).end low ∷ (rangeRow sort).end high ∷ 0 ∷ 0 ∷ next ∷ [])
+pub range-row : (sort : RangeSort) (low high next a b k : ℕ) (x : Entry) → k ≡ (range_row sort).kind → x ≡ plain_entry k 0
+    → a ≡ (range_row sort).end low → b ≡ (range_row sort).end high
+    → record_of (record { kind = x.kind; flag = x.flag; a = a; b = b; c = x.c; d = x.d; e = next })
+    ≡ make (range_row sort).kind 0 ((range_row sort).end low ∷ (range_row sort).end high ∷ 0 ∷ 0 ∷ next ∷ [])
 range-row sort low high next a b k x e g p q = λ i. record { kind = (ap (λ (y : Entry). y.kind) g ∙ e) i; flag = (g i).flag; fields = p i ∷ q i ∷ (g i).c ∷ (g i).d ∷ next ∷ [] }
 
 -- the record of a string
-pub string-row : (place size next : ℕ) (x : Entry) → x ≡ plainEntry textKind 0
-    → recordOf (record { kind = x.kind; flag = x.flag; a = place; b = size; c = x.c; d = x.d; e = next })
-    ≡ make textKind 0 (place ∷ size ∷ 0 ∷ 0 ∷ next ∷ [])
+pub string-row : (place size next : ℕ) (x : Entry) → x ≡ plain_entry text_kind 0
+    → record_of (record { kind = x.kind; flag = x.flag; a = place; b = size; c = x.c; d = x.d; e = next })
+    ≡ make text_kind 0 (place ∷ size ∷ 0 ∷ 0 ∷ next ∷ [])
 string-row place size next x g = λ i. record { kind = (g i).kind; flag = (g i).flag; fields = place ∷ size ∷ (g i).c ∷ (g i).d ∷ next ∷ [] }
 
 pub range-put : (scratch rs after : List ℕ) (little : Bool) (sort : RangeSort) (i n end next : ℕ) (e : Entry)
-    → next ≡ linkBelow (n + 1) end
-    → recordOf e
-    ≡ make (rangeRow sort).kind 0
-    ((rangeRow sort).end (first_of scratch i) ∷ (rangeRow sort).end (second_of scratch i) ∷ 0 ∷ 0 ∷ next ∷ [])
-    → after ≡ sets rs (recordSize * n) (encode little (recordOf e))
-    → after ≡ sets rs (recordSize * n)
+    → next ≡ link_below (n + 1) end
+    → record_of e
+    ≡ make (range_row sort).kind 0
+    ((range_row sort).end (first_of scratch i) ∷ (range_row sort).end (second_of scratch i) ∷ 0 ∷ 0 ∷ next ∷ [])
+    → after ≡ sets rs (record_size * n) (encode little (record_of e))
+    → after ≡ sets rs (record_size * n)
     (encode little
-    (make (rangeRow sort).kind 0
-    ((rangeRow sort).end (first_of scratch i) ∷ (rangeRow sort).end (second_of scratch i) ∷ 0 ∷ 0 ∷ linkBelow (n + 1) end
+    (make (range_row sort).kind 0
+    ((range_row sort).end (first_of scratch i) ∷ (range_row sort).end (second_of scratch i) ∷ 0 ∷ 0 ∷ link_below (n + 1) end
     ∷ [])))
-range-put scratch rs after little sort i n end next e p q w = w ∙ ap (λ (x : Record). sets rs (recordSize * n) (encode little x)) (q ∙ ap (λ (x : ℕ). make (rangeRow sort).kind 0 ((rangeRow sort).end (first_of scratch i) ∷ (rangeRow sort).end (second_of scratch i) ∷ 0 ∷ 0 ∷ x ∷ [])) p)
+range-put scratch rs after little sort i n end next e p q w = w ∙ ap (λ (x : Record). sets rs (record_size * n) (encode little x)) (q ∙ ap (λ (x : ℕ). make (range_row sort).kind 0 ((range_row sort).end (first_of scratch i) ∷ (range_row sort).end (second_of scratch i) ∷ 0 ∷ 0 ∷ x ∷ [])) p)
 
 -- the items before item i are written: with those that are left the records are what they are to be
-abbrev rangesLeft : Bool → RangeSort → List ℕ → ℕ → ℕ → ℕ → List ℕ → List ℕ
-rangesLeft little sort scratch m i k rs = sets rs (recordSize * m) (encodes little (rangeRecords sort (itemsFrom (rangeAt scratch) m i k)))
+abbrev ranges_left : Bool → RangeSort → List ℕ → ℕ → ℕ → ℕ → List ℕ → List ℕ
+ranges_left little sort scratch m i k rs = sets rs (record_size * m) (encodes little (range_records sort (items_from (range_at scratch) m i k)))
 
 pub record InRanges (little : Bool) (p : Spot) (sort : RangeSort) (scratch : List ℕ) (count end : ℕ) (before : List ℕ)
     (i : ℕ) (rs : List ℕ) : Type 0 where
   pub room : ListWritingRoom p count
   pub ends : end ≡ p.next + count
   pub most : i ≤ count
-  pub is : rangesLeft little sort scratch (p.next + i) i (count - i) rs
-      ≡ rangesLeft little sort scratch p.next 0 count before
+  pub is : ranges_left little sort scratch (p.next + i) i (count - i) rs
+      ≡ ranges_left little sort scratch p.next 0 count before
 
 pub ranges-start : (little : Bool) (p : Spot) (sort : RangeSort) (scratch : List ℕ) (count : ℕ) (before : List ℕ)
     → ListWritingRoom p count → InRanges little p sort scratch count (p.next + count) before 0 before
@@ -186,14 +186,14 @@ ranges-start little p sort scratch count before h =
 module _ {little : Bool} {p : Spot} {sort : RangeSort} {scratch : List ℕ} {count end : ℕ} {before : List ℕ} {i : ℕ}
     {rs : List ℕ} (inv : InRanges little p sort scratch count end before i rs) where
   pub ranges-go-on : (x : List ℕ) (item : ℕ) → i < count
-      → x ≡ sets rs (recordSize * (p.next + i))
+      → x ≡ sets rs (record_size * (p.next + i))
       (encode little
-      (make (rangeRow sort).kind 0
-      ((rangeRow sort).end (first_of scratch item) ∷ (rangeRow sort).end (second_of scratch item) ∷ 0 ∷ 0
-      ∷ linkBelow (p.next + i + 1) end ∷ [])))
+      (make (range_row sort).kind 0
+      ((range_row sort).end (first_of scratch item) ∷ (range_row sort).end (second_of scratch item) ∷ 0 ∷ 0
+      ∷ link_below (p.next + i + 1) end ∷ [])))
       → item ≡ i
       → InRanges little p sort scratch count end before (i + 1) x
-  unfolding itemsFrom
+  unfolding items_from
   ranges-go-on x item h w is =
       let e = rw is at w in
       let k = count - (i + 1) in
@@ -202,17 +202,17 @@ module _ {little : Bool} {p : Spot} {sort : RangeSort} {scratch : List ℕ} {cou
       let j = inv.ends in
       let f = first_range scratch (p.next + i + 1) (i + 1) k end (omega arith) in
       let w = rw (a, f) at inv.is in
-      let row = make (rangeRow sort).kind 0 ((rangeRow sort).end (first_of scratch i) ∷ (rangeRow sort).end (second_of scratch i) ∷ 0 ∷ 0 ∷ linkBelow (p.next + i + 1) end ∷ []) in
-      record { room = inv.room; ends = inv.ends; most = omega arith; is = rw (e, b) (front little row (rangeRecords sort (itemsFrom (rangeAt scratch) (p.next + i + 1) (i + 1) k)) (p.next + i) rs refl ∙ w) }
+      let row = make (range_row sort).kind 0 ((range_row sort).end (first_of scratch i) ∷ (range_row sort).end (second_of scratch i) ∷ 0 ∷ 0 ∷ link_below (p.next + i + 1) end ∷ []) in
+      record { room = inv.room; ends = inv.ends; most = omega arith; is = rw (e, b) (front little row (range_records sort (items_from (range_at scratch) (p.next + i + 1) (i + 1) k)) (p.next + i) rs refl ∙ w) }
 
   pub ranges-end : (place : ℕ) → count ≤ i
-      → Puts little p place (rangeRecords sort (itemsFrom (rangeAt scratch) p.next 0 count)) 0 before rs
+      → Puts little p place (range_records sort (items_from (range_at scratch) p.next 0 count)) 0 before rs
       (Read (spot place end p.pool))
-  unfolding itemsFrom
+  unfolding items_from
   ranges-end place h =
       let a : count - i ≡ 0 = omega arith in
-      let l = ranges-length sort (itemsFrom (rangeAt scratch) p.next 0 count) ∙ items-length (rangeAt scratch) p.next 0 count in
-      let n : end ≡ p.next + length (rangeRecords sort (itemsFrom (rangeAt scratch) p.next 0 count)) = let j = inv.ends in omega arith in
+      let l = ranges-length sort (items_from (range_at scratch) p.next 0 count) ∙ items-length (range_at scratch) p.next 0 count in
+      let n : end ≡ p.next + length (range_records sort (items_from (range_at scratch) p.next 0 count)) = let j = inv.ends in omega arith in
       record { answer = λ t. Read (spot place (n t) (sym (add-zero p.pool) t)); records = rw a at inv.is }
 
 -- ---- strings
@@ -221,39 +221,39 @@ module _ {little : Bool} {p : Spot} {sort : RangeSort} {scratch : List ℕ} {cou
 pub string-put : (s scratch : List ℕ) (i n end at start stop : ℕ) (little : Bool) (rs bs rs' bs' : List ℕ)
     (place size next r : ℕ) (e : Entry) → TextFits s scratch i n at → start ≡ first_of scratch i
     → stop ≡ second_of scratch i
-    → place ≡ pooledPlace start stop at → size ≡ stop - start → next ≡ linkBelow (n + 1) end
-    → recordOf e ≡ make textKind 0 (place ∷ size ∷ 0 ∷ 0 ∷ next ∷ [])
-    → rs' ≡ sets rs (recordSize * n) (encode little (recordOf e)) → PartPut s start stop at bs bs' r
-    → TextPut (spanAt s scratch i) little n end at rs bs rs' bs' r
+    → place ≡ pooled_place start stop at → size ≡ stop - start → next ≡ link_below (n + 1) end
+    → record_of e ≡ make text_kind 0 (place ∷ size ∷ 0 ∷ 0 ∷ next ∷ [])
+    → rs' ≡ sets rs (record_size * n) (encode little (record_of e)) → PartPut s start stop at bs bs' r
+    → TextPut (span_at s scratch i) little n end at rs bs rs' bs' r
 string-put s scratch i n end at start stop little rs bs rs' bs' place size next r e fits a b pl si ne re w put =
     let f : PartFits s start stop at = rw (a, b) fits.part in
-    let h : part s start stop ≡ spanAt s scratch i = λ j. part s (a j) (b j) in
-    let x : place ≡ placeFor (part s start stop) at = pl ∙ place-part s start stop at f.lies in
+    let h : part s start stop ≡ span_at s scratch i = λ j. part s (a j) (b j) in
+    let x : place ≡ place_for (part s start stop) at = pl ∙ place-part s start stop at f.lies in
     let y : size ≡ length (part s start stop) = si ∙ sym (part_length s start stop f.lies.inside) in
     rw (← h) (record {
       behind = put.behind;
-      records = w ∙ ap (λ (q : Record). sets rs (recordSize * n) (encode little q)) (re ∙ λ j. make textKind 0 (x j ∷ y j ∷ 0 ∷ 0 ∷ ne j ∷ []));
+      records = w ∙ ap (λ (q : Record). sets rs (record_size * n) (encode little q)) (re ∙ λ j. make text_kind 0 (x j ∷ y j ∷ 0 ∷ 0 ∷ ne j ∷ []));
       bytes = put.bytes;
     })
 
 -- the strings before item i are written: with those that are left the records and the pool are what they are to be
-abbrev textsLeft : List ℕ → Bool → List ℕ → ℕ → ℕ → ℕ → ℕ → List ℕ → List ℕ
-textsLeft s little scratch m i k pool rs = sets rs (recordSize * m) (encodes little (stringRecords pool (itemsFrom (textAt s scratch) m i k)))
+abbrev texts_left : List ℕ → Bool → List ℕ → ℕ → ℕ → ℕ → ℕ → List ℕ → List ℕ
+texts_left s little scratch m i k pool rs = sets rs (record_size * m) (encodes little (string_records pool (items_from (text_at s scratch) m i k)))
 
-abbrev bytesLeft : List ℕ → List ℕ → ℕ → ℕ → ℕ → ℕ → List ℕ → List ℕ
-bytesLeft s scratch m i k pool bs = sets bs pool (textPool (itemsFrom (textAt s scratch) m i k))
+abbrev bytes_left : List ℕ → List ℕ → ℕ → ℕ → ℕ → ℕ → List ℕ → List ℕ
+bytes_left s scratch m i k pool bs = sets bs pool (text_pool (items_from (text_at s scratch) m i k))
 
 pub record InTexts (s : List ℕ) (little : Bool) (p : Spot) (scratch : List ℕ) (count end : ℕ) (rs₀ bs₀ : List ℕ)
     (i to : ℕ) (rs bs : List ℕ) : Type 0 where
   pub room : TextsRoom s p scratch count
   pub ends : end ≡ p.next + count
   pub most : i ≤ count
-  pub sum : to + length (textPool (itemsFrom (textAt s scratch) (p.next + i) i (count - i)))
-      ≡ p.pool + length (textPool (itemsFrom (textAt s scratch) p.next 0 count))
-  pub records : textsLeft s little scratch (p.next + i) i (count - i) to rs
-      ≡ textsLeft s little scratch p.next 0 count p.pool rs₀
-  pub bytes : bytesLeft s scratch (p.next + i) i (count - i) to bs
-      ≡ bytesLeft s scratch p.next 0 count p.pool bs₀
+  pub sum : to + length (text_pool (items_from (text_at s scratch) (p.next + i) i (count - i)))
+      ≡ p.pool + length (text_pool (items_from (text_at s scratch) p.next 0 count))
+  pub records : texts_left s little scratch (p.next + i) i (count - i) to rs
+      ≡ texts_left s little scratch p.next 0 count p.pool rs₀
+  pub bytes : bytes_left s scratch (p.next + i) i (count - i) to bs
+      ≡ bytes_left s scratch p.next 0 count p.pool bs₀
 
 pub texts-start : (s : List ℕ) (little : Bool) (p : Spot) (scratch : List ℕ) (count : ℕ) (rs bs : List ℕ)
     → TextsRoom s p scratch count → InTexts s little p scratch count (p.next + count) rs bs 0 p.pool rs bs
@@ -265,10 +265,10 @@ texts-start s little p scratch count rs bs h =
 module _ {s : List ℕ} {little : Bool} {p : Spot} {scratch : List ℕ} {count end : ℕ} {rs₀ bs₀ : List ℕ} {i to : ℕ}
     {rs bs : List ℕ} (inv : InTexts s little p scratch count end rs₀ bs₀ i to rs bs) where
   sum_step : i < count
-      → to + (length (spanAt s scratch i) + length
-      (textPool (itemsFrom (textAt s scratch) (p.next + i + 1) (i + 1) (count - (i + 1)))))
-      ≡ p.pool + length (textPool (itemsFrom (textAt s scratch) p.next 0 count))
-  unfolding itemsFrom
+      → to + (length (span_at s scratch i) + length
+      (text_pool (items_from (text_at s scratch) (p.next + i + 1) (i + 1) (count - (i + 1)))))
+      ≡ p.pool + length (text_pool (items_from (text_at s scratch) p.next 0 count))
+  unfolding items_from
   sum_step h = let a : count - i ≡ suc (count - (i + 1)) = omega arith in rw (a, length-append) at inv.sum
 
   pub texts-fit : i < count → TextFits s scratch i (p.next + i) to
@@ -280,36 +280,36 @@ module _ {s : List ℕ} {little : Bool} {p : Spot} {scratch : List ℕ} {count e
       record { few = omega arith; part = record { lies = w; room = omega arith }; short = r.short; records = omega arith }
 
   pub texts-go-on : (rs' bs' : List ℕ) (r : ℕ) → i < count
-      → TextPut (spanAt s scratch i) little (p.next + i) end to rs bs rs' bs' r
+      → TextPut (span_at s scratch i) little (p.next + i) end to rs bs rs' bs' r
       → InTexts s little p scratch count end rs₀ bs₀ (i + 1) r rs' bs'
-  unfolding itemsFrom
+  unfolding items_from
   texts-go-on rs' bs' r h e =
       let k = count - (i + 1) in
-      let w = spanAt s scratch i in
-      let items = itemsFrom (textAt s scratch) (p.next + i + 1) (i + 1) k in
+      let w = span_at s scratch i in
+      let items = items_from (text_at s scratch) (p.next + i + 1) (i + 1) k in
       let a : count - i ≡ suc k = omega arith in
       let b : p.next + (i + 1) ≡ p.next + i + 1 = omega arith in
       let j = inv.ends in
       let f = first-text s scratch (p.next + i + 1) (i + 1) k end (omega arith) in
-      let row = make textKind 0 (placeFor w to ∷ length w ∷ 0 ∷ 0 ∷ linkBelow (p.next + i + 1) end ∷ []) in
+      let row = make text_kind 0 (place_for w to ∷ length w ∷ 0 ∷ 0 ∷ link_below (p.next + i + 1) end ∷ []) in
       record {
         room = inv.room;
         ends = inv.ends;
         most = omega arith;
         sum = let z = sum_step h in let y = e.behind in rw b (omega arith);
-        records = rw (e.records, e.behind, b) (front little row (stringRecords (to + length w) items) (p.next + i) rs refl ∙ rw (a, f) at inv.records);
-        bytes = rw (e.bytes, e.behind, b) (sets_behind w (textPool items) bs to (to + length w) refl ∙ rw a at inv.bytes);
+        records = rw (e.records, e.behind, b) (front little row (string_records (to + length w) items) (p.next + i) rs refl ∙ rw (a, f) at inv.records);
+        bytes = rw (e.bytes, e.behind, b) (sets_behind w (text_pool items) bs to (to + length w) refl ∙ rw a at inv.bytes);
       }
 
   pub texts-end : (place : ℕ) → count ≤ i
       → TextsPut s little p scratch count place rs₀ bs₀ rs bs (Read (spot place end to))
-  unfolding itemsFrom
+  unfolding items_from
   texts-end place h =
-      let items = itemsFrom (textAt s scratch) p.next 0 count in
+      let items = items_from (text_at s scratch) p.next 0 count in
       let a : count - i ≡ 0 = omega arith in
-      let l = strings-length items p.pool ∙ items-length (textAt s scratch) p.next 0 count in
-      let n : end ≡ p.next + length (stringRecords p.pool items) = let j = inv.ends in omega arith in
-      let m : to ≡ p.pool + length (textPool items) = let z = rw a at inv.sum in omega arith in
+      let l = strings-length items p.pool ∙ items-length (text_at s scratch) p.next 0 count in
+      let n : end ≡ p.next + length (string_records p.pool items) = let j = inv.ends in omega arith in
+      let m : to ≡ p.pool + length (text_pool items) = let z = rw a at inv.sum in omega arith in
       record {
         puts = record { answer = λ t. Read (spot place (n t) (m t)); records = rw a at inv.records };
         bytes = rw a at inv.bytes;

@@ -2,13 +2,13 @@
 ghost use Rattle.std.specs.Prelude.{◌≡◌, [], ◌∷◌, ◌+◌, ◌*◌, ◌-◌, ◌≤◌, ◌<◌};
 ghost use Rattle.std.proofs.lemmas.List.Edits.{sets};
 ghost use Rattle.lexis.specs.Runs.{part};
-ghost use Rattle.refusals.specs.Limits.{recordLimit};
-ghost use Rattle.cadl_items.specs.contracts.Spans.{withItem, Within};
-ghost use Rattle.cadl_objects.specs.contracts.Answers.{TypedPast};
-ghost use Rattle.table.specs.Rows.{objectKind, attributeKind};
-ghost use Rattle.table.specs.Records.{recordSize, encode, make};
-ghost use Rattle.table.specs.contracts.Answers.{recordOf};
-ghost use Rattle.compile_emission.specs.contracts.Answers.{pooledPlace, firstLink, ObjectPut, NameRoom, NameKept, attributeRow, CloseRoom, CloseIs, Room, RowRoom, linkBelow};
+ghost use Rattle.refusals.specs.Limits.{record_limit};
+ghost use Rattle.cadl_items.specs.Clauses.Spans.{with_item, Within};
+ghost use Rattle.cadl_objects.specs.Clauses.Answers.{TypedPast};
+ghost use Rattle.table.specs.Rows.{object_kind, attribute_kind};
+ghost use Rattle.table.specs.Records.{record_size, encode, make};
+ghost use Rattle.table.specs.Clauses.Answers.{record_of};
+ghost use Rattle.compile_emission.specs.Clauses.Answers.{pooled_place, first_link, ObjectPut, NameRoom, NameKept, attribute_row, CloseRoom, CloseIs, Room, RowRoom, link_below};
 
 use crate::pool::{place_of, put_part};
 use crate::rows::{link_below, put_row};
@@ -22,8 +22,8 @@ use table::records::{Entry, plain};
 
 // The number of an object's first attribute, 0 where any may follow.
 fn first_link(any: bool, n: usize) -> u32
-    requires { n < recordLimit }
-    ensures { result ≡ firstLink any n }
+    requires { n < record_limit }
+    ensures { result ≡ first_link any n }
 {
     if any {
         return 0;
@@ -42,10 +42,10 @@ fn object_entry(
 ) -> Entry
     requires row_room { RowRoom type_start type_end pool }
     requires row_room_2 { RowRoom code_start code_end (pool + (type_end - type_start)) }
-    ensures { recordOf result
-        ≡ make objectKind 0
-        (pooledPlace type_start type_end pool ∷ (type_end - type_start)
-        ∷ pooledPlace code_start code_end (pool + (type_end - type_start)) ∷ (code_end - code_start) ∷ first
+    ensures { record_of result
+        ≡ make object_kind 0
+        (pooled_place type_start type_end pool ∷ (type_end - type_start)
+        ∷ pooled_place code_start code_end (pool + (type_end - type_start)) ∷ (code_end - code_start) ∷ first
         ∷ []) }
 {
     let type_size = type_end - type_start;
@@ -93,8 +93,8 @@ pub fn open_object(
 
 // Puts a name's two places on the stack.
 fn push(names: &mut [u32; NAMES_ROOM], top: usize, start: u32, end: u32)
-    requires { top < recordLimit }
-    ensures { names.new ≡ withItem names.old top start end }
+    requires { top < record_limit }
+    ensures { names.new ≡ with_item names.old top start end }
 {
     names[2 * top] = start;
     names[2 * top + 1] = end;
@@ -127,8 +127,8 @@ pub fn keep_name(
 // An attribute's record, by its existence, the places of its name, and the links to its value and to the next attribute.
 fn attribute_entry(flag: u8, start: usize, end: usize, pool: usize, value: u32, next: u32) -> Entry
     requires { RowRoom start end pool }
-    ensures { recordOf result
-        ≡ make attributeKind flag (pooledPlace start end pool ∷ (end - start) ∷ value ∷ next ∷ []) }
+    ensures { record_of result
+        ≡ make attribute_kind flag (pooled_place start end pool ∷ (end - start) ∷ value ∷ next ∷ []) }
 {
     let size = end - start;
     let mut entry = plain(ATTRIBUTE_KIND, flag);
@@ -153,12 +153,12 @@ fn put_attribute(
 )
     requires within { Within s.now name_start name_end }
     requires row_room { RowRoom name_start name_end p.pool }
-    requires next_lt_record_limit { (p.next < recordLimit) × (next ≤ recordLimit) }
+    requires next_lt_record_limit { (p.next < record_limit) × (next ≤ record_limit) }
     ensures { records.new
-        ≡ sets records.old (recordSize * p.next)
+        ≡ sets records.old (record_size * p.next)
         (encode little
-        (attributeRow flag (part s.now name_start name_end) p.pool
-        (linkBelow (p.next + 1) end) next)) }
+        (attribute_row flag (part s.now name_start name_end) p.pool
+        (link_below (p.next + 1) end) next)) }
 {
     let value = link_below(p.next + 1, end);
     let entry = attribute_entry(flag, name_start, name_end, p.pool, value, narrow(next));

@@ -1,12 +1,12 @@
 // Leaves, read and written.
 ghost use Rattle.std.specs.Prelude.{◌≡◌};
-ghost use Rattle.lexis.specs.Tokens.{contentTokenAt};
-ghost use Rattle.lexis.specs.contracts.Answers.{TokenIs};
-ghost use Rattle.meaning.specs.Sorts.{singleRow};
-ghost use Rattle.meaning.specs.Counting.{valuePool};
-ghost use Rattle.cadl_items.specs.contracts.Answers.{singleOf};
-ghost use Rattle.compile_flatten.specs.Flatten.{valueTable};
-ghost use Rattle.compile_emission.specs.contracts.Answers.{Room, wrote, written, leafValue};
+ghost use Rattle.lexis.specs.Tokens.{content_token_at};
+ghost use Rattle.lexis.specs.Clauses.Answers.{TokenIs};
+ghost use Rattle.meaning.specs.Sorts.{single_row};
+ghost use Rattle.meaning.specs.Counting.{value_pool};
+ghost use Rattle.cadl_items.specs.Clauses.Answers.{single_of};
+ghost use Rattle.compile_flatten.specs.Flatten.{value_table};
+ghost use Rattle.compile_emission.specs.Clauses.Answers.{Room, wrote, written, leaf_value};
 
 use crate::lists::{put_ranges, put_single, put_strings};
 use crate::spots::{Spot, TreeRead};
@@ -20,7 +20,7 @@ use table::layout::{
 
 // The kind of the record of a leaf of one.
 fn single_kind(sort: SingleSort) -> u8
-    ensures { result ≡ (singleRow (singleOf sort)).kind }
+    ensures { result ≡ (single_row (single_of sort)).kind }
 {
     match sort {
         SingleSort::Booleans => BOOLEAN_KIND,
@@ -40,10 +40,10 @@ pub fn write_leaf(
     bytes: &mut [u8; POOL_ROOM],
 ) -> TreeRead
     requires room { Room s.now p }
-    requires token_is { TokenIs s.now p.place (contentTokenAt s.now p.place) t }
+    requires token_is { TokenIs s.now p.place (content_token_at s.now p.place) t }
     ensures { wrote result records.new bytes.new
-        ≡ written valueTable valuePool little p records.old bytes.old
-        (leafValue s.now p) }
+        ≡ written value_table value_pool little p records.old bytes.old
+        (leaf_value s.now p) }
 {
     let mut scratch: [u32; SCRATCH_ROOM] = [0; SCRATCH_ROOM];
     match read_leaf(s, p.next, p.place, t, &mut scratch) {

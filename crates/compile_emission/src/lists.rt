@@ -1,14 +1,14 @@
 // The items of a leaf, from the scratch to their records.
 ghost use Rattle.std.specs.Prelude.{◌≡◌, [], ◌∷◌, ◌+◌, ◌*◌, ◌<◌};
 ghost use Rattle.std.proofs.lemmas.List.Edits.{sets};
-ghost use Rattle.refusals.specs.Limits.{recordLimit, itemLimit};
-ghost use Rattle.cadl_items.specs.contracts.Spans.{first_of, second_of, spanAt};
-ghost use Rattle.cadl_items.specs.contracts.Answers.{itemsFrom, rangeAt, rangeSortOf};
-ghost use Rattle.meaning.specs.Sorts.{rangeRow, textKind};
-ghost use Rattle.table.specs.Records.{recordSize, encode, make};
-ghost use Rattle.table.specs.contracts.Answers.{recordOf};
-ghost use Rattle.compile_flatten.specs.Flatten.{rangeRecords};
-ghost use Rattle.compile_emission.specs.contracts.Answers.{linkBelow, Puts, ListWritingRoom, TextsRoom, TextFits, TextPut, TextsPut};
+ghost use Rattle.refusals.specs.Limits.{record_limit, item_limit};
+ghost use Rattle.cadl_items.specs.Clauses.Spans.{first_of, second_of, span_at};
+ghost use Rattle.cadl_items.specs.Clauses.Answers.{items_from, range_at, range_sort_of};
+ghost use Rattle.meaning.specs.Sorts.{range_row, text_kind};
+ghost use Rattle.table.specs.Records.{record_size, encode, make};
+ghost use Rattle.table.specs.Clauses.Answers.{record_of};
+ghost use Rattle.compile_flatten.specs.Flatten.{range_records};
+ghost use Rattle.compile_emission.specs.Clauses.Answers.{link_below, Puts, ListWritingRoom, TextsRoom, TextFits, TextPut, TextsPut};
 
 use crate::pool::{place_of, put_part};
 use crate::rows::{link_below, put_row, range_entry};
@@ -20,7 +20,7 @@ use table::records::{Entry, plain};
 
 // The record of a string by its place and length in the pool, and the number of the next one's.
 fn string_entry(place: u32, size: u32, next: u32) -> Entry
-    ensures { recordOf result ≡ make textKind 0 (place ∷ size ∷ 0 ∷ 0 ∷ next ∷ []) }
+    ensures { record_of result ≡ make text_kind 0 (place ∷ size ∷ 0 ∷ 0 ∷ next ∷ []) }
 {
     let mut entry = plain(STRING_KIND, 0);
     entry.a = place;
@@ -38,7 +38,7 @@ pub fn put_single(
     flag: u8,
     place: usize,
 ) -> TreeRead
-    requires { p.next < recordLimit }
+    requires { p.next < record_limit }
     ensures { Puts little p place (make kind flag [] ∷ []) 0 records.old records.new result }
 {
     put_row(records, little, p.next, plain(kind, flag));
@@ -59,13 +59,13 @@ fn put_range(
     n: usize,
     end: usize,
 )
-    requires { (i < itemLimit) × (n < recordLimit) }
+    requires { (i < item_limit) × (n < record_limit) }
     ensures { records.new
-        ≡ sets records.old (recordSize * n)
+        ≡ sets records.old (record_size * n)
         (encode little
-        (make (rangeRow (rangeSortOf sort)).kind 0
-        ((rangeRow (rangeSortOf sort)).end (first_of scratch.now i)
-        ∷ (rangeRow (rangeSortOf sort)).end (second_of scratch.now i) ∷ 0 ∷ 0 ∷ linkBelow (n + 1) end
+        (make (range_row (range_sort_of sort)).kind 0
+        ((range_row (range_sort_of sort)).end (first_of scratch.now i)
+        ∷ (range_row (range_sort_of sort)).end (second_of scratch.now i) ∷ 0 ∷ 0 ∷ link_below (n + 1) end
         ∷ []))) }
 {
     let next = link_below(n + 1, end);
@@ -85,7 +85,7 @@ pub fn put_ranges(
 ) -> TreeRead
     requires { ListWritingRoom p count }
     ensures { Puts little p place
-        (rangeRecords (rangeSortOf sort) (itemsFrom (rangeAt scratch.now) p.next 0 count)) 0
+        (range_records (range_sort_of sort) (items_from (range_at scratch.now) p.next 0 count)) 0
         records.old records.new result }
 {
     let end = p.next + count;
@@ -114,7 +114,7 @@ fn put_string(
     at: usize,
 ) -> usize
     requires { TextFits s.now scratch.now i n at }
-    ensures { TextPut (spanAt s.now scratch.now i) little n end at records.old
+    ensures { TextPut (span_at s.now scratch.now i) little n end at records.old
         bytes.old records.new bytes.new result }
 {
     let start = place(scratch[2 * i]);

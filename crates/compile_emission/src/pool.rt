@@ -1,6 +1,6 @@
 // Bytes copied, and parts of the text in the pool.
 ghost use Rattle.std.specs.Prelude.{◌≡◌, ◌^◌, ◌<◌};
-ghost use Rattle.compile_emission.specs.contracts.Answers.{CopyFits, PartFits, PartPut, pooledPlace};
+ghost use Rattle.compile_emission.specs.Clauses.Answers.{CopyFits, PartFits, PartPut, pooled_place};
 
 use cadl_items::spans::narrow;
 use table::copying::copy_bytes;
@@ -26,7 +26,7 @@ pub fn put_part(s: &[u8], start: usize, end: usize, bytes: &mut [u8; POOL_ROOM],
 // The place in the pool of a part of the text, 0 where it has no byte.
 pub fn place_of(start: usize, end: usize, at: usize) -> u32
     requires { at < 2 ^ 32 }
-    ensures { result ≡ pooledPlace start end at }
+    ensures { result ≡ pooled_place start end at }
 {
     if start < end {
         return narrow(at);

@@ -1,12 +1,12 @@
 // Records, put where their numbers stand.
 ghost use Rattle.std.specs.Prelude.{◌≡◌, [], ◌∷◌, ◌*◌, ◌≤◌, ◌<◌};
 ghost use Rattle.std.proofs.lemmas.List.Edits.{sets};
-ghost use Rattle.refusals.specs.Limits.{recordLimit};
-ghost use Rattle.table.specs.Records.{recordSize, encode, make};
-ghost use Rattle.table.specs.contracts.Answers.{recordOf};
-ghost use Rattle.compile_emission.specs.contracts.Answers.{linkBelow};
-ghost use Rattle.meaning.specs.Sorts.{rangeRow};
-ghost use Rattle.cadl_items.specs.contracts.Answers.{rangeSortOf};
+ghost use Rattle.refusals.specs.Limits.{record_limit};
+ghost use Rattle.table.specs.Records.{record_size, encode, make};
+ghost use Rattle.table.specs.Clauses.Answers.{record_of};
+ghost use Rattle.compile_emission.specs.Clauses.Answers.{link_below};
+ghost use Rattle.meaning.specs.Sorts.{range_row};
+ghost use Rattle.cadl_items.specs.Clauses.Answers.{range_sort_of};
 
 use cadl_items::leaves::RangeSort;
 use cadl_items::spans::narrow;
@@ -17,8 +17,8 @@ use values::integers::twos_complement;
 
 // The number of a record as a link, where it is below another; else 0.
 pub fn link_below(n: usize, end: usize) -> u32
-    requires { n ≤ recordLimit }
-    ensures { result ≡ linkBelow n end }
+    requires { n ≤ record_limit }
+    ensures { result ≡ link_below n end }
 {
     if n < end {
         return narrow(n);
@@ -28,16 +28,16 @@ pub fn link_below(n: usize, end: usize) -> u32
 
 // Puts the record with a number.
 pub fn put_row(records: &mut [u8; RECORDS_ROOM], little: bool, n: usize, entry: Entry)
-    requires { n < recordLimit }
+    requires { n < record_limit }
     ensures { records.new
-        ≡ sets records.old (recordSize * n) (encode little (recordOf entry)) }
+        ≡ sets records.old (record_size * n) (encode little (record_of entry)) }
 {
     put_record(records, RECORD_SIZE * n, little, entry);
 }
 
 // The kind of the records of a list of closed pairs.
 fn range_kind(sort: RangeSort) -> u8
-    ensures { result ≡ (rangeRow (rangeSortOf sort)).kind }
+    ensures { result ≡ (range_row (range_sort_of sort)).kind }
 {
     match sort {
         RangeSort::Integers => INTEGER_KIND,
@@ -47,7 +47,7 @@ fn range_kind(sort: RangeSort) -> u8
 
 // An end of a closed pair, as its record has it.
 fn end_of(sort: RangeSort, x: u32) -> u32
-    ensures { result ≡ (rangeRow (rangeSortOf sort)).end x }
+    ensures { result ≡ (range_row (range_sort_of sort)).end x }
 {
     match sort {
         RangeSort::Integers => twos_complement(x),
@@ -57,9 +57,9 @@ fn end_of(sort: RangeSort, x: u32) -> u32
 
 // The record of a closed pair, and the number of the next item's.
 pub fn range_entry(sort: RangeSort, low: u32, high: u32, next: u32) -> Entry
-    ensures { recordOf result
-        ≡ make (rangeRow (rangeSortOf sort)).kind 0
-        ((rangeRow (rangeSortOf sort)).end low ∷ (rangeRow (rangeSortOf sort)).end high ∷ 0 ∷ 0 ∷ next ∷ []) }
+    ensures { record_of result
+        ≡ make (range_row (range_sort_of sort)).kind 0
+        ((range_row (range_sort_of sort)).end low ∷ (range_row (range_sort_of sort)).end high ∷ 0 ∷ 0 ∷ next ∷ []) }
 {
     let mut entry = plain(range_kind(sort), 0);
     entry.a = end_of(sort, low);

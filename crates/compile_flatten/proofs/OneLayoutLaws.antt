@@ -7,29 +7,29 @@ use native.Mathlib.Omega.{arith}
 use lib.ListN.{length, length-append, length-drop, get_or, take, drop, take-append-drop}
 use lib.Seq.{drop-drop, take-add, take_all}
 use Rattle.lexis.specs.Runs.{StandsAt}
-use Rattle.values.specs.Integers.{twosComplement}
+use Rattle.values.specs.Integers.{twos_complement}
 use Rattle.meaning.specs.Constraints.{integers, dates, Range, Text, Leaf, Object, object, Attributes, no_more, attribute, Value, any, nested, leaf}
-use Rattle.meaning.specs.Counting.{textPool, leafPool, objectPool, attributePool, valuePool}
-use Rattle.meaning.specs.Admission.{leafNumber, firstRange, firstText}
-use Rattle.meaning.specs.Judging.{objectNumber}
-use Rattle.table.specs.Records.{Record, recordSize, make, encode, count, headerOf, encodes, bytes_of}
+use Rattle.meaning.specs.Counting.{text_pool, leaf_pool, object_pool, attribute_pool, value_pool}
+use Rattle.meaning.specs.Admission.{leaf_number, first_range, first_text}
+use Rattle.meaning.specs.Judging.{object_number}
+use Rattle.table.specs.Records.{Record, record_size, make, encode, count, header_of, encodes, bytes_of}
 use Rattle.table.specs.TableRules.{TwosComplement, Holds}
 use Rattle.table.proofs.HoldsLaws.{byte-there}
 use Rattle.table.proofs.HeldLaws.{held-is}
 use Rattle.table.proofs.FieldRuleLaws.{twos-is}
-use Rattle.compile_flatten.specs.Flatten.{placeFor, attributesLink, valueLink, rangeRecords, stringRecords, recordsOfLeaf, objectTable, attributesTable, valueTable, imageOfTree}
+use Rattle.compile_flatten.specs.Flatten.{place_for, attributes_link, value_link, range_records, string_records, records_of_leaf, object_table, attributes_table, value_table, image_of_tree}
 use Rattle.compile_flatten.specs.Layout.{LaysName, LaysIntegers, LaysDates, LaysStrings, LaysLeaf, LaysObject, LaysAttributes, LaysValue, IsCompiled}
 
 -- the bytes of a number in two's complement are those of its distance
-twos_back : {a low : ℕ} → TwosComplement a low → a ≡ twosComplement low
+twos_back : {a low : ℕ} → TwosComplement a low → a ≡ twos_complement low
 twos_back t = let h = twos-is t in omega arith
 
 -- a name's place is the one that compiling gives
-name-place : {bs w : List ℕ} {size p a : ℕ} → LaysName bs size p w a → a ≡ placeFor w p
+name-place : {bs w : List ℕ} {size p a : ℕ} → LaysName bs size p w a → a ≡ place_for w p
 name-place LaysName.empty = refl
 name-place (LaysName.filled h) = refl
 
-name-stands : {bs w : List ℕ} {size p a : ℕ} → LaysName bs size p w a → StandsAt bs (recordSize * size + p) w
+name-stands : {bs w : List ℕ} {size p a : ℕ} → LaysName bs size p w a → StandsAt bs (record_size * size + p) w
 name-stands LaysName.empty = refl
 name-stands (LaysName.filled h) = h
 
@@ -53,7 +53,7 @@ module _ (bs : List ℕ) (little : Bool) (size : ℕ) where
   -- these records and these bytes of the pool stand from a record and a place on up to another record and place
   record Stored (n p : ℕ) (rs : List Record) (ws : List ℕ) (k q : ℕ) : Type 0 where
     records : HeldFrom n rs
-    pool : StandsAt bs (recordSize * size + p) ws
+    pool : StandsAt bs (record_size * size + p) ws
     behind : k ≡ n + length rs
     pooled : q ≡ p + length ws
 
@@ -70,10 +70,10 @@ module _ (bs : List ℕ) (little : Bool) (size : ℕ) where
       → Stored n p rs (w ++ ws) k q
   stored-name {p = p} {w = w} {ws} h s =
       let e = s.pooled in
-      let place : recordSize * size + (p + length w) ≡ recordSize * size + p + length w = omega arith in
+      let place : record_size * size + (p + length w) ≡ record_size * size + p + length w = omega arith in
       record {
         records = s.records;
-        pool = stands-append bs (recordSize * size + p) w ws (name-stands h) (subst (λ j. StandsAt bs j ws) place s.pool);
+        pool = stands-append bs (record_size * size + p) w ws (name-stands h) (subst (λ j. StandsAt bs j ws) place s.pool);
         behind = s.behind;
         pooled = rw length-append (omega arith);
       }
@@ -85,52 +85,52 @@ module _ (bs : List ℕ) (little : Bool) (size : ℕ) where
       let d = b.behind in
       let e = a.pooled in
       let f = b.pooled in
-      let place : recordSize * size + q ≡ recordSize * size + p + length v = omega arith in
+      let place : record_size * size + q ≡ record_size * size + p + length v = omega arith in
       record {
         records = held-append n rs qs a.records (subst (λ i. HeldFrom i qs) a.behind b.records);
-        pool = stands-append bs (recordSize * size + p) v w a.pool (subst (λ i. StandsAt bs i w) place b.pool);
+        pool = stands-append bs (record_size * size + p) v w a.pool (subst (λ i. StandsAt bs i w) place b.pool);
         behind = rw length-append (omega arith);
         pooled = rw length-append (omega arith);
       }
 
   -- items that are laid out by the rules are the records that compiling gives
   integers-stored : {n k f : ℕ} {l : List Range} (p : ℕ) → LaysIntegers bs little n l f k
-      → (f ≡ firstRange l) × Stored n p (rangeRecords integers l) [] k p
+      → (f ≡ first_range l) × Stored n p (range_records integers l) [] k p
   integers-stored {n} p LaysIntegers.no_more = (refl, stored-none n p)
   integers-stored p (LaysIntegers.integer h a b more) =
       let m = integers-stored p more in
       (refl, stored-record (subst (Holds bs _ little) (λ i. make 4 0 (twos_back a i ∷ twos_back b i ∷ 0 ∷ 0 ∷ m.0 i ∷ [])) h) m.1)
 
   dates-stored : {n k f : ℕ} {l : List Range} (p : ℕ) → LaysDates bs little n l f k
-      → (f ≡ firstRange l) × Stored n p (rangeRecords dates l) [] k p
+      → (f ≡ first_range l) × Stored n p (range_records dates l) [] k p
   dates-stored {n} p LaysDates.no_more = (refl, stored-none n p)
-  dates-stored p (LaysDates.dateInterval {a = a} {b = b} h more) =
+  dates-stored p (LaysDates.date_interval {a = a} {b = b} h more) =
       let m = dates-stored p more in
       (refl, stored-record (subst (Holds bs _ little) (λ i. make 7 0 (a ∷ b ∷ 0 ∷ 0 ∷ m.0 i ∷ [])) h) m.1)
 
   strings-stored : {n p k q f : ℕ} {l : List Text} → LaysStrings bs little size n p l f k q
-      → (f ≡ firstText l) × Stored n p (stringRecords p l) (textPool l) k q
+      → (f ≡ first_text l) × Stored n p (string_records p l) (text_pool l) k q
   strings-stored {n} {p} LaysStrings.no_more = (refl, stored-none n p)
   strings-stored (LaysStrings.string {w = w} h name more) =
       let m = strings-stored more in
       (refl, stored-record (subst (Holds bs _ little) (λ i. make 5 0 (name-place name i ∷ length w ∷ 0 ∷ 0 ∷ m.0 i ∷ [])) h) (stored-name name m.1))
 
   leaf-stored : {n p k q : ℕ} {l : Leaf} → LaysLeaf bs little size n p l k q
-      → (n ≡ leafNumber l) × Stored n p (recordsOfLeaf p l) (leafPool l) k q
+      → (n ≡ leaf_number l) × Stored n p (records_of_leaf p l) (leaf_pool l) k q
   leaf-stored {n} {p} (LaysLeaf.boolean h) = (refl, stored-record h (stored-none (n + 1) p))
   leaf-stored {p = p} (LaysLeaf.integer h) = integers-stored p h
   leaf-stored (LaysLeaf.string h) = strings-stored h
-  leaf-stored {n} {p} (LaysLeaf.datePattern h) = (refl, stored-record h (stored-none (n + 1) p))
-  leaf-stored {p = p} (LaysLeaf.dateInterval h) = dates-stored p h
-  leaf-stored {n} {p} (LaysLeaf.timePattern h) = (refl, stored-record h (stored-none (n + 1) p))
-  leaf-stored {n} {p} (LaysLeaf.durationPattern h) = (refl, stored-record h (stored-none (n + 1) p))
+  leaf-stored {n} {p} (LaysLeaf.date_pattern h) = (refl, stored-record h (stored-none (n + 1) p))
+  leaf-stored {p = p} (LaysLeaf.date_interval h) = dates-stored p h
+  leaf-stored {n} {p} (LaysLeaf.time_pattern h) = (refl, stored-record h (stored-none (n + 1) p))
+  leaf-stored {n} {p} (LaysLeaf.duration_pattern h) = (refl, stored-record h (stored-none (n + 1) p))
 
   mutual
-    unfolding objectTable objectPool attributesTable attributePool valueTable valuePool
+    unfolding object_table object_pool attributes_table attribute_pool value_table value_pool
 
     -- so is a tree
     object-stored : (o : Object) {n p k q : ℕ} → LaysObject bs little size n p o k q
-        → (n ≡ objectNumber o) × Stored n p (objectTable o p) (objectPool o) k q
+        → (n ≡ object_number o) × Stored n p (object_table o p) (object_pool o) k q
     object-stored (object a xs) (LaysObject.object {type = type} {code = code} h name other more) =
         let m = attributes-stored xs more in (
           refl,
@@ -139,51 +139,51 @@ module _ (bs : List ℕ) (little : Bool) (size : ℕ) where
         )
 
     attributes-stored : (xs : Attributes) {n p f k q : ℕ} → LaysAttributes bs little size n p xs f k q
-        → (f ≡ attributesLink xs) × Stored n p (attributesTable xs p) (attributePool xs) k q
+        → (f ≡ attributes_link xs) × Stored n p (attributes_table xs p) (attribute_pool xs) k q
     attributes-stored no_more {n} {p} LaysAttributes.no_more = (refl, stored-none n p)
     attributes-stored (attribute a v more) (LaysAttributes.attribute {flag = flag} {m = j} {q = t} {k = k} {r = r} {name = w} h name value rest) =
         let x = value-stored v value in
         let y = attributes-stored more rest in
-        let z = subst (λ b. Stored j t (attributesTable more b) (attributePool more) k r) x.1.pooled y.1 in (
+        let z = subst (λ b. Stored j t (attributes_table more b) (attribute_pool more) k r) x.1.pooled y.1 in (
           refl,
           stored-record (subst (Holds bs _ little) (λ i. make 2 flag (name-place name i ∷ length w ∷ x.0 i ∷ y.0 i ∷ [])) h)
               (stored-name name (stored-append x.1 z)),
         )
 
     value-stored : (v : Value) {n p f k q : ℕ} → LaysValue bs little size n p v f k q
-        → (f ≡ valueLink v) × Stored n p (valueTable v p) (valuePool v) k q
+        → (f ≡ value_link v) × Stored n p (value_table v p) (value_pool v) k q
     value-stored any {n} {p} LaysValue.anything = (refl, stored-none n p)
-    value-stored (nested o) (LaysValue.anObject h) = object-stored o h
-    value-stored (leaf l) (LaysValue.aLeaf h) = leaf-stored h
+    value-stored (nested o) (LaysValue.an_object h) = object-stored o h
+    value-stored (leaf l) (LaysValue.a_leaf h) = leaf-stored h
 
   -- records that stand one after the other, in bytes, are the records written
   held-encodes : (n : ℕ) (rs : List Record) → HeldFrom n rs → n + length rs ≤ size
-      → ((k : ℕ) → k < recordSize * size → get_or bs k 0 < 256)
-      → take (recordSize * length rs) (drop (recordSize * n) bs) ≡ encodes little rs
+      → ((k : ℕ) → k < record_size * size → get_or bs k 0 < 256)
+      → take (record_size * length rs) (drop (record_size * n) bs) ≡ encodes little rs
   held-encodes n [] h l f = refl
   held-encodes n (r ∷ rs) h l f =
-      let e : recordSize * suc (length rs) ≡ recordSize + recordSize * length rs = omega arith in
-      let g : recordSize * n + recordSize ≡ recordSize * (n + 1) = omega arith in
-      let first = held-is bs n little r h.0 (λ k i. f (recordSize * n + k) (omega arith)) in
-      rw (e, take-add recordSize (recordSize * length rs) (drop (recordSize * n) bs), drop-drop recordSize (recordSize * n) bs, g)
+      let e : record_size * suc (length rs) ≡ record_size + record_size * length rs = omega arith in
+      let g : record_size * n + record_size ≡ record_size * (n + 1) = omega arith in
+      let first = held-is bs n little r h.0 (λ k i. f (record_size * n + k) (omega arith)) in
+      rw (e, take-add record_size (record_size * length rs) (drop (record_size * n) bs), drop-drop record_size (record_size * n) bs, g)
       (ap₂ ◌++◌ first (held-encodes (n + 1) rs h.1 (omega arith) f))
 
 -- what is by the rules the table of a tree is the table that compiling gives
 pub compiled-only : (little : Bool) (o : Object) (bs : List ℕ) → IsCompiled little o bs
-    → bs ≡ bytes_of little (imageOfTree o)
-unfolding imageOfTree bytes_of
+    → bs ≡ bytes_of little (image_of_tree o)
+unfolding image_of_tree bytes_of
 compiled-only little o bs c =
-    let m = imageOfTree o in
+    let m = image_of_tree o in
     let size = c.count in
     let s = (object-stored bs little size o c.laid).1 in
     let e : size ≡ count m = omega (arith, s.behind) in
-    let z : c.pool ≡ length (objectPool o) = omega (arith, s.pooled) in
+    let z : c.pool ≡ length (object_pool o) = omega (arith, s.pooled) in
     let long = c.sized in
     let head = subst (Holds bs 0 little) (λ i. make 0 0 (e i ∷ z i ∷ 1 ∷ [])) c.header in
-    let front = held-encodes bs little size 0 (headerOf m ∷ m.records) (head, s.records) (omega arith)
+    let front = held-encodes bs little size 0 (header_of m ∷ m.records) (head, s.records) (omega arith)
     (λ k l. c.bytes k (get_or bs k 0) (byte-there bs k (omega arith)) l) in
-    let place : recordSize * size + 0 ≡ recordSize * count m = omega arith in
-    let rest = drop (recordSize * count m) bs in
-    let short : length rest ≤ length (objectPool o) = rw length-drop (omega arith) in
-    let back : take (length (objectPool o)) rest ≡ objectPool o = subst (λ j. take (length (objectPool o)) (drop j bs) ≡ objectPool o) place s.pool in
-    sym (take-append-drop (recordSize * count m) bs) ∙ ap₂ ◌++◌ front (sym (take_all (length (objectPool o)) rest short) ∙ back) ∙ append_assoc (encode little (headerOf m)) (encodes little m.records) m.pool
+    let place : record_size * size + 0 ≡ record_size * count m = omega arith in
+    let rest = drop (record_size * count m) bs in
+    let short : length rest ≤ length (object_pool o) = rw length-drop (omega arith) in
+    let back : take (length (object_pool o)) rest ≡ object_pool o = subst (λ j. take (length (object_pool o)) (drop j bs) ≡ object_pool o) place s.pool in
+    sym (take-append-drop (record_size * count m) bs) ∙ ap₂ ◌++◌ front (sym (take_all (length (object_pool o)) rest short) ∙ back) ∙ append_assoc (encode little (header_of m)) (encodes little m.records) m.pool

@@ -5,7 +5,7 @@ use Prim.Native.Nat.{ℕ, ◌+◌, ◌≤◌}
 use native.Mathlib.Omega.{arith}
 use lib.ListN.{length, length-append, length-drop, take, drop}
 use lib.Seq.{drop-append_seam, take-append_seam, drop-drop}
-use Rattle.table.specs.Records.{Record, Image, headerOf}
+use Rattle.table.specs.Records.{Record, Image, header_of}
 
 -- xs stands in the list l at place p
 pub record At {A : Type 0} (l : List A) (p : ℕ) (xs : List A) : Type 0 where
@@ -33,7 +33,7 @@ at-end {A} {l} {p} {x} {xs} h = omega (arith, simp (length-append, length-drop) 
 
 -- the records rs stand from number n on, and the bytes bs in the pool from place p on
 pub record Placed (m : Image) (n : ℕ) (rs : List Record) (p : ℕ) (bs : List ℕ) : Type 0 where
-  pub records : At (headerOf m ∷ m.records) n rs
+  pub records : At (header_of m ∷ m.records) n rs
   pub pool : At m.pool p bs
 
 -- past a record, past a name, and the two parts of what stands there

@@ -2,68 +2,68 @@
 -- the table of kinds. Assumes nothing.
 use Rattle.std.specs.Prelude.{List, [], ◌∷◌, ◌++◌, ℕ, ◌+◌, length}
 use Rattle.meaning.specs.Constraints.{RangeSort, Range, Text, Leaf, single, ranges, texts, Object, object, Attributes, no_more, attribute, Value, any, nested, leaf}
-use Rattle.meaning.specs.Sorts.{singleRow, rangeRow, textKind}
-use Rattle.meaning.specs.Counting.{objectPool, valuePool}
-use Rattle.meaning.specs.Admission.{leafNumber, firstRange, firstText}
-use Rattle.meaning.specs.Judging.{objectNumber}
+use Rattle.meaning.specs.Sorts.{single_row, range_row, text_kind}
+use Rattle.meaning.specs.Counting.{object_pool, value_pool}
+use Rattle.meaning.specs.Admission.{leaf_number, first_range, first_text}
+use Rattle.meaning.specs.Judging.{object_number}
 use Rattle.table.specs.Records.{Record, Image, make}
-use Rattle.table.specs.Rows.{objectKind, attributeKind}
+use Rattle.table.specs.Rows.{object_kind, attribute_kind}
 
 -- a name's place in the pool: 0 where it has no byte
-abbrev pub placeFor : List ℕ → ℕ → ℕ
-placeFor [] pool = 0
-placeFor (b ∷ bs) pool = pool
+abbrev pub place_for : List ℕ → ℕ → ℕ
+place_for [] pool = 0
+place_for (b ∷ bs) pool = pool
 
 -- links: the number of what they lead to, 0 where there is nothing
-abbrev pub attributesLink : Attributes → ℕ
-attributesLink no_more = 0
-attributesLink (attribute h v more) = h.number
+abbrev pub attributes_link : Attributes → ℕ
+attributes_link no_more = 0
+attributes_link (attribute h v more) = h.number
 
-abbrev pub valueLink : Value → ℕ
-valueLink any = 0
-valueLink (nested o) = objectNumber o
-valueLink (leaf l) = leafNumber l
+abbrev pub value_link : Value → ℕ
+value_link any = 0
+value_link (nested o) = object_number o
+value_link (leaf l) = leaf_number l
 
 -- an item is linked to the next by its last field
-abbrev pub rangeRecords : RangeSort → List Range → List Record
-rangeRecords sort [] = []
-rangeRecords sort (x ∷ xs) =
-    let w = rangeRow sort in
-    make w.kind 0 (w.end x.low ∷ w.end x.high ∷ 0 ∷ 0 ∷ firstRange xs ∷ []) ∷ rangeRecords sort xs
+abbrev pub range_records : RangeSort → List Range → List Record
+range_records sort [] = []
+range_records sort (x ∷ xs) =
+    let w = range_row sort in
+    make w.kind 0 (w.end x.low ∷ w.end x.high ∷ 0 ∷ 0 ∷ first_range xs ∷ []) ∷ range_records sort xs
 
 -- strings, with so many bytes in the pool before them
-abbrev pub stringRecords : ℕ → List Text → List Record
-stringRecords pool [] = []
-stringRecords pool (x ∷ xs) =
-    make textKind 0 (placeFor x.text pool ∷ length x.text ∷ 0 ∷ 0 ∷ firstText xs ∷ [])
-    ∷ stringRecords (pool + length x.text) xs
+abbrev pub string_records : ℕ → List Text → List Record
+string_records pool [] = []
+string_records pool (x ∷ xs) =
+    make text_kind 0 (place_for x.text pool ∷ length x.text ∷ 0 ∷ 0 ∷ first_text xs ∷ [])
+    ∷ string_records (pool + length x.text) xs
 
-abbrev pub recordsOfLeaf : ℕ → Leaf → List Record
-recordsOfLeaf pool (single sort n flag) = make (singleRow sort).kind flag [] ∷ []
-recordsOfLeaf pool (ranges sort l) = rangeRecords sort l
-recordsOfLeaf pool (texts l) = stringRecords pool l
+abbrev pub records_of_leaf : ℕ → Leaf → List Record
+records_of_leaf pool (single sort n flag) = make (single_row sort).kind flag [] ∷ []
+records_of_leaf pool (ranges sort l) = range_records sort l
+records_of_leaf pool (texts l) = string_records pool l
 
 -- the records of a tree, with so many bytes in the pool before it
 unfoldable mutual
-  pub objectTable : Object → ℕ → List Record
-  objectTable (object h xs) pool =
+  pub object_table : Object → ℕ → List Record
+  object_table (object h xs) pool =
       let code = pool + length h.type in
-      make objectKind 0
-      (placeFor h.type pool ∷ length h.type ∷ placeFor h.code code ∷ length h.code ∷ attributesLink xs ∷ [])
-      ∷ attributesTable xs (code + length h.code)
+      make object_kind 0
+      (place_for h.type pool ∷ length h.type ∷ place_for h.code code ∷ length h.code ∷ attributes_link xs ∷ [])
+      ∷ attributes_table xs (code + length h.code)
 
-  pub attributesTable : Attributes → ℕ → List Record
-  attributesTable no_more pool = []
-  attributesTable (attribute h v more) pool =
+  pub attributes_table : Attributes → ℕ → List Record
+  attributes_table no_more pool = []
+  attributes_table (attribute h v more) pool =
       let behind = pool + length h.name in
-      make attributeKind h.existence
-      (placeFor h.name pool ∷ length h.name ∷ valueLink v ∷ attributesLink more ∷ [])
-      ∷ (valueTable v behind ++ attributesTable more (behind + length (valuePool v)))
+      make attribute_kind h.existence
+      (place_for h.name pool ∷ length h.name ∷ value_link v ∷ attributes_link more ∷ [])
+      ∷ (value_table v behind ++ attributes_table more (behind + length (value_pool v)))
 
-  pub valueTable : Value → ℕ → List Record
-  valueTable any pool = []
-  valueTable (nested o) pool = objectTable o pool
-  valueTable (leaf l) pool = recordsOfLeaf pool l
+  pub value_table : Value → ℕ → List Record
+  value_table any pool = []
+  value_table (nested o) pool = object_table o pool
+  value_table (leaf l) pool = records_of_leaf pool l
 
-unfoldable pub imageOfTree : Object → Image
-imageOfTree o = record { root = 1; pool = objectPool o; records = objectTable o 0 }
+unfoldable pub image_of_tree : Object → Image
+image_of_tree o = record { root = 1; pool = object_pool o; records = object_table o 0 }

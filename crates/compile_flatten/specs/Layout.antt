@@ -1,17 +1,17 @@
 -- The table of a tree, as rules, read from the bytes. Document 01, 'Table': "Compiling numbers records and fills the pool in text order (type, then code; no quotes or brackets); nothing is shared;
 -- root 1"; the table of kinds; document 02, 1: "New kind 9". Each relation says that a part of the tree is laid out from a record and a place of the pool on, up to another record and place. Proved one
--- with imageOfTree, objectTable, objectPool. Assumes nothing.
+-- with image_of_tree, object_table, object_pool. Assumes nothing.
 use Rattle.std.specs.Prelude.{◌≡◌, Bool, List, [], ◌∷◌, ℕ, ◌+◌, ◌*◌, ◌<◌, length}
 use Rattle.lexis.specs.Runs.{StandsAt}
 use Rattle.meaning.specs.Constraints.{Range, Text, Leaf, single, ranges, texts, booleans, integers, dates, Object, Attributes, Value}
 use Rattle.meaning.specs.Constraints
-use Rattle.table.specs.Records.{recordSize, make}
+use Rattle.table.specs.Records.{record_size, make}
 use Rattle.table.specs.TableRules.{TwosComplement, Holds}
 
 -- the bytes of a name stand in the pool from a place on, which the record names; "length 0 has place 0"
 pub data LaysName (bs : List ℕ) (count at : ℕ) : List ℕ → (place : ℕ) → Type 0 where
   empty : LaysName bs count at [] 0
-  filled : {b : ℕ} {w : List ℕ} → StandsAt bs (recordSize * count + at) (b ∷ w) → LaysName bs count at (b ∷ w) at
+  filled : {b : ℕ} {w : List ℕ} → StandsAt bs (record_size * count + at) (b ∷ w) → LaysName bs count at (b ∷ w) at
 
 -- integer items from record n on, the link to the first, and the next record behind them
 pub data LaysIntegers (bs : List ℕ) (little : Bool) : (n : ℕ) → List Range → (first behind : ℕ) → Type 0 where
@@ -26,7 +26,7 @@ pub data LaysIntegers (bs : List ℕ) (little : Bool) : (n : ℕ) → List Range
 -- date intervals likewise
 pub data LaysDates (bs : List ℕ) (little : Bool) : (n : ℕ) → List Range → (first behind : ℕ) → Type 0 where
   no_more : {n : ℕ} → LaysDates bs little n [] 0 n
-  dateInterval : {n a b e m : ℕ} {l : List Range} → Holds bs n little (make 7 0 (a ∷ b ∷ 0 ∷ 0 ∷ e ∷ []))
+  date_interval : {n a b e m : ℕ} {l : List Range} → Holds bs n little (make 7 0 (a ∷ b ∷ 0 ∷ 0 ∷ e ∷ []))
       → LaysDates bs little (n + 1) l e m → LaysDates bs little n (record { number = n; low = a; high = b } ∷ l) n m
 
 -- strings from record n and place p of the pool on, the link to the first, and the next record and place behind them
@@ -47,14 +47,14 @@ pub data LaysLeaf (bs : List ℕ) (little : Bool) (count : ℕ) : (n p : ℕ) �
       → LaysLeaf bs little count n p (ranges integers (x ∷ l)) m p
   string : {n p m q : ℕ} {x : Text} {l : List Text} → LaysStrings bs little count n p (x ∷ l) n m q
       → LaysLeaf bs little count n p (texts (x ∷ l)) m q
-  datePattern : {n p flag : ℕ} → Holds bs n little (make 6 flag [])
-      → LaysLeaf bs little count n p (single Constraints.datePattern n flag) (n + 1) p
-  dateInterval : {n p m : ℕ} {x : Range} {l : List Range} → LaysDates bs little n (x ∷ l) n m
+  date_pattern : {n p flag : ℕ} → Holds bs n little (make 6 flag [])
+      → LaysLeaf bs little count n p (single Constraints.date_pattern n flag) (n + 1) p
+  date_interval : {n p m : ℕ} {x : Range} {l : List Range} → LaysDates bs little n (x ∷ l) n m
       → LaysLeaf bs little count n p (ranges dates (x ∷ l)) m p
-  timePattern : {n p flag : ℕ} → Holds bs n little (make 8 flag [])
-      → LaysLeaf bs little count n p (single Constraints.timePattern n flag) (n + 1) p
-  durationPattern : {n p flag : ℕ} → Holds bs n little (make 9 flag [])
-      → LaysLeaf bs little count n p (single Constraints.durationPattern n flag) (n + 1) p
+  time_pattern : {n p flag : ℕ} → Holds bs n little (make 8 flag [])
+      → LaysLeaf bs little count n p (single Constraints.time_pattern n flag) (n + 1) p
+  duration_pattern : {n p flag : ℕ} → Holds bs n little (make 9 flag [])
+      → LaysLeaf bs little count n p (single Constraints.duration_pattern n flag) (n + 1) p
 
 mutual
   -- an object: its record, its type and then its code, its attributes
@@ -82,9 +82,9 @@ mutual
   pub data LaysValue (bs : List ℕ) (little : Bool) (count : ℕ) : (n p : ℕ) → Value → (link behind pool : ℕ)
       → Type 0 where
     anything : {n p : ℕ} → LaysValue bs little count n p Constraints.any 0 n p
-    anObject : {n p m q : ℕ} {o : Object} → LaysObject bs little count n p o m q
+    an_object : {n p m q : ℕ} {o : Object} → LaysObject bs little count n p o m q
         → LaysValue bs little count n p (Constraints.nested o) n m q
-    aLeaf : {n p m q : ℕ} {l : Leaf} → LaysLeaf bs little count n p l m q
+    a_leaf : {n p m q : ℕ} {l : Leaf} → LaysLeaf bs little count n p l m q
         → LaysValue bs little count n p (Constraints.leaf l) n m q
 
 -- the table of a tree: the header, all records and the pool from record 1 and place 0 on, and nothing behind them
@@ -93,6 +93,6 @@ pub record IsCompiled (little : Bool) (tree : Object) (bs : List ℕ) : Type 0 w
   pub pool : ℕ
   pub header : Holds bs 0 little (make 0 0 (count ∷ pool ∷ 1 ∷ []))
   pub laid : LaysObject bs little count 1 0 tree count pool
-  pub sized : length bs ≡ recordSize * count + pool
+  pub sized : length bs ≡ record_size * count + pool
   -- what is written as records are bytes
-  pub bytes : (k b : ℕ) → StandsAt bs k (b ∷ []) → k < recordSize * count → b < 256
+  pub bytes : (k b : ℕ) → StandsAt bs k (b ∷ []) → k < record_size * count → b < 256

@@ -8,20 +8,20 @@ use native.Mathlib.Nat.{zero-add}
 use lib.ListN.{length}
 use lib.Seq.{sets}
 use borrow.Author.Tests.{lt-ltb, le-ltb}
-use Rattle.lexis.specs.Tokens.{textEnd}
+use Rattle.lexis.specs.Tokens.{text_end}
 use Rattle.lexis.specs.declared.Token.{Token}
-use Rattle.refusals.specs.Limits.{textLimit, levelLimit}
+use Rattle.refusals.specs.Limits.{text_limit, level_limit}
 use Rattle.refusals.specs.Reading.{Reading, refused, got}
 use Rattle.refusals.specs.Reading
-use Rattle.refusals.specs.Parsing.{parsed, and_then, firstIn}
+use Rattle.refusals.specs.Parsing.{parsed, and_then, first_in}
 use Rattle.refusals.specs.Refusals.{refusal}
 use Rattle.refusals.specs.declared.Cause.TheVariants.{TextTooLong}
 use Rattle.refusals.specs.declared.Refusal.{Refusal}
 use Rattle.dadl.specs.Placed.{Span, Block, block, Entries}
-use Rattle.dadl.specs.Data.{expectData, blockFrom, outermost, datumAlone, dataText, block_of}
-use Rattle.dadl.specs.contracts.Tape.{entry_rows, typeStart, typeEnd, entriesTape}
-use Rattle.refusals.specs.contracts.Answers.{ExpectIs}
-use Rattle.dadl.specs.contracts.Answers.{typeSpan, openReading, OpenPast, OutermostIs, RowsWrote, RowsRoom, RowsPast, RowsIs, entriesFrom, TapeRoom, endAnswer, dataWrote, dataWritten}
+use Rattle.dadl.specs.Data.{expect_data, block_from, outermost, datum_alone, data_text, block_of}
+use Rattle.dadl.specs.Clauses.Tape.{entry_rows, type_start, type_end, entries_tape}
+use Rattle.refusals.specs.Clauses.Answers.{ExpectIs}
+use Rattle.dadl.specs.Clauses.Answers.{type_span, open_reading, OpenPast, OutermostIs, RowsWrote, RowsRoom, RowsPast, RowsIs, entries_from, TapeRoom, end_answer, data_wrote, data_written}
 use Rattle.refusals.specs.declared.steps.Expected.{Expected}
 use Rattle.refusals.specs.declared.steps.Expected.TheVariants.{Fault, Taken}
 use Rattle.dadl.specs.declared.tokens.Opening.{Opening}
@@ -36,101 +36,101 @@ use Rattle.dadl.proofs.BlockSteps.{type-places, block-entries, IsRows, is-rows, 
 
 -- the text's end
 module _ (s : List ℕ) (place start end rows from : ℕ) (r : Expected)
-    (e : ExpectIs s textEnd from (firstIn (expectData s textEnd from)) r) where
+    (e : ExpectIs s text_end from (first_in (expect_data s text_end from)) r) where
   pub end-missing : (x : Refusal) → r ≡ Fault x
-      → Refused x ≡ endAnswer place start end rows (firstIn (expectData s textEnd from))
+      → Refused x ≡ end_answer place start end rows (first_in (expect_data s text_end from))
   end-missing x g = rw (expected-fault e x g)
 
   pub end-there : (t : Token) → r ≡ Taken t
-      → Read place start end rows t.end ≡ endAnswer place start end rows (firstIn (expectData s textEnd from))
+      → Read place start end rows t.end ≡ end_answer place start end rows (first_in (expect_data s text_end from))
   end-there t g = rw (expected-token e t g)
 
 -- a text that is too long
-pub data-long : (s : List ℕ) (levels : ℕ) (tape : List ℕ) → textLimit < length s
-    → dataWrote (Refused (refusal TextTooLong textLimit)) tape ≡ dataWritten tape (block_of levels s)
-unfolding block_of dataText
-data-long s levels tape h = rw (lt-ltb textLimit (length s) h)
+pub data-long : (s : List ℕ) (levels : ℕ) (tape : List ℕ) → text_limit < length s
+    → data_wrote (Refused (refusal TextTooLong text_limit)) tape ≡ data_written tape (block_of levels s)
+unfolding block_of data_text
+data-long s levels tape h = rw (lt-ltb text_limit (length s) h)
 
 -- a text that is not
-module _ (levels : ℕ) (tape : List ℕ) {s : List ℕ} (h : length s ≤ textLimit) {o : Opening} (d : OutermostIs s o) where
-  short : Reading.readThen (firstIn (outermost levels s))
-      (λ b p. firstIn (and_then (expectData s textEnd p) (λ t q. parsed b q))) ≡ block_of levels s
-  unfolding block_of dataText datumAlone
-  short = rw (le-ltb textLimit (length s) h) (sym (first_then (outermost levels s) _))
+module _ (levels : ℕ) (tape : List ℕ) {s : List ℕ} (h : length s ≤ text_limit) {o : Opening} (d : OutermostIs s o) where
+  short : Reading.read_then (first_in (outermost levels s))
+      (λ b p. first_in (and_then (expect_data s text_end p) (λ t q. parsed b q))) ≡ block_of levels s
+  unfolding block_of data_text datum_alone
+  short = rw (le-ltb text_limit (length s) h) (sym (first_then (outermost levels s) _))
 
-  pub data-shut : (x : Refusal) → o ≡ Shut x → dataWrote (Refused x) tape ≡ dataWritten tape (block_of levels s)
+  pub data-shut : (x : Refusal) → o ≡ Shut x → data_wrote (Refused x) tape ≡ data_written tape (block_of levels s)
   data-shut x g =
-      let e : firstIn (outermost levels s) ≡ refused x = sym (d.is levels) ∙ ap (openReading (blockFrom s levels)) g in
-      ap (dataWritten tape) (rw e at short)
+      let e : first_in (outermost levels s) ≡ refused x = sym (d.is levels) ∙ ap (open_reading (block_from s levels)) g in
+      ap (data_written tape) (rw e at short)
 
   module _ {place start end next : ℕ} (g : o ≡ Opens place start end next) where
-    opens : firstIn (outermost levels s) ≡ Reading.readThen (entriesFrom s levels place next)
-        (λ ms p. got (block place (typeSpan start end) ms) p)
-    opens = sym (d.is levels) ∙ ap (openReading (blockFrom s levels)) g ∙ block-entries s levels place (typeSpan start end) next
+    opens : first_in (outermost levels s) ≡ Reading.read_then (entries_from s levels place next)
+        (λ ms p. got (block place (type_span start end) ms) p)
+    opens = sym (d.is levels) ∙ ap (open_reading (block_from s levels)) g ∙ block-entries s levels place (type_span start end) next
 
     past : OpenPast s 0 (Opens place start end next)
     past = rw g at d.past
 
-    pub data-room : levels ≤ levelLimit → TapeRoom s tape → RowsRoom s levels next 0 tape
+    pub data-room : levels ≤ level_limit → TapeRoom s tape → RowsRoom s levels next 0 tape
     data-room few room = let p = past in record { inside = omega arith; short = h; few = omega arith; long = room.room h }
 
-    module _ {after : List ℕ} {r : RowsRead} (b : RowsIs s next 0 tape (entriesFrom s levels place next) after r) where
+    module _ {after : List ℕ} {r : RowsRead} (b : RowsIs s next 0 tape (entries_from s levels place next) after r) where
       pub data-refused : (x : Refusal) → r ≡ rows.Refused x
-          → dataWrote (Refused x) after ≡ dataWritten tape (block_of levels s)
+          → data_wrote (Refused x) after ≡ data_written tape (block_of levels s)
       data-refused x q =
-          let f = is-refused 0 tape after x (entriesFrom s levels place next) (rw q at b.is) in
-          let e : firstIn (outermost levels s) ≡ refused x = opens ∙ ap (λ y. Reading.readThen y (λ ms p. got (block place (typeSpan start end) ms) p)) f in
-          ap (dataWritten tape) (rw e at short)
+          let f = is-refused 0 tape after x (entries_from s levels place next) (rw q at b.is) in
+          let e : first_in (outermost levels s) ≡ refused x = opens ∙ ap (λ y. Reading.read_then y (λ ms p. got (block place (type_span start end) ms) p)) f in
+          ap (data_written tape) (rw e at short)
 
       module _ {count behind : ℕ} (q : r ≡ rows.Read count behind) where
         pub data-behind : behind ≤ length s
         data-behind = let p : RowsPast s next 0 (rows.Read count behind) = rw q at b.past in omega arith
 
-        found : IsRows 0 tape after count behind (entriesFrom s levels place next)
-        found = is-rows 0 tape after count behind (entriesFrom s levels place next) (rw q at b.is)
+        found : IsRows 0 tape after count behind (entries_from s levels place next)
+        found = is-rows 0 tape after count behind (entries_from s levels place next) (rw q at b.is)
 
-        ended : (ms : Entries) → count ≡ entry_rows ms → after ≡ sets tape 0 (entriesTape ms 0) → (x : Reading Token)
-            → dataWrote (endAnswer place start end count x) after
-            ≡ dataWritten tape (Reading.readThen x (λ t z. got (block place (typeSpan start end) ms) z))
+        ended : (ms : Entries) → count ≡ entry_rows ms → after ≡ sets tape 0 (entries_tape ms 0) → (x : Reading Token)
+            → data_wrote (end_answer place start end count x) after
+            ≡ data_written tape (Reading.read_then x (λ t z. got (block place (type_span start end) ms) z))
         ended ms c v (refused x) = refl
         ended ms c v (got t z) =
             let p = past in
             let y = type-places start end (omega arith) in
             λ i. record { answer = Read place (sym y.0 i) (sym y.1 i) (c i) z; tape = v i }
 
-        pub data-read : (a : DataRead) → a ≡ endAnswer place start end count (firstIn (expectData s textEnd behind))
-            → dataWrote a after ≡ dataWritten tape (block_of levels s)
+        pub data-read : (a : DataRead) → a ≡ end_answer place start end count (first_in (expect_data s text_end behind))
+            → data_wrote a after ≡ data_written tape (block_of levels s)
         data-read a k =
             let f = found in
-            let e : firstIn (outermost levels s) ≡ got (block place (typeSpan start end) f.ms) behind = opens ∙ ap (λ y. Reading.readThen y (λ ms p. got (block place (typeSpan start end) ms) p)) f.is in
-            ap (λ y. dataWrote y after) k ∙ ended f.ms (f.count ∙ zero-add _) f.tape (firstIn (expectData s textEnd behind))
-            ∙ ap (dataWritten tape) (sym (first_then (expectData s textEnd behind) _) ∙ (rw e at short))
+            let e : first_in (outermost levels s) ≡ got (block place (type_span start end) f.ms) behind = opens ∙ ap (λ y. Reading.read_then y (λ ms p. got (block place (type_span start end) ms) p)) f.is in
+            ap (λ y. data_wrote y after) k ∙ ended f.ms (f.count ∙ zero-add _) f.tape (first_in (expect_data s text_end behind))
+            ∙ ap (data_written tape) (sym (first_then (expect_data s text_end behind) _) ∙ (rw e at short))
 
 -- what an answer says of the text: its block, and that the members' rows are on the tape
 pub record IsData (tape after : List ℕ) (place start end rows last : ℕ) (reading : Reading Block) : Type 0 where
   pub type : Option Span
   pub ms : Entries
   pub is : reading ≡ got (block place type ms) last
-  pub typeStarts : start ≡ typeStart type
-  pub typeEnds : end ≡ typeEnd type
+  pub type_starts : start ≡ type_start type
+  pub type_ends : end ≡ type_end type
   pub count : rows ≡ entry_rows ms
-  pub written : after ≡ sets tape 0 (entriesTape ms 0)
+  pub written : after ≡ sets tape 0 (entries_tape ms 0)
 
 pub is-data : (tape after : List ℕ) (place start end rows last : ℕ) (x : Reading Block)
-    → dataWrote (Read place start end rows last) after ≡ dataWritten tape x
+    → data_wrote (Read place start end rows last) after ≡ data_written tape x
     → IsData tape after place start end rows last x
 is-data tape after place start end rows last (refused x) e =
     let o : Read place start end rows last ≡ Refused x = ap (λ (q : RowsWrote DataRead). q.answer) e in
     let z : ◌≡◌ {A = ℕ} 0 1 = cc in
     absurd (omega arith)
 is-data tape after place start end rows last (got (block p t ms) q) e =
-    let o : Read place start end rows last ≡ Read p (typeStart t) (typeEnd t) (entry_rows ms) q = ap (λ (q : RowsWrote DataRead). q.answer) e in
-    record { type = t; ms = ms; is = (cc); typeStarts = (cc); typeEnds = (cc); count = (cc); written = ap (λ (q : RowsWrote DataRead). q.tape) e }
+    let o : Read place start end rows last ≡ Read p (type_start t) (type_end t) (entry_rows ms) q = ap (λ (q : RowsWrote DataRead). q.answer) e in
+    record { type = t; ms = ms; is = (cc); type_starts = (cc); type_ends = (cc); count = (cc); written = ap (λ (q : RowsWrote DataRead). q.tape) e }
 
 pub is-data-refused : (tape after : List ℕ) (y : Refusal) (x : Reading Block)
-    → dataWrote (Refused y) after ≡ dataWritten tape x → x ≡ refused y
+    → data_wrote (Refused y) after ≡ data_written tape x → x ≡ refused y
 is-data-refused tape after y (refused x) e = let o : Refused y ≡ Refused x = ap (λ (q : RowsWrote DataRead). q.answer) e in cc
 is-data-refused tape after y (got (block p t ms) q) e =
-    let o : Refused y ≡ Read p (typeStart t) (typeEnd t) (entry_rows ms) q = ap (λ (q : RowsWrote DataRead). q.answer) e in
+    let o : Refused y ≡ Read p (type_start t) (type_end t) (entry_rows ms) q = ap (λ (q : RowsWrote DataRead). q.answer) e in
     let z : ◌≡◌ {A = ℕ} 0 1 = cc in
     absurd (omega arith)

@@ -5,27 +5,27 @@ use Prim.Native.Nat.{ℕ}
 use lib.Dec.{eqb}
 use lib.ListN.{length}
 use Rattle.lexis.specs.Runs.{same}
-use Rattle.refusals.specs.Limits.{levelLimit}
+use Rattle.refusals.specs.Limits.{level_limit}
 use Rattle.refusals.specs.Reading.{Reading, refused, got}
 use Rattle.refusals.specs.Refusals.{number_of}
 use Rattle.meaning.specs.Data.{Datum}
-use Rattle.meaning.proofs.Trees.{datumList}
-use Rattle.dadl.specs.Data.{datumOf}
+use Rattle.meaning.proofs.Trees.{datum_list}
+use Rattle.dadl.specs.Data.{datum_of}
 
 -- a text and what is expected of it
 pub data Case : Type 0 where
   accepts : (text : List ℕ) (tree : Datum) → Case
   refuses : (text : List ℕ) (number place : ℕ) → Case
 
-abbrev pub isTree : Reading Datum → Datum → ℕ → Bool
-isTree (refused r) d end = false
-isTree (got x p) d end = same (datumList x) (datumList d) && eqb p end
+abbrev pub is_tree : Reading Datum → Datum → ℕ → Bool
+is_tree (refused r) d end = false
+is_tree (got x p) d end = same (datum_list x) (datum_list d) && eqb p end
 
-abbrev pub isRefusal : Reading Datum → ℕ → ℕ → Bool
-isRefusal (refused r) number place = eqb (number_of r.cause) number && eqb r.place place
-isRefusal (got x p) number place = false
+abbrev pub is_refusal : Reading Datum → ℕ → ℕ → Bool
+is_refusal (refused r) number place = eqb (number_of r.cause) number && eqb r.place place
+is_refusal (got x p) number place = false
 
 -- the place behind a text that was accepted is its end
 unfoldable pub right : Case → Bool
-right (accepts s d) = isTree (datumOf levelLimit s) d (length s)
-right (refuses s number place) = isRefusal (datumOf levelLimit s) number place
+right (accepts s d) = is_tree (datum_of level_limit s) d (length s)
+right (refuses s number place) = is_refusal (datum_of level_limit s) number place

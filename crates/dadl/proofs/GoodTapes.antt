@@ -7,13 +7,13 @@ use native.Mathlib.Omega.{arith}
 use native.Mathlib.Decide.{dec_le}
 use lib.ListN.{length-append}
 use Rattle.dadl.specs.Placed.{Span, Block, block, Entries, no_more, entry, PlacedContent, string, word, inside}
-use Rattle.dadl.specs.contracts.Tape.{isString, isWord, blockRows, entry_rows, contentRows, nextRow, typeStart, typeEnd, tapeRowOf, blockTape, entriesTape, contentTape, membersAt}
-use Rattle.dadl.specs.contracts.Rows.{row_at, RowGood, TapeGood, walked}
+use Rattle.dadl.specs.Clauses.Tape.{is_string, is_word, block_rows, entry_rows, content_rows, next_row, type_start, type_end, tape_row_of, block_tape, entries_tape, content_tape, members_at}
+use Rattle.dadl.specs.Clauses.Rows.{row_at, RowGood, TapeGood, walked}
 use Rattle.dadl.proofs.TapeLaws.{EachBlock, EachEntry, EachContent, each-entry, TypeEnded, Ended, At, at-start, row-there, inside-there, more-there, next-within, entries-length, members_step}
 
 -- a walker's step on a good tape
 pub good-step : (s : List ℕ) (size count : ℕ) (tape : List ℕ) (n : ℕ) → TapeGood size count tape → n < count
-    → membersAt s count tape n ≡ walked s count tape n (row_at tape n)
+    → members_at s count tape n ≡ walked s count tape n (row_at tape n)
 good-step s size count tape n g h = members_step s count tape n h (λ k. ((g.rows n h).next k).0)
 
 -- a type, a block's `<` and type, a member's content and a member lie in a text of a size
@@ -48,42 +48,42 @@ pub each-ended : (size : ℕ) (ms : Entries) → EachEntry ms (Lies size) → Ea
 each-ended size ms h = each-entry ms (Lies size) Ended (lies-ended size) h
 
 -- a row's numbers for a type that lies in the text are in order and in the text
-type-order : (size : ℕ) (t : Option Span) → TypeLies size t → (typeStart t ≤ typeEnd t) × (typeEnd t ≤ size)
+type-order : (size : ℕ) (t : Option Span) → TypeLies size t → (type_start t ≤ type_end t) × (type_end t ≤ size)
 type-order size none h = (omega arith, omega arith)
 type-order size (some x) h = (omega arith, omega arith)
 
 -- the row of a string or a word that lies in the text is good
-leaf-good : (size count n kind : ℕ) (w x : Span) (p next : ℕ) → 0 < kind → kind ≤ isWord
+leaf-good : (size count n kind : ℕ) (w x : Span) (p next : ℕ) → 0 < kind → kind ≤ is_word
     → (w.start < w.end) × (w.end ≤ size) × ((p < size) × (x.start ≤ x.end) × (x.end ≤ size))
     → (0 < next → (n < next) × (next < count))
     → RowGood size count n (kind ∷ w.start ∷ w.end ∷ p ∷ 0 ∷ 0 ∷ x.start ∷ x.end ∷ next ∷ [])
 leaf-good size count n kind w x p next a b h k = record {
   holds = b;
-  nameStart = h.0;
-  nameEnd = h.1;
+  name_start = h.0;
+  name_end = h.1;
   place = h.2.0;
-  typeStart = omega arith;
-  typeEnd = omega arith;
+  type_start = omega arith;
+  type_end = omega arith;
   value = λ z. (h.2.1, h.2.2);
   inside = λ z y. absurd (omega arith);
   next = k;
 }
 
 -- the row of any member that lies in the text is good
-row-good : (size count n : ℕ) (w : Span) (c : PlacedContent) (next : ℕ) → Lies size w c → n + 1 + contentRows c ≤ count
-    → (0 < next → (n < next) × (next < count)) → RowGood size count n (tapeRowOf w c next)
-unfolding contentRows blockRows
-row-good size count n w (string p x) next h l k = leaf-good size count n isString w x p next (omega arith) (omega arith) h k
-row-good size count n w (word p x) next h l k = leaf-good size count n isWord w x p next (omega arith) (omega arith) h k
+row-good : (size count n : ℕ) (w : Span) (c : PlacedContent) (next : ℕ) → Lies size w c → n + 1 + content_rows c ≤ count
+    → (0 < next → (n < next) × (next < count)) → RowGood size count n (tape_row_of w c next)
+unfolding content_rows block_rows
+row-good size count n w (string p x) next h l k = leaf-good size count n is_string w x p next (omega arith) (omega arith) h k
+row-good size count n w (word p x) next h l k = leaf-good size count n is_word w x p next (omega arith) (omega arith) h k
 row-good size count n w (inside (block p t ms)) next h l k =
     let o = type-order size t h.2.1 in
     record {
       holds = omega arith;
-      nameStart = h.0;
-      nameEnd = h.1;
+      name_start = h.0;
+      name_end = h.1;
       place = h.2.0;
-      typeStart = o.0;
-      typeEnd = o.1;
+      type_start = o.0;
+      type_end = o.1;
       value = λ z. absurd (omega arith);
       inside = λ z y. omega arith;
       next = k;
@@ -104,36 +104,36 @@ by_place P n a b k here within behind h l = first (dec_le k n)
 
 module _ (size count : ℕ) (tape : List ℕ) where
   mutual
-    unfolding EachBlock EachEntry EachContent blockRows entry_rows contentRows blockTape contentTape
+    unfolding EachBlock EachEntry EachContent block_rows entry_rows content_rows block_tape content_tape
 
     -- the rows of members that stand from row n on are good
-    block-good : (b : Block) (n k : ℕ) → EachBlock b (Lies size) → At tape n (blockTape b n) → n + blockRows b ≤ count
-        → n ≤ k → k < n + blockRows b → RowGood size count k (row_at tape k)
+    block-good : (b : Block) (n k : ℕ) → EachBlock b (Lies size) → At tape n (block_tape b n) → n + block_rows b ≤ count
+        → n ≤ k → k < n + block_rows b → RowGood size count k (row_at tape k)
     block-good (block p t ms) n k h a l f g = entries-good ms n k h a l f g
 
-    pub entries-good : (ms : Entries) (n k : ℕ) → EachEntry ms (Lies size) → At tape n (entriesTape ms n)
+    pub entries-good : (ms : Entries) (n k : ℕ) → EachEntry ms (Lies size) → At tape n (entries_tape ms n)
         → n + entry_rows ms ≤ count → n ≤ k → k < n + entry_rows ms → RowGood size count k (row_at tape k)
     entries-good no_more n k h a l f g = absurd (omega arith)
     entries-good (entry w c more) n k h a l f g =
-        let m = n + 1 + contentRows c in
-        by_place (λ i. RowGood size count i (row_at tape i)) n (contentRows c) (entry_rows more) k
-        (rw (row-there w c more n a) (row-good size count n w c (nextRow m more) h.0 (omega arith) (next-within more n m count (omega arith) (omega arith))))
+        let m = n + 1 + content_rows c in
+        by_place (λ i. RowGood size count i (row_at tape i)) n (content_rows c) (entry_rows more) k
+        (rw (row-there w c more n a) (row-good size count n w c (next_row m more) h.0 (omega arith) (next-within more n m count (omega arith) (omega arith))))
         (λ x y. content-good c (n + 1) k h.1 (inside-there w c more n a) (omega arith) x y)
         (λ x y. entries-good more m k h.2 (more-there w c more n a) (omega arith) x y)
         f g
 
-    content-good : (c : PlacedContent) (n k : ℕ) → EachContent c (Lies size) → At tape n (contentTape c n)
-        → n + contentRows c ≤ count → n ≤ k → k < n + contentRows c → RowGood size count k (row_at tape k)
+    content-good : (c : PlacedContent) (n k : ℕ) → EachContent c (Lies size) → At tape n (content_tape c n)
+        → n + content_rows c ≤ count → n ≤ k → k < n + content_rows c → RowGood size count k (row_at tape k)
     content-good (string p x) n k h a l f g = absurd (omega arith)
     content-good (word p x) n k h a l f g = absurd (omega arith)
     content-good (inside b) n k h a l f g = block-good b n k h a l f g
 
 -- the tape of members that lie in the text is good, whatever stands behind it
 pub tape-good : (size : ℕ) (ms : Entries) (rest : List ℕ) → EachEntry ms (Lies size)
-    → TapeGood size (entry_rows ms) (entriesTape ms 0 ++ rest)
+    → TapeGood size (entry_rows ms) (entries_tape ms 0 ++ rest)
 tape-good size ms rest h =
-    let tape = entriesTape ms 0 ++ rest in
+    let tape = entries_tape ms 0 ++ rest in
     record {
-      rows = λ k l. entries-good size (entry_rows ms) tape ms 0 k h (at-start (entriesTape ms 0) rest) (omega arith) (omega arith) (omega arith);
-      room = omega (arith, length-append (entriesTape ms 0) rest, entries-length ms 0);
+      rows = λ k l. entries-good size (entry_rows ms) tape ms 0 k h (at-start (entries_tape ms 0) rest) (omega arith) (omega arith) (omega arith);
+      room = omega (arith, length-append (entries_tape ms 0) rest, entries-length ms 0);
     }

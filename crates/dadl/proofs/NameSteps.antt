@@ -10,18 +10,18 @@ use Rattle.lexis.specs.Runs.{byte_at, part, same, listed}
 use Rattle.lexis.specs.Tokens.{spelling}
 use Rattle.lexis.specs.DataTokens.{equals}
 use Rattle.lexis.specs.declared.Token.{Token}
-use Rattle.refusals.specs.Limits.{nameLimit}
+use Rattle.refusals.specs.Limits.{name_limit}
 use Rattle.refusals.specs.Reading.{refused, got}
 use Rattle.refusals.specs.Reading
-use Rattle.refusals.specs.Parsing.{firstIn}
+use Rattle.refusals.specs.Parsing.{first_in}
 use Rattle.refusals.specs.Refusals.{refusal}
 use Rattle.refusals.specs.declared.Cause.TheVariants.{TooLong, RepeatedName}
 use Rattle.refusals.specs.declared.Refusal.{Refusal}
 use Rattle.dadl.specs.Placed.{span}
-use Rattle.dadl.specs.Data.{expectData, nameFrom, span_of}
-use Rattle.dadl.specs.contracts.Tape.{rowSize}
-use Rattle.refusals.specs.contracts.Answers.{ExpectIs}
-use Rattle.dadl.specs.contracts.Answers.{spanReading, SpanPast, SpanIs, ContentIs, contentOf, Inside, number_at, name_at, NameLies, earlierNames, NamedRow, Chain, Earlier, memberReading}
+use Rattle.dadl.specs.Data.{expect_data, name_from, span_of}
+use Rattle.dadl.specs.Clauses.Tape.{row_size}
+use Rattle.refusals.specs.Clauses.Answers.{ExpectIs}
+use Rattle.dadl.specs.Clauses.Answers.{span_reading, SpanPast, SpanIs, ContentIs, content_of, Inside, number_at, name_at, NameLies, earlier_names, NamedRow, Chain, Earlier, member_reading}
 use Rattle.refusals.specs.declared.steps.Expected.{Expected}
 use Rattle.refusals.specs.declared.steps.Expected.TheVariants.{Fault, Taken}
 use Rattle.dadl.specs.declared.tokens.SpanRead.{SpanRead}
@@ -58,16 +58,16 @@ pub record InNames (s tape : List ℕ) (low end : ℕ) (name : List ℕ) (n : �
   pub names : List (List ℕ)
   pub chain : Chain s tape n end names
   pub least : n ≤ end
-  pub room : rowSize * end ≤ length tape
+  pub room : row_size * end ≤ length tape
   pub not_yet : again ≡ false
-  pub is : listed name names ≡ listed name (earlierNames s tape low end)
+  pub is : listed name names ≡ listed name (earlier_names s tape low end)
 
 pub names-start : (s tape : List ℕ) (low end : ℕ) (name : List ℕ) → Earlier s tape low end
     → InNames s tape low end name low false
 names-start s tape low end name e = record {
-  names = earlierNames s tape low end;
+  names = earlier_names s tape low end;
   chain = e.chain;
-  least = chain-low s tape low end (earlierNames s tape low end) e.chain;
+  least = chain-low s tape low end (earlier_names s tape low end) e.chain;
   room = e.room;
   not_yet = refl;
   is = refl;
@@ -80,7 +80,7 @@ module _ (s tape : List ℕ) (low end : ℕ) (name : List ℕ) (n : ℕ) (again 
   none_left [] h l = refl
   none_left (w ∷ ws) h l = absurd (omega arith)
 
-  pub names-end : end ≤ n → again ≡ listed name (earlierNames s tape low end)
+  pub names-end : end ≤ n → again ≡ listed name (earlier_names s tape low end)
   names-end l = inv.not_yet ∙ sym (none_left inv.names inv.chain l) ∙ inv.is
 
   module _ (l : n < end) where
@@ -89,13 +89,13 @@ module _ (s tape : List ℕ) (low end : ℕ) (name : List ℕ) (n : ℕ) (again 
       more : List (List ℕ)
       row : NamedRow s tape n end (name_at s tape n)
       behind : Chain s tape (number_at tape n 8) end more
-      is : (same name (name_at s tape n) || listed name more) ≡ listed name (earlierNames s tape low end)
+      is : (same name (name_at s tape n) || listed name more) ≡ listed name (earlier_names s tape low end)
 
     at_name : AtName
     unfolding Chain listed
     at_name = by inv.names inv.chain inv.is
       where
-        by : (ws : List (List ℕ)) → Chain s tape n end ws → listed name ws ≡ listed name (earlierNames s tape low end)
+        by : (ws : List (List ℕ)) → Chain s tape n end ws → listed name ws ≡ listed name (earlier_names s tape low end)
             → AtName
         by [] h e = absurd (omega arith)
         by (w ∷ ws) h e =
@@ -105,7 +105,7 @@ module _ (s tape : List ℕ) (low end : ℕ) (name : List ℕ) (n : ℕ) (again 
     pub name-lies : NameLies s tape n
     name-lies = let r = at_name.row in let m = inv.room in record { room = omega arith; order = r.order; inside = r.inside }
 
-    pub link-lies : rowSize * n + 8 < length tape
+    pub link-lies : row_size * n + 8 < length tape
     link-lies = let m = inv.room in omega arith
 
     pub names-less : (next : ℕ) → next ≡ number_at tape n 8 → end - next < end - n
@@ -116,7 +116,7 @@ module _ (s tape : List ℕ) (low end : ℕ) (name : List ℕ) (n : ℕ) (again 
       bytes-begin e = bytes-start name other again inv.not_yet e
 
       pub bytes-found : (i : ℕ) (r : Bool) → InBytes name other i r → i ≡ length name
-          → true ≡ listed name (earlierNames s tape low end)
+          → true ≡ listed name (earlier_names s tape low end)
       bytes-found i r b e = rw (← eo, ← (bytes-end name other i r b e)) at at_name.is
 
       module _ (next : ℕ) (en : next ≡ number_at tape n 8) where
@@ -136,30 +136,30 @@ module _ (s : List ℕ) (seen : List (List ℕ)) (t : Token) (inside : Inside s 
   many : length (spelling s t) ≡ t.end - t.start
   many = part_length s t.start t.end (omega arith)
 
-  pub name-long : nameLimit < t.end - t.start → (x : Refusal) → x ≡ refusal TooLong t.start
-      → SpanIs s t.start (firstIn (nameFrom s seen t)) (Bad x)
-  unfolding nameFrom
-  name-long l x e = record { is = rw (many, lt-ltb nameLimit (t.end - t.start) l, e); past = tt }
+  pub name-long : name_limit < t.end - t.start → (x : Refusal) → x ≡ refusal TooLong t.start
+      → SpanIs s t.start (first_in (name_from s seen t)) (Bad x)
+  unfolding name_from
+  name-long l x e = record { is = rw (many, lt-ltb name_limit (t.end - t.start) l, e); past = tt }
 
-  module _ (l : t.end - t.start ≤ nameLimit) (again : Bool)
+  module _ (l : t.end - t.start ≤ name_limit) (again : Bool)
       (is : again ≡ listed (part s t.start t.end) seen) where
     pub name-again : again ≡ true
-        → SpanIs s t.start (firstIn (nameFrom s seen t)) (Bad (refusal RepeatedName t.start))
-    unfolding nameFrom
-    name-again e = record { is = rw (many, le-ltb nameLimit (t.end - t.start) l, ← is, e); past = tt }
+        → SpanIs s t.start (first_in (name_from s seen t)) (Bad (refusal RepeatedName t.start))
+    unfolding name_from
+    name-again e = record { is = rw (many, le-ltb name_limit (t.end - t.start) l, ← is, e); past = tt }
 
     module _ (new : again ≡ false) (r : Expected)
-        (d : ExpectIs s equals t.end (firstIn (expectData s equals t.end)) r) where
-      named : Reading.readThen (firstIn (expectData s equals t.end))
-          (λ u p. got (span_of t) p) ≡ firstIn (nameFrom s seen t)
-      unfolding nameFrom
-      named = rw (many, le-ltb nameLimit (t.end - t.start) l, ← is, new) (sym (first_then (expectData s equals t.end) _))
+        (d : ExpectIs s equals t.end (first_in (expect_data s equals t.end)) r) where
+      named : Reading.read_then (first_in (expect_data s equals t.end))
+          (λ u p. got (span_of t) p) ≡ first_in (name_from s seen t)
+      unfolding name_from
+      named = rw (many, le-ltb name_limit (t.end - t.start) l, ← is, new) (sym (first_then (expect_data s equals t.end) _))
 
-      pub name-unclosed : (x : Refusal) → r ≡ Fault x → SpanIs s t.start (firstIn (nameFrom s seen t)) (Bad x)
+      pub name-unclosed : (x : Refusal) → r ≡ Fault x → SpanIs s t.start (first_in (name_from s seen t)) (Bad x)
       name-unclosed x g = record { is = rw (expected-fault d x g) at named; past = tt }
 
       pub name-closed : (u : Token) → r ≡ Taken u
-          → SpanIs s t.start (firstIn (nameFrom s seen t)) (Spans t.start t.end u.end)
+          → SpanIs s t.start (first_in (name_from s seen t)) (Spans t.start t.end u.end)
       name-closed u g =
           let p = expected-past d u g in
           let b : u.start < u.end = p.3 (omega arith) in
@@ -167,10 +167,10 @@ module _ (s : List ℕ) (seen : List (List ℕ)) (t : Token) (inside : Inside s 
 
 -- a member up to its leaf's end or its block's opening
 module _ (s : List ℕ) (seen : List (List ℕ)) (t : Token) (r : SpanRead)
-    (d : SpanIs s t.start (firstIn (nameFrom s seen t)) r) where
-  pub member-bad : (x : Refusal) → r ≡ Bad x → ContentIs s (t.start + 2) (memberReading s seen t) (Faulty x)
-  unfolding memberReading
-  member-bad x g = let h : firstIn (nameFrom s seen t) ≡ refused x = sym d.is ∙ ap spanReading g in record { is = λ down. sym (then-refused (nameFrom s seen t) _ x h); past = tt }
+    (d : SpanIs s t.start (first_in (name_from s seen t)) r) where
+  pub member-bad : (x : Refusal) → r ≡ Bad x → ContentIs s (t.start + 2) (member_reading s seen t) (Faulty x)
+  unfolding member_reading
+  member-bad x g = let h : first_in (name_from s seen t) ≡ refused x = sym d.is ∙ ap span_reading g in record { is = λ down. sym (then-refused (name_from s seen t) _ x h); past = tt }
 
   module _ (start end next : ℕ) (g : r ≡ Spans start end next) where
     named_past : SpanPast s t.start (Spans start end next)
@@ -179,10 +179,10 @@ module _ (s : List ℕ) (seen : List (List ℕ)) (t : Token) (r : SpanRead)
     pub member-next : next ≤ length s
     member-next = let p = named_past in omega arith
 
-    pub member-content : (o : ContentStart) → ContentIs s next (contentOf s next) o
-        → ContentIs s (t.start + 2) (memberReading s seen t) o
-    unfolding memberReading contentOf
+    pub member-content : (o : ContentStart) → ContentIs s next (content_of s next) o
+        → ContentIs s (t.start + 2) (member_reading s seen t) o
+    unfolding member_reading content_of
     member-content o k =
         let p = named_past in
-        let h : firstIn (nameFrom s seen t) ≡ got (span start end) next = sym d.is ∙ ap spanReading g in
-        record { is = λ down. k.is down ∙ sym (then-got (nameFrom s seen t) _ (span start end) next h); past = content-lower s (t.start + 2) next (omega arith) o k.past }
+        let h : first_in (name_from s seen t) ≡ got (span start end) next = sym d.is ∙ ap span_reading g in
+        record { is = λ down. k.is down ∙ sym (then-got (name_from s seen t) _ (span start end) next h); past = content-lower s (t.start + 2) next (omega arith) o k.past }

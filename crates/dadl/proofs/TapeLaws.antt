@@ -12,9 +12,9 @@ use borrow.Author.Tests.{ne_eqb}
 use Rattle.lexis.specs.Runs.{part}
 use Rattle.meaning.specs.Data.{Members, datum, member}
 use Rattle.meaning.specs.Data
-use Rattle.dadl.specs.Placed.{Span, Block, block, Entries, no_more, entry, PlacedContent, string, word, inside, spelledSpan, spelledBlock, spelledEntries, spelledContent}
-use Rattle.dadl.specs.contracts.Tape.{rowSize, blockRows, entry_rows, contentRows, nextRow, typeStart, typeEnd, tapeRowOf, blockTape, entriesTape, contentTape, rows_of, rowNumber, reachMembers, contentIn, membersBy, members_of, membersAt}
-use Rattle.dadl.specs.contracts.Rows.{row_at, linked, walked}
+use Rattle.dadl.specs.Placed.{Span, Block, block, Entries, no_more, entry, PlacedContent, string, word, inside, spelled_span, spelled_block, spelled_entries, spelled_content}
+use Rattle.dadl.specs.Clauses.Tape.{row_size, block_rows, entry_rows, content_rows, next_row, type_start, type_end, tape_row_of, block_tape, entries_tape, content_tape, rows_of, row_number, reach_members, content_in, members_by, members_of, members_at}
+use Rattle.dadl.specs.Clauses.Rows.{row_at, linked, walked}
 
 -- a property of every member, those inside others among them
 unfoldable mutual
@@ -61,58 +61,58 @@ Ended w (word p x) = Unit {0}
 Ended w (inside (block p t ms)) = TypeEnded t
 
 -- a row has nine numbers
-pub row-length : (w : Span) (c : PlacedContent) (next : ℕ) → length (tapeRowOf w c next) ≡ rowSize
+pub row-length : (w : Span) (c : PlacedContent) (next : ℕ) → length (tape_row_of w c next) ≡ row_size
 row-length w (string p x) next = refl
 row-length w (word p x) next = refl
 row-length w (inside (block p t ms)) next = refl
 
 -- a row's numbers 1, 2 and 8 are the name and the next row
 pub row-numbers : (w : Span) (c : PlacedContent) (next : ℕ)
-    → (rowNumber (tapeRowOf w c next) 1 ≡ w.start) × (rowNumber (tapeRowOf w c next) 2 ≡ w.end)
-    × (rowNumber (tapeRowOf w c next) 8 ≡ next)
+    → (row_number (tape_row_of w c next) 1 ≡ w.start) × (row_number (tape_row_of w c next) 2 ≡ w.end)
+    × (row_number (tape_row_of w c next) 8 ≡ next)
 row-numbers w (string p x) next = (refl, refl, refl)
 row-numbers w (word p x) next = (refl, refl, refl)
 row-numbers w (inside (block p t ms)) next = (refl, refl, refl)
 
 -- the tape of members has nine numbers for each row
 mutual
-  unfolding blockRows entry_rows contentRows blockTape entriesTape contentTape
+  unfolding block_rows entry_rows content_rows block_tape entries_tape content_tape
 
-  block-length : (b : Block) (n : ℕ) → length (blockTape b n) ≡ rowSize * blockRows b
+  block-length : (b : Block) (n : ℕ) → length (block_tape b n) ≡ row_size * block_rows b
   block-length (block p t ms) n = entries-length ms n
 
-  pub entries-length : (ms : Entries) (n : ℕ) → length (entriesTape ms n) ≡ rowSize * entry_rows ms
+  pub entries-length : (ms : Entries) (n : ℕ) → length (entries_tape ms n) ≡ row_size * entry_rows ms
   entries-length no_more n = refl
   entries-length (entry w c more) n =
-      let a = row-length w c (nextRow (n + 1 + contentRows c) more) in
+      let a = row-length w c (next_row (n + 1 + content_rows c) more) in
       let b = content-length c (n + 1) in
-      let d = entries-length more (n + 1 + contentRows c) in
+      let d = entries-length more (n + 1 + content_rows c) in
       simp length-append (omega arith)
 
-  pub content-length : (c : PlacedContent) (n : ℕ) → length (contentTape c n) ≡ rowSize * contentRows c
+  pub content-length : (c : PlacedContent) (n : ℕ) → length (content_tape c n) ≡ row_size * content_rows c
   content-length (string p x) n = refl
   content-length (word p x) n = refl
   content-length (inside b) n = block-length b n
 
 -- a number of a row, by its place in the tape
-pub number_at : (tape : List ℕ) (n i : ℕ) → i < rowSize → rowNumber (row_at tape n) i ≡ get_or tape (rowSize * n + i) 0
+pub number_at : (tape : List ℕ) (n i : ℕ) → i < row_size → row_number (row_at tape n) i ≡ get_or tape (row_size * n + i) 0
 number_at tape n i h = rw (get_or-take, get_or-drop)
 
 -- the members of a row, above those of the rows behind it
 members-there : (s : List ℕ) (i n count : ℕ) (tape : List ℕ) → n < count
     → get_or (members_of s i (rows_of count tape)) n Data.no_more
-    ≡ membersBy s (i + n) (row_at tape n) (drop (suc n) (members_of s i (rows_of count tape)))
+    ≡ members_by s (i + n) (row_at tape n) (drop (suc n) (members_of s i (rows_of count tape)))
 members-there s i n zero tape h = absurd (omega arith)
 members-there s i zero (suc count) tape h = let e : i + 0 ≡ i = omega arith in rw e
 members-there s i (suc n) (suc count) tape h =
     let e : i + 1 + n ≡ i + suc n = omega arith in
-    let f : rowSize + rowSize * n ≡ rowSize * suc n = omega arith in
-    let g = drop-drop (rowSize * n) rowSize tape in
-    members-there s (i + 1) n count (drop rowSize tape) (omega arith) ∙ rw (g, e, f)
+    let f : row_size + row_size * n ≡ row_size * suc n = omega arith in
+    let g = drop-drop (row_size * n) row_size tape in
+    members-there s (i + 1) n count (drop row_size tape) (omega arith) ∙ rw (g, e, f)
 
 -- a step up, and the row that it leads to
 reach-next : (l : List Members) (n m : ℕ) → (0 < m → n < m)
-    → reachMembers (drop (suc n) l) (m - n) ≡ cond (eqb m 0) Data.no_more (get_or l m Data.no_more)
+    → reach_members (drop (suc n) l) (m - n) ≡ cond (eqb m 0) Data.no_more (get_or l m Data.no_more)
 reach-next l n zero h = let e : 0 - n ≡ 0 = omega arith in rw e
 reach-next l n (suc m) h =
     let k = h (omega arith) in
@@ -122,27 +122,27 @@ reach-next l n (suc m) h =
 
 -- the step to what is inside, and the row behind
 reach-inside : (l : List Members) (n : ℕ) (b : Bool)
-    → reachMembers (drop (suc n) l) (cond b 0 1) ≡ cond b Data.no_more (get_or l (n + 1) Data.no_more)
+    → reach_members (drop (suc n) l) (cond b 0 1) ≡ cond b Data.no_more (get_or l (n + 1) Data.no_more)
 reach-inside l n true = refl
 reach-inside l n false = let e : suc n + 0 ≡ n + 1 = omega arith in rw (get_or-drop, e)
 
 -- a walker's step: the row's member, what is inside it and what is next, where the next row, if there is one, stands behind
 pub members_step : (s : List ℕ) (count : ℕ) (tape : List ℕ) (n : ℕ) → n < count
-    → (0 < rowNumber (row_at tape n) 8 → n < rowNumber (row_at tape n) 8)
-    → membersAt s count tape n ≡ walked s count tape n (row_at tape n)
-unfolding membersAt
+    → (0 < row_number (row_at tape n) 8 → n < row_number (row_at tape n) 8)
+    → members_at s count tape n ≡ walked s count tape n (row_at tape n)
+unfolding members_at
 members_step s count tape n h k =
     let row = row_at tape n in
     let all = members_of s 0 (rows_of count tape) in
     let e : 0 + n ≡ n = omega arith in
     members-there s 0 n count tape h
-    ∙ ap (λ i. membersBy s i row (drop (suc n) all)) e
-    ∙ λ j. member (part s (rowNumber row 1) (rowNumber row 2)) (contentIn s row (reach-inside all n (eqb (rowNumber row 7) 0) j)) (reach-next all n (rowNumber row 8) k j)
+    ∙ ap (λ i. members_by s i row (drop (suc n) all)) e
+    ∙ λ j. member (part s (row_number row 1) (row_number row 2)) (content_in s row (reach-inside all n (eqb (row_number row 7) 0) j)) (reach-next all n (row_number row 8) k j)
 
 -- xs stands in the tape from row n on
 pub record At (tape : List ℕ) (n : ℕ) (xs : List ℕ) : Type 0 where
   pub rest : List ℕ
-  pub there : drop (rowSize * n) tape ≡ xs ++ rest
+  pub there : drop (row_size * n) tape ≡ xs ++ rest
 
 -- what a tape begins with stands from row 0 on
 pub at-start : (xs rest : List ℕ) → At (xs ++ rest) 0 xs
@@ -154,73 +154,73 @@ module _ {tape : List ℕ} {n : ℕ} (xs ys : List ℕ) (h : At tape n (xs ++ ys
   at_left = record { rest = ys ++ h.rest; there = h.there ∙ append_assoc xs ys h.rest }
 
   -- behind xs, which is k rows long, stands ys
-  pub at_right : (k : ℕ) → length xs ≡ rowSize * k → At tape (n + k) ys
+  pub at_right : (k : ℕ) → length xs ≡ row_size * k → At tape (n + k) ys
   at_right k e =
-      let f : rowSize * (n + k) ≡ rowSize * n + rowSize * k = omega arith in
-      record { rest = h.rest; there = rw (f, ← drop-drop (rowSize * k) (rowSize * n) tape, h.there, append_assoc) (drop_at xs (ys ++ h.rest) (rowSize * k) e) }
+      let f : row_size * (n + k) ≡ row_size * n + row_size * k = omega arith in
+      record { rest = h.rest; there = rw (f, ← drop-drop (row_size * k) (row_size * n) tape, h.there, append_assoc) (drop_at xs (ys ++ h.rest) (row_size * k) e) }
 
   -- xs is a row: the one at n
-  pub at_row : length xs ≡ rowSize → row_at tape n ≡ xs
-  at_row e = rw (h.there, append_assoc) (take_at xs (ys ++ h.rest) rowSize e)
+  pub at_row : length xs ≡ row_size → row_at tape n ≡ xs
+  at_row e = rw (h.there, append_assoc) (take_at xs (ys ++ h.rest) row_size e)
 
 -- the parts of members that stand from row n on: their first row, what is inside it, and the members behind it
 module _ (w : Span) (c : PlacedContent) (more : Entries) {tape : List ℕ} (n : ℕ)
-    (h : At tape n (entriesTape (entry w c more) n)) where
-  pub row-there : row_at tape n ≡ tapeRowOf w c (nextRow (n + 1 + contentRows c) more)
-  unfolding entriesTape
+    (h : At tape n (entries_tape (entry w c more) n)) where
+  pub row-there : row_at tape n ≡ tape_row_of w c (next_row (n + 1 + content_rows c) more)
+  unfolding entries_tape
   row-there = at_row _ _ h (row-length w c _)
 
-  behind-there : At tape (n + 1) (contentTape c (n + 1) ++ entriesTape more (n + 1 + contentRows c))
-  unfolding entriesTape
-  behind-there = at_right (tapeRowOf w c (nextRow (n + 1 + contentRows c) more)) _ h 1 (row-length w c _)
+  behind-there : At tape (n + 1) (content_tape c (n + 1) ++ entries_tape more (n + 1 + content_rows c))
+  unfolding entries_tape
+  behind-there = at_right (tape_row_of w c (next_row (n + 1 + content_rows c) more)) _ h 1 (row-length w c _)
 
-  pub inside-there : At tape (n + 1) (contentTape c (n + 1))
+  pub inside-there : At tape (n + 1) (content_tape c (n + 1))
   inside-there = at_left _ _ behind-there
 
-  pub more-there : At tape (n + 1 + contentRows c) (entriesTape more (n + 1 + contentRows c))
-  more-there = at_right (contentTape c (n + 1)) _ behind-there (contentRows c) (content-length c (n + 1))
+  pub more-there : At tape (n + 1 + content_rows c) (entries_tape more (n + 1 + content_rows c))
+  more-there = at_right (content_tape c (n + 1)) _ behind-there (content_rows c) (content-length c (n + 1))
 
 -- a next row is behind, and one of those that there are
-pub next-within : (more : Entries) (n m count : ℕ) → n < m → m + entry_rows more ≤ count → 0 < nextRow m more
-    → (n < nextRow m more) × (nextRow m more < count)
+pub next-within : (more : Entries) (n m count : ℕ) → n < m → m + entry_rows more ≤ count → 0 < next_row m more
+    → (n < next_row m more) × (next_row m more < count)
 unfolding entry_rows
 next-within no_more n m count h l k = absurd (omega arith)
 next-within (entry w c more) n m count h l k = (h, omega arith)
 
 -- a type is read back
 type-back : (s : List ℕ) (t : Option Span) → TypeEnded t
-    → cond (eqb (typeEnd t) 0) none (some (part s (typeStart t) (typeEnd t))) ≡ map (spelledSpan s) t
+    → cond (eqb (type_end t) 0) none (some (part s (type_start t) (type_end t))) ≡ map (spelled_span s) t
 type-back s none h = refl
 type-back s (some x) h = rw (ne_eqb x.end 0 (λ e. omega arith))
 
 module _ (s : List ℕ) (count : ℕ) (tape : List ℕ) where
   -- the row that is told as the next is the one where the next members stand
   next-linked : (more : Entries) (m : ℕ) → 0 < m
-      → linked s count tape (nextRow m more) (nextRow m more) ≡ linked s count tape (entry_rows more) m
+      → linked s count tape (next_row m more) (next_row m more) ≡ linked s count tape (entry_rows more) m
   unfolding entry_rows
   next-linked no_more m h = refl
   next-linked (entry w c more) m h = rw (ne_eqb m 0 (λ e. omega arith), eqb-suc-zero)
 
   mutual
-    unfolding EachBlock EachEntry EachContent blockRows entry_rows contentRows blockTape contentTape spelledBlock spelledEntries spelledContent
+    unfolding EachBlock EachEntry EachContent block_rows entry_rows content_rows block_tape content_tape spelled_block spelled_entries spelled_content
 
     -- members that stand from row n on are read back from there
     block_back : (b : Block) (w : Span) (next n : ℕ) → Ended w (inside b) → EachBlock b Ended
-        → At tape (n + 1) (blockTape b (n + 1)) → n + 1 + blockRows b ≤ count
-        → contentIn s (tapeRowOf w (inside b) next)
-        (linked s count tape (rowNumber (tapeRowOf w (inside b) next) 7) (n + 1)) ≡ Data.block (spelledBlock b s)
+        → At tape (n + 1) (block_tape b (n + 1)) → n + 1 + block_rows b ≤ count
+        → content_in s (tape_row_of w (inside b) next)
+        (linked s count tape (row_number (tape_row_of w (inside b) next) 7) (n + 1)) ≡ Data.block (spelled_block b s)
     block_back (block p t ms) w next n e h a l = λ j. Data.block (datum p (type-back s t e j) (entries-back ms (n + 1) h a l j))
 
-    pub entries-back : (ms : Entries) (n : ℕ) → EachEntry ms Ended → At tape n (entriesTape ms n)
+    pub entries-back : (ms : Entries) (n : ℕ) → EachEntry ms Ended → At tape n (entries_tape ms n)
         → n + entry_rows ms ≤ count
-        → linked s count tape (entry_rows ms) n ≡ spelledEntries ms s
+        → linked s count tape (entry_rows ms) n ≡ spelled_entries ms s
     entries-back no_more n h a l = refl
     entries-back (entry w c more) n h a l =
-        let m = n + 1 + contentRows c in
-        let next = nextRow m more in
+        let m = n + 1 + content_rows c in
+        let next = next_row m more in
         let e = row-there w c more n a in
         let r = row-numbers w c next in
-        let k : rowNumber (row_at tape n) 8 ≡ next = ap (λ row. rowNumber row 8) e ∙ r.2 in
+        let k : row_number (row_at tape n) 8 ≡ next = ap (λ row. row_number row 8) e ∙ r.2 in
         rw eqb-suc-zero
         (members_step s count tape n (omega arith) (rw k (λ i. (next-within more n m count (omega arith) (omega arith) i).0))
         ∙ ap (walked s count tape n) e
@@ -228,18 +228,18 @@ module _ (s : List ℕ) (count : ℕ) (tape : List ℕ) where
         ((ap (λ i. linked s count tape i i) r.2 ∙ next-linked more m (omega arith) ∙ entries-back more m h.2 (more-there w c more n a) (omega arith)) j))
 
     content-back : (c : PlacedContent) (w : Span) (next n : ℕ) → Ended w c → EachContent c Ended
-        → At tape (n + 1) (contentTape c (n + 1)) → n + 1 + contentRows c ≤ count
-        → contentIn s (tapeRowOf w c next) (linked s count tape (rowNumber (tapeRowOf w c next) 7) (n + 1))
-        ≡ spelledContent c s
+        → At tape (n + 1) (content_tape c (n + 1)) → n + 1 + content_rows c ≤ count
+        → content_in s (tape_row_of w c next) (linked s count tape (row_number (tape_row_of w c next) 7) (n + 1))
+        ≡ spelled_content c s
     content-back (string p x) w next n e h a l = refl
     content-back (word p x) w next n e h a l = refl
     content-back (inside b) w next n e h a l = block_back b w next n e h a l
 
 -- the members are read back from their tape, whatever stands behind it
 pub tape-back : (s : List ℕ) (ms : Entries) (rest : List ℕ) → EachEntry ms Ended
-    → membersAt s (entry_rows ms) (entriesTape ms 0 ++ rest) 0 ≡ spelledEntries ms s
-unfolding entry_rows membersAt spelledEntries
+    → members_at s (entry_rows ms) (entries_tape ms 0 ++ rest) 0 ≡ spelled_entries ms s
+unfolding entry_rows members_at spelled_entries
 tape-back s no_more rest h = refl
 tape-back s (entry w c more) rest h =
     let ms = entry w c more in
-    rw eqb-suc-zero at (entries-back s (entry_rows ms) (entriesTape ms 0 ++ rest) ms 0 h (at-start (entriesTape ms 0) rest) (omega arith))
+    rw eqb-suc-zero at (entries-back s (entry_rows ms) (entries_tape ms 0 ++ rest) ms 0 h (at-start (entries_tape ms 0) rest) (omega arith))

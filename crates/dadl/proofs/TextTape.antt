@@ -5,45 +5,45 @@ use mathlib.Core.List.{List, ◌++◌}
 use Prim.Native.Nat.{ℕ, ◌*◌, ◌≤◌}
 use native.Mathlib.Omega.{arith}
 use lib.ListN.{length}
-use Rattle.refusals.specs.Reading.{Reading, refused, got, readThen}
+use Rattle.refusals.specs.Reading.{Reading, refused, got, read_then}
 use Rattle.refusals.specs.declared.Refusal.{Refusal}
 use Rattle.meaning.specs.Data.{Datum, datum}
-use Rattle.dadl.specs.Placed.{Span, Block, block, Entries, spelledSpan, spelledBlock, spelledEntries}
-use Rattle.dadl.specs.Data.{block_of, datumOf}
-use Rattle.dadl.specs.contracts.Tape.{blockRows, entry_rows, entriesTape, membersAt}
-use Rattle.dadl.specs.contracts.Rows.{TapeGood}
+use Rattle.dadl.specs.Placed.{Span, Block, block, Entries, spelled_span, spelled_block, spelled_entries}
+use Rattle.dadl.specs.Data.{block_of, datum_of}
+use Rattle.dadl.specs.Clauses.Tape.{block_rows, entry_rows, entries_tape, members_at}
+use Rattle.dadl.specs.Clauses.Rows.{TapeGood}
 use Rattle.dadl.proofs.TapeLaws.{EachBlock, EachEntry, tape-back}
 use Rattle.dadl.proofs.GoodTapes.{Lies, each-ended, tape-good}
 use Rattle.dadl.proofs.TreeReading.{accepted}
 
 module _ (levels : ℕ) (s : List ℕ) where
-  -- a text's datum is its block's, spelledSpan out
-  pub datum-got : (b : Block) (end : ℕ) → block_of levels s ≡ got b end → datumOf levels s ≡ got (spelledBlock b s) end
-  unfolding datumOf
+  -- a text's datum is its block's, spelled_span out
+  pub datum-got : (b : Block) (end : ℕ) → block_of levels s ≡ got b end → datum_of levels s ≡ got (spelled_block b s) end
+  unfolding datum_of
   datum-got b end e = rw e
 
   -- a text whose block is refused has its datum refused so
-  pub datum-refused : (r : Refusal) → block_of levels s ≡ refused r → datumOf levels s ≡ refused r
-  unfolding datumOf
+  pub datum-refused : (r : Refusal) → block_of levels s ≡ refused r → datum_of levels s ≡ refused r
+  unfolding datum_of
   datum-refused r e = rw e
 
   -- a datum is told only where a block is
-  pub block-got : (d : Datum) (end : ℕ) → datumOf levels s ≡ got d end
-      → (b : Block) × (block_of levels s ≡ got b end) × (spelledBlock b s ≡ d)
-  unfolding datumOf
+  pub block-got : (d : Datum) (end : ℕ) → datum_of levels s ≡ got d end
+      → (b : Block) × (block_of levels s ≡ got b end) × (spelled_block b s ≡ d)
+  unfolding datum_of
   block-got d end = go (block_of levels s) refl
     where
-      go : (r : Reading Block) → block_of levels s ≡ r → readThen r (λ b p. got (spelledBlock b s) p) ≡ got d end
-          → (b : Block) × (block_of levels s ≡ got b end) × (spelledBlock b s ≡ d)
+      go : (r : Reading Block) → block_of levels s ≡ r → read_then r (λ b p. got (spelled_block b s) p) ≡ got d end
+          → (b : Block) × (block_of levels s ≡ got b end) × (spelled_block b s ≡ d)
       go (refused x) f e = absurd (let z : ◌≡◌ {A = ℕ} 0 1 = cc in omega arith)
       go (got b p) f e = (b, (cc), (cc))
 
   -- a datum is refused only where the block is
-  pub block_refused : (r : Refusal) → datumOf levels s ≡ refused r → block_of levels s ≡ refused r
-  unfolding datumOf
+  pub block_refused : (r : Refusal) → datum_of levels s ≡ refused r → block_of levels s ≡ refused r
+  unfolding datum_of
   block_refused r = go (block_of levels s) refl
     where
-      go : (x : Reading Block) → block_of levels s ≡ x → readThen x (λ b p. got (spelledBlock b s) p) ≡ refused r
+      go : (x : Reading Block) → block_of levels s ≡ x → read_then x (λ b p. got (spelled_block b s) p) ≡ refused r
           → block_of levels s ≡ refused r
       go (refused x) f e = cc
       go (got b p) f e = absurd (let z : ◌≡◌ {A = ℕ} 0 1 = cc in omega arith)
@@ -57,20 +57,20 @@ module _ (levels : ℕ) (s : List ℕ) (p : ℕ) (t : Option Span) (ms : Entries
 
   -- each member takes four bytes of the text
   pub text-room : 4 * entry_rows ms ≤ length s
-  unfolding blockRows
+  unfolding block_rows
   text-room = (accepted levels s (block p t ms) end e).room
 
   -- a judge may walk the tape, whatever stands behind it
-  pub text-good : (rest : List ℕ) → TapeGood (length s) (entry_rows ms) (entriesTape ms 0 ++ rest)
+  pub text-good : (rest : List ℕ) → TapeGood (length s) (entry_rows ms) (entries_tape ms 0 ++ rest)
   text-good rest = tape-good (length s) ms rest text-lies
 
   -- the members are read back from it
-  pub text-back : (rest : List ℕ) → membersAt s (entry_rows ms) (entriesTape ms 0 ++ rest) 0 ≡ spelledEntries ms s
+  pub text-back : (rest : List ℕ) → members_at s (entry_rows ms) (entries_tape ms 0 ++ rest) 0 ≡ spelled_entries ms s
   text-back rest = tape-back s ms rest (each-ended (length s) ms text-lies)
 
   -- the text's datum is read back from it
   pub text-datum : (rest : List ℕ)
-      → datumOf levels s
-      ≡ got (datum p (map (spelledSpan s) t) (membersAt s (entry_rows ms) (entriesTape ms 0 ++ rest) 0)) end
-  unfolding spelledBlock
+      → datum_of levels s
+      ≡ got (datum p (map (spelled_span s) t) (members_at s (entry_rows ms) (entries_tape ms 0 ++ rest) 0)) end
+  unfolding spelled_block
   text-datum rest = rw (text-back rest) (datum-got levels s (block p t ms) end e)

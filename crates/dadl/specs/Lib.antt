@@ -1,3 +1,3 @@
 pub mod Placed
 pub mod Data
-pub mod contracts
+pub mod Clauses

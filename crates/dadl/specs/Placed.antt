@@ -26,18 +26,18 @@ mutual
     word : (place : ℕ) (text : Span) → PlacedContent
     inside : Block → PlacedContent
 
-abbrev pub spelledSpan : List ℕ → Span → List ℕ
-spelledSpan s x = part s x.start x.end
+abbrev pub spelled_span : List ℕ → Span → List ℕ
+spelled_span s x = part s x.start x.end
 
 unfoldable mutual
-  pub spelledBlock : Block → List ℕ → Datum
-  spelledBlock (block p t ms) s = datum p (map (spelledSpan s) t) (spelledEntries ms s)
+  pub spelled_block : Block → List ℕ → Datum
+  spelled_block (block p t ms) s = datum p (map (spelled_span s) t) (spelled_entries ms s)
 
-  pub spelledEntries : Entries → List ℕ → Members
-  spelledEntries no_more s = Data.no_more
-  spelledEntries (entry w c more) s = member (spelledSpan s w) (spelledContent c s) (spelledEntries more s)
+  pub spelled_entries : Entries → List ℕ → Members
+  spelled_entries no_more s = Data.no_more
+  spelled_entries (entry w c more) s = member (spelled_span s w) (spelled_content c s) (spelled_entries more s)
 
-  pub spelledContent : PlacedContent → List ℕ → Data.Content
-  spelledContent (string p x) s = Data.string p (spelledSpan s x)
-  spelledContent (word p x) s = Data.word p (spelledSpan s x)
-  spelledContent (inside b) s = Data.block (spelledBlock b s)
+  pub spelled_content : PlacedContent → List ℕ → Data.Content
+  spelled_content (string p x) s = Data.string p (spelled_span s x)
+  spelled_content (word p x) s = Data.word p (spelled_span s x)
+  spelled_content (inside b) s = Data.block (spelled_block b s)

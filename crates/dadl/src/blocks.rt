@@ -1,8 +1,8 @@
 // Blocks, members and what they put on the tape; the levels left fall from block to block.
 ghost use Rattle.std.specs.Prelude.{◌≡◌, [], ◌+◌, ◌-◌, length};
-ghost use Rattle.refusals.specs.Parsing.{firstIn};
-ghost use Rattle.dadl.specs.Data.{members, blockFrom};
-ghost use Rattle.dadl.specs.contracts.Answers.{link_of, leafRow, block_row, Finish, finishedRows, memberWrote, RowsRoom, Earlier, MemberRoom, MemberIs, RowsIs, entriesFrom};
+ghost use Rattle.refusals.specs.Parsing.{first_in};
+ghost use Rattle.dadl.specs.Data.{members, block_from};
+ghost use Rattle.dadl.specs.Clauses.Answers.{link_of, leaf_row, block_row, Finish, finished_rows, member_wrote, RowsRoom, Earlier, MemberRoom, MemberIs, RowsIs, entries_from};
 
 use crate::contents::ContentStart;
 use crate::names::member_start;
@@ -35,7 +35,7 @@ fn link_of(sort: u8, rows: usize) -> usize
 
 // The row of a leaf.
 fn leaf_row(t: Token, holds: usize, place: usize, start: usize, end: usize) -> Row
-    ensures { result ≡ leafRow t holds place start end }
+    ensures { result ≡ leaf_row t holds place start end }
 {
     Row {
         holds,
@@ -68,8 +68,8 @@ fn block_row(t: Token, place: usize, start: usize, end: usize, inside: usize) ->
 // Writes a member's row, once the token behind the member is seen.
 fn finish(s: &[u8], tape: &mut [u16], n: usize, row: Row, rows: usize, from: usize) -> MemberRead
     requires { Finish s.now n row rows from tape.old }
-    ensures { memberWrote result tape.new
-        ≡ finishedRows s.now n row rows from tape.old }
+    ensures { member_wrote result tape.new
+        ≡ finished_rows s.now n row rows from tape.old }
 {
     let after = data_token_at(s, from);
     let next = link_of(after.sort, rows);
@@ -88,7 +88,7 @@ pub fn read_block(
     n: usize,
 ) -> RowsRead
     requires { RowsRoom s.now levels from n tape.old }
-    ensures { RowsIs s.now from n tape.old (entriesFrom s.now levels place from)
+    ensures { RowsIs s.now from n tape.old (entries_from s.now levels place from)
         tape.new result }
 {
     if levels == 0 {
@@ -105,7 +105,7 @@ pub fn read_block(
 fn read_members(s: &[u8], levels: usize, from: usize, tape: &mut [u16], n: usize) -> RowsRead
     requires { RowsRoom s.now (levels + 1) from n tape.old }
     ensures { RowsIs s.now from n tape.old
-        (firstIn (members s.now (blockFrom s.now levels) (length s.now + 1) [] from))
+        (first_in (members s.now (block_from s.now levels) (length s.now + 1) [] from))
         tape.new result }
 {
     let mut rows = n;

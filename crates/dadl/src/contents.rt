@@ -1,8 +1,8 @@
 // What stands behind a member's `=`: a leaf, or the opening of a block.
 ghost use Rattle.std.specs.Prelude.{◌≡◌, ◌≤◌, length};
-ghost use Rattle.lexis.specs.DataTokens.{dataTokenAt};
-ghost use Rattle.lexis.specs.contracts.Answers.{TokenIs};
-ghost use Rattle.dadl.specs.contracts.Answers.{Behind, ContentIs, LeafEnds, leafBy, lessFrom, typedContent, contentOf};
+ghost use Rattle.lexis.specs.DataTokens.{data_token_at};
+ghost use Rattle.lexis.specs.Clauses.Answers.{TokenIs};
+ghost use Rattle.dadl.specs.Clauses.Answers.{Behind, ContentIs, LeafEnds, leaf_by, less_from, typed_content, content_of};
 
 use crate::tokens::{Opening, expect_data, typed_opening};
 use lexis::data_tokens::{mark_token_at, value_token_at};
@@ -64,10 +64,10 @@ fn leaf_end(
 
 // A string, its quotes left out, and `>`.
 fn string_leaf(s: &[u8], place: usize, from: usize, t: Token) -> ContentStart
-    requires token_is { TokenIs s.now from (dataTokenAt s.now from) t }
+    requires token_is { TokenIs s.now from (data_token_at s.now from) t }
     requires behind { Behind s.now place from }
     requires sort_value { t.sort ≡ 11 }
-    ensures { ContentIs s.now place (leafBy s.now place t) result }
+    ensures { ContentIs s.now place (leaf_by s.now place t) result }
 {
     let start = t.start + 1;
     let end = t.end - 1;
@@ -81,10 +81,10 @@ fn string_leaf(s: &[u8], place: usize, from: usize, t: Token) -> ContentStart
 
 // A good word and `>`.
 fn word_leaf(s: &[u8], place: usize, from: usize, t: Token) -> ContentStart
-    requires token_is { TokenIs s.now from (dataTokenAt s.now from) t }
+    requires token_is { TokenIs s.now from (data_token_at s.now from) t }
     requires behind { Behind s.now place from }
     requires sort_value { t.sort ≡ 26 }
-    ensures { ContentIs s.now place (leafBy s.now place t) result }
+    ensures { ContentIs s.now place (leaf_by s.now place t) result }
 {
     let start = t.start;
     let end = t.end;
@@ -101,7 +101,7 @@ fn word_leaf(s: &[u8], place: usize, from: usize, t: Token) -> ContentStart
 // Behind a `<` with no type: a leaf where a string or a word follows, else a block.
 fn less_content(s: &[u8], place: usize, from: usize) -> ContentStart
     requires { Behind s.now place from }
-    ensures { ContentIs s.now place (lessFrom s.now place from) result }
+    ensures { ContentIs s.now place (less_from s.now place from) result }
 {
     let t = value_token_at(s, from);
     if t.sort == STRING {
@@ -121,7 +121,7 @@ fn less_content(s: &[u8], place: usize, from: usize) -> ContentStart
 // Behind `(`: the type and the `<` of a block.
 fn typed_content(s: &[u8], from: usize) -> ContentStart
     requires { from ≤ length s.now }
-    ensures { ContentIs s.now from (typedContent s.now from) result }
+    ensures { ContentIs s.now from (typed_content s.now from) result }
 {
     match typed_opening(s, from) {
         Opening::Shut(fault) => { ContentStart::Faulty(fault) }
@@ -144,7 +144,7 @@ fn typed_content(s: &[u8], from: usize) -> ContentStart
 // What stands behind a member's `=`.
 pub fn content_start(s: &[u8], from: usize) -> ContentStart
     requires { from ≤ length s.now }
-    ensures { ContentIs s.now from (contentOf s.now from) result }
+    ensures { ContentIs s.now from (content_of s.now from) result }
 {
     let t = mark_token_at(s, from, LESS, OPEN_ROUND);
     if t.sort == OPEN_ROUND {

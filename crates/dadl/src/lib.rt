@@ -6,12 +6,12 @@ pub mod rows;
 mod tokens;
 
 ghost use Rattle.std.specs.Prelude.{◌≡◌, ◌≤◌, length};
-ghost use Rattle.lexis.specs.Tokens.{textEnd};
-ghost use Rattle.refusals.specs.Limits.{levelLimit};
-ghost use Rattle.refusals.specs.Parsing.{firstIn};
+ghost use Rattle.lexis.specs.Tokens.{text_end};
+ghost use Rattle.refusals.specs.Limits.{level_limit};
+ghost use Rattle.refusals.specs.Parsing.{first_in};
 ghost use Rattle.dadl.specs.Data.{block_of};
 ghost use Rattle.dadl.specs.Data as definitions;
-ghost use Rattle.dadl.specs.contracts.Answers.{endAnswer, TapeRoom, dataWrote, dataWritten};
+ghost use Rattle.dadl.specs.Clauses.Answers.{end_answer, TapeRoom, data_wrote, data_written};
 
 use crate::blocks::{RowsRead, read_block};
 use crate::tokens::{Opening, expect_data, outermost_opening};
@@ -38,7 +38,7 @@ pub enum DataRead {
 fn text_end(s: &[u8], place: usize, start: usize, end: usize, rows: usize, from: usize) -> DataRead
     requires { from ≤ length s.now }
     ensures { result
-        ≡ endAnswer place start end rows (firstIn (definitions.expectData s.now textEnd from)) }
+        ≡ end_answer place start end rows (first_in (definitions.expect_data s.now text_end from)) }
 {
     match expect_data(s, TEXT_END, from) {
         Expected::Fault(fault) => {
@@ -59,10 +59,10 @@ fn text_end(s: &[u8], place: usize, start: usize, end: usize, rows: usize, from:
 // Reads a data text of at most so many levels: its first refusal, or its outermost block, the rows of whose members are then
 // on the tape.
 pub fn read_data(s: &[u8], levels: usize, tape: &mut [u16]) -> DataRead
-    requires levels_le_level_limit { levels ≤ levelLimit }
+    requires levels_le_level_limit { levels ≤ level_limit }
     requires tape_room { TapeRoom s.now tape.old }
-    ensures { dataWrote result tape.new
-        ≡ dataWritten tape.old (block_of levels s.now) }
+    ensures { data_wrote result tape.new
+        ≡ data_written tape.old (block_of levels s.now) }
 {
     if TEXT_LIMIT < s.len() {
         return DataRead::Refused(Refusal {

@@ -1,9 +1,9 @@
 // A member's name: its bytes, and whether an earlier member of its block has it.
 ghost use Rattle.std.specs.Prelude.{◌≡◌, ◌+◌};
 ghost use Rattle.lexis.specs.Runs.{listed};
-ghost use Rattle.refusals.specs.Parsing.{firstIn};
-ghost use Rattle.dadl.specs.Data.{nameFrom};
-ghost use Rattle.dadl.specs.contracts.Answers.{Inside, Earlier, earlierNames, SpanIs, ContentIs, memberReading};
+ghost use Rattle.refusals.specs.Parsing.{first_in};
+ghost use Rattle.dadl.specs.Data.{name_from};
+ghost use Rattle.dadl.specs.Clauses.Answers.{Inside, Earlier, earlier_names, SpanIs, ContentIs, member_reading};
 
 use crate::contents::{ContentStart, content_start};
 use crate::rows::{number, row_name};
@@ -16,7 +16,7 @@ use refusals::{Cause, Refusal};
 // Whether bytes are a name of the rows from `first` on, from link to link, up to `end`.
 fn repeated(s: &[u8], tape: &[u16], first: usize, end: usize, name: &[u8]) -> bool
     requires { Earlier s.now tape.now first end }
-    ensures { result ≡ listed name.now (earlierNames s.now tape.now first end) }
+    ensures { result ≡ listed name.now (earlier_names s.now tape.now first end) }
 {
     let mut n = first;
     let mut again = false;
@@ -45,7 +45,7 @@ fn name_from(s: &[u8], tape: &[u16], first: usize, end: usize, t: Token) -> Span
     requires earlier { Earlier s.now tape.now first end }
     requires inside { Inside s.now t.start t.end }
     ensures { SpanIs s.now t.start
-        (firstIn (nameFrom s.now (earlierNames s.now tape.now first end) t)) result }
+        (first_in (name_from s.now (earlier_names s.now tape.now first end) t)) result }
 {
     if NAME_LIMIT < t.end - t.start {
         let fault = too_long(t);
@@ -78,7 +78,7 @@ pub fn member_start(s: &[u8], tape: &[u16], first: usize, end: usize, t: Token) 
     requires earlier { Earlier s.now tape.now first end }
     requires inside { Inside s.now t.start t.end }
     ensures { ContentIs s.now (t.start + 2)
-        (memberReading s.now (earlierNames s.now tape.now first end) t) result }
+        (member_reading s.now (earlier_names s.now tape.now first end) t) result }
 {
     match name_from(s, tape, first, end, t) {
         SpanRead::Bad(fault) => ContentStart::Faulty(fault),

@@ -1,8 +1,8 @@
 // Rows of the tape: nine numbers each.
 ghost use Rattle.std.specs.Prelude.{◌≡◌, ◌+◌, ◌*◌, ◌<◌, length};
 ghost use Rattle.std.proofs.lemmas.List.Edits.{sets};
-ghost use Rattle.dadl.specs.contracts.Tape.{rowSize};
-ghost use Rattle.dadl.specs.contracts.Answers.{RowFits, rowNumbers, number_at, name_at, NameLies};
+ghost use Rattle.dadl.specs.Clauses.Tape.{row_size};
+ghost use Rattle.dadl.specs.Clauses.Answers.{RowFits, row_numbers, number_at, name_at, NameLies};
 
 // The numbers of a row.
 pub const ROW_SIZE: usize = 9;
@@ -33,7 +33,7 @@ fn wide(x: u16) -> usize
 
 // The number i of row n.
 pub fn number(tape: &[u16], n: usize, i: usize) -> usize
-    requires { rowSize * n + i < length tape.now }
+    requires { row_size * n + i < length tape.now }
     ensures { result ≡ number_at tape.now n i }
 {
     wide(tape[ROW_SIZE * n + i])
@@ -52,7 +52,7 @@ pub fn row_name<'a>(s: &'a [u8], tape: &[u16], n: usize) -> &'a [u8]
 // Writes row n.
 pub fn put_row(tape: &mut [u16], n: usize, row: Row, next: usize)
     requires { RowFits n row next tape.old }
-    ensures { tape.new ≡ sets tape.old (rowSize * n) (rowNumbers row next) }
+    ensures { tape.new ≡ sets tape.old (row_size * n) (row_numbers row next) }
 {
     let i = ROW_SIZE * n;
     tape[i] = row.holds as u16;

@@ -1,9 +1,9 @@
 // Tokens that must stand at a place, and a block's type and `<`.
 ghost use Rattle.std.specs.Prelude.{◌≤◌, length};
-ghost use Rattle.refusals.specs.Parsing.{firstIn};
-ghost use Rattle.refusals.specs.contracts.Answers.{ExpectIs};
-ghost use Rattle.dadl.specs.Data.{expectData, typeFrom};
-ghost use Rattle.dadl.specs.contracts.Answers.{SpanIs, SpanBefore, OpeningIs, typedLess, typedFrom, OutermostIs};
+ghost use Rattle.refusals.specs.Parsing.{first_in};
+ghost use Rattle.refusals.specs.Clauses.Answers.{ExpectIs};
+ghost use Rattle.dadl.specs.Data.{expect_data, type_from};
+ghost use Rattle.dadl.specs.Clauses.Answers.{SpanIs, SpanBefore, OpeningIs, typed_less, typed_from, OutermostIs};
 
 use lexis::data_tokens::{mark_token_at, type_token_at};
 use lexis::{CLOSE_ROUND, LESS, OPEN_ROUND, TYPE_NAME};
@@ -37,7 +37,7 @@ pub enum Opening {
 // A token of the sort asked for.
 pub fn expect_data(s: &[u8], sort: u8, from: usize) -> Expected
     requires { from ≤ length s.now }
-    ensures { ExpectIs s.now sort from (firstIn (expectData s.now sort from)) result }
+    ensures { ExpectIs s.now sort from (first_in (expect_data s.now sort from)) result }
 {
     taken(mark_token_at(s, from, sort, sort), sort)
 }
@@ -45,7 +45,7 @@ pub fn expect_data(s: &[u8], sort: u8, from: usize) -> Expected
 // Behind `(`: a TYPE and `)`.
 fn type_from(s: &[u8], from: usize) -> SpanRead
     requires { from ≤ length s.now }
-    ensures { SpanIs s.now from (firstIn (typeFrom s.now from)) result }
+    ensures { SpanIs s.now from (first_in (type_from s.now from)) result }
 {
     let t = type_token_at(s, from);
     if t.sort != TYPE_NAME {
@@ -74,7 +74,7 @@ fn type_from(s: &[u8], from: usize) -> SpanRead
 fn typed_less(s: &[u8], start: usize, end: usize, from: usize) -> Opening
     requires from_in_bounds { from ≤ length s.now }
     requires span_before { SpanBefore start end from }
-    ensures { OpeningIs s.now from (typedLess s.now start end from) result }
+    ensures { OpeningIs s.now from (typed_less s.now start end from) result }
 {
     match expect_data(s, LESS, from) {
         Expected::Fault(fault) => {
@@ -94,7 +94,7 @@ fn typed_less(s: &[u8], start: usize, end: usize, from: usize) -> Opening
 // Behind `(`: a TYPE, `)` and `<`.
 pub fn typed_opening(s: &[u8], from: usize) -> Opening
     requires { from ≤ length s.now }
-    ensures { OpeningIs s.now from (typedFrom s.now from) result }
+    ensures { OpeningIs s.now from (typed_from s.now from) result }
 {
     match type_from(s, from) {
         SpanRead::Bad(fault) => {

@@ -4,7 +4,7 @@ use mathlib.Core.Option.{Option, none, some}
 use mathlib.Core.List.{List}
 use Prim.Native.Nat.{ℕ, ◌<◌}
 use lib.Dec.{lit<}
-use Rattle.refusals.specs.Limits.{levelLimit}
+use Rattle.refusals.specs.Limits.{level_limit}
 use Rattle.refusals.specs.Outcomes.{gave}
 use Rattle.refusals.specs.declared.Refusal.{Refusal}
 use Rattle.refusals.proofs.Outcomes.{not-gave}
@@ -12,17 +12,17 @@ use Rattle.meaning.specs.Constraints.{Leaf, Object, Attributes, AttributeHead, V
 use Rattle.meaning.specs.Constraints
 use Rattle.meaning.specs.Data.{Datum, Members, Content}
 use Rattle.meaning.specs.Verdicts
-use Rattle.meaning.specs.Admission.{leafNumber}
-use Rattle.meaning.specs.Judging.{objectNumber}
+use Rattle.meaning.specs.Admission.{leaf_number}
+use Rattle.meaning.specs.Judging.{object_number}
 use Rattle.table.specs.Records.{image_of}
 use Rattle.table.specs.Rows.{shape_of}
-use Rattle.table.specs.Check.{tableFault}
-use Rattle.table.specs.Trees.{objectAt}
+use Rattle.table.specs.Check.{table_fault}
+use Rattle.table.specs.Trees.{object_at}
 use Rattle.table.specs.TableRules.{IsTable, KindAt, ObjectOrItem}
 use Rattle.table.specs.TableRules
 use Rattle.table.specs.Says.{SaysIntegers, SaysDates, SaysStrings, SaysLeaf, SaysObject, SaysAttributes, SaysValue, Says}
 use Rattle.table.proofs.SaysLaws.{link-below, says_there}
-use Rattle.judge.specs.Judge.{judgeAnswer}
+use Rattle.judge.specs.Judge.{judge_answer}
 use Rattle.rules_grammar.specs.FirstFailure.{LeafFails, FirstFailure, AttributesFail, AttributeFails, ValueFails}
 use Rattle.rules_grammar.specs.FirstFailure
 use Rattle.rules_grammar.proofs.FailurePlaces.{failure-opening}
@@ -35,10 +35,10 @@ item-kind : {kind : ℕ} → IsItem kind → ObjectOrItem kind
 item-kind IsItem.boolean = ObjectOrItem.boolean
 item-kind IsItem.integer = ObjectOrItem.integer
 item-kind IsItem.string = ObjectOrItem.string
-item-kind IsItem.datePattern = ObjectOrItem.datePattern
-item-kind IsItem.dateInterval = ObjectOrItem.dateInterval
-item-kind IsItem.timePattern = ObjectOrItem.timePattern
-item-kind IsItem.durationPattern = ObjectOrItem.durationPattern
+item-kind IsItem.date_pattern = ObjectOrItem.date_pattern
+item-kind IsItem.date_interval = ObjectOrItem.date_interval
+item-kind IsItem.time_pattern = ObjectOrItem.time_pattern
+item-kind IsItem.duration_pattern = ObjectOrItem.duration_pattern
 
 -- a record of the table that a reason names
 record Names (bs : List ℕ) (count reason number : ℕ) : Type 0 where
@@ -53,30 +53,30 @@ record Item (bs : List ℕ) (n : ℕ) : Type 0 where
   pub named : KindAt bs n kind
   pub item : IsItem kind
 
-item-named : {bs : List ℕ} {count n : ℕ} {l : Leaf} → SaysLeaf bs count n l → (leafNumber l ≡ n) × Item bs n
+item-named : {bs : List ℕ} {count n : ℕ} {l : Leaf} → SaysLeaf bs count n l → (leaf_number l ≡ n) × Item bs n
 item-named (SaysLeaf.boolean h) = (refl, record { kind = 3; named = h.kind; item = IsItem.boolean })
 item-named (SaysLeaf.integer (SaysIntegers.integer h a b s)) = (refl, record { kind = 4; named = h.kind; item = IsItem.integer })
 item-named (SaysLeaf.string (SaysStrings.string h w s)) = (refl, record { kind = 5; named = h.kind; item = IsItem.string })
-item-named (SaysLeaf.datePattern h) = (refl, record { kind = 6; named = h.kind; item = IsItem.datePattern })
-item-named (SaysLeaf.dateInterval (SaysDates.dateInterval h s)) = (refl, record { kind = 7; named = h.kind; item = IsItem.dateInterval })
-item-named (SaysLeaf.timePattern h) = (refl, record { kind = 8; named = h.kind; item = IsItem.timePattern })
-item-named (SaysLeaf.durationPattern h) = (refl, record { kind = 9; named = h.kind; item = IsItem.durationPattern })
+item-named (SaysLeaf.date_pattern h) = (refl, record { kind = 6; named = h.kind; item = IsItem.date_pattern })
+item-named (SaysLeaf.date_interval (SaysDates.date_interval h s)) = (refl, record { kind = 7; named = h.kind; item = IsItem.date_interval })
+item-named (SaysLeaf.time_pattern h) = (refl, record { kind = 8; named = h.kind; item = IsItem.time_pattern })
+item-named (SaysLeaf.duration_pattern h) = (refl, record { kind = 9; named = h.kind; item = IsItem.duration_pattern })
 
 reason-item : {bs : List ℕ} {n r : ℕ} {l : Leaf} {c : Content} → LeafFails l c r → (i : Item bs n)
     → ReasonRow r i.kind
-reason-item FirstFailure.blockForLeaf i = ReasonRow.unsuited (item-kind i.item)
+reason-item FirstFailure.block_for_leaf i = ReasonRow.unsuited (item-kind i.item)
 reason-item (FirstFailure.unreadable h) i = ReasonRow.unsuited (item-kind i.item)
-reason-item (FirstFailure.notAdmitted h k) i = ReasonRow.notAdmitted i.item
+reason-item (FirstFailure.not_admitted h k) i = ReasonRow.not_admitted i.item
 
 module _ {bs : List ℕ} {count pool root : ℕ} (t : IsTable bs count pool root) where
   leaf-names : {n r : ℕ} {l : Leaf} {c : Content} → LeafFails l c r → SaysLeaf bs count n l → n < count
-      → Names bs count r (leafNumber l)
+      → Names bs count r (leaf_number l)
   leaf-names {r = r} f s k =
       let x = item-named s in
       subst (Names bs count r) (sym x.0) (record { kind = x.1.kind; inside = k; named = x.1.named; row = reason-item f x.1 })
 
   -- a string or a word where an object is asked for
-  object-unsuited : {o : Object} {n : ℕ} → SaysObject bs count n o → n < count → Names bs count 20 (objectNumber o)
+  object-unsuited : {o : Object} {n : ℕ} → SaysObject bs count n o → n < count → Names bs count 20 (object_number o)
   object-unsuited (SaysObject.object h a b s) k = record { kind = 1; inside = k; named = h.kind; row = ReasonRow.unsuited ObjectOrItem.object }
 
   -- an attribute's own failure, where it is known of its value's
@@ -85,15 +85,15 @@ module _ {bs : List ℕ} {count pool root : ℕ} (t : IsTable bs count pool root
       → AttributeFails a v p ms r number q → KindAt bs a.number 2 → a.number < count → Names bs count r number
   attribute-names value (FirstFailure.missing e m) h k = record { kind = 2; inside = k; named = h; row = ReasonRow.missing }
   attribute-names value (FirstFailure.forbidden e m) h k = record { kind = 2; inside = k; named = h; row = ReasonRow.prohibited }
-  attribute-names value (FirstFailure.valueFails e m f) h k = value _ _ _ _ f
+  attribute-names value (FirstFailure.value_fails e m f) h k = value _ _ _ _ f
 
   mutual
     unfolding shape_of
 
     object-names : (o : Object) {d : Datum} {r number q n : ℕ} → FirstFailure o d r number q → SaysObject bs count n o
         → n < count → Names bs count r number
-    object-names (Constraints.object head xs) (FirstFailure.typeDiffers e) (SaysObject.object h a b s) k =
-        record { kind = 1; inside = k; named = h.kind; row = ReasonRow.typeDiffers }
+    object-names (Constraints.object head xs) (FirstFailure.type_differs e) (SaysObject.object h a b s) k =
+        record { kind = 1; inside = k; named = h.kind; row = ReasonRow.type_differs }
     object-names (Constraints.object head xs) (FirstFailure.inside y f) (SaysObject.object h a b s) k =
         attributes-names xs f s (link-below t h (lit< tt) k 4 _ (lit< tt) refl)
 
@@ -107,16 +107,16 @@ module _ {bs : List ℕ} {count pool root : ℕ} (t : IsTable bs count pool root
 
     value-names : (v : Value) {c : Content} {r number q n : ℕ} → ValueFails v c r number q → SaysValue bs count n v
         → n < count → Names bs count r number
-    value-names (Constraints.nested o) FirstFailure.stringForBlock (SaysValue.anObject s) k = object-unsuited s k
-    value-names (Constraints.nested o) FirstFailure.wordForBlock (SaysValue.anObject s) k = object-unsuited s k
-    value-names (Constraints.nested o) (FirstFailure.blockFails f) (SaysValue.anObject s) k = object-names o f s k
-    value-names (Constraints.leaf l) (FirstFailure.leafFails f) (SaysValue.aLeaf s) k = leaf-names f s k
+    value-names (Constraints.nested o) FirstFailure.string_for_block (SaysValue.an_object s) k = object-unsuited s k
+    value-names (Constraints.nested o) FirstFailure.word_for_block (SaysValue.an_object s) k = object-unsuited s k
+    value-names (Constraints.nested o) (FirstFailure.block_fails f) (SaysValue.an_object s) k = object-names o f s k
+    value-names (Constraints.leaf l) (FirstFailure.leaf_fails f) (SaysValue.a_leaf s) k = leaf-names f s k
 
 pub failure-told : (table : List ℕ) (root : ℕ) (form : List ℕ) (reason number place : ℕ)
-    → judgeAnswer table root form ≡ gave (Verdicts.fails reason number place)
+    → judge_answer table root form ≡ gave (Verdicts.fails reason number place)
     → FailureTold table form reason number place
-unfolding judgeAnswer
-failure-told table root form reason number place h = by (tableFault table) refl
+unfolding judge_answer
+failure-told table root form reason number place h = by (table_fault table) refl
   where
     told : (o : Object) → Says table root o → FailureTold table form reason number place
     told o s =
@@ -131,14 +131,14 @@ failure-told table root form reason number place h = by (tableFault table) refl
           inside = x.inside;
           named = x.named;
           row = x.row;
-          opening = failure-opening levelLimit form b o reason number place d f;
+          opening = failure-opening level_limit form b o reason number place d f;
         }
 
-    under : tableFault table ≡ none → (o : Option Object) → objectAt (image_of table) root ≡ o
+    under : table_fault table ≡ none → (o : Option Object) → object_at (image_of table) root ≡ o
         → FailureTold table form reason number place
     under e none f = absurd (not-gave (rw (e, f) at h))
     under e (some o) f = told o (says_there table root o e f)
 
-    by : (x : Option Refusal) → tableFault table ≡ x → FailureTold table form reason number place
-    by none e = under e (objectAt (image_of table) root) refl
+    by : (x : Option Refusal) → table_fault table ≡ x → FailureTold table form reason number place
+    by none e = under e (object_at (image_of table) root) refl
     by (some x) e = absurd (not-gave (rw e at h))

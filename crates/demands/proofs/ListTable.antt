@@ -7,11 +7,11 @@ use Rattle.lexis.specs.Text.{bytes}
 use Rattle.lexis.proofs.Tables.{wrong}
 use Rattle.meaning.specs.Verdicts.{valid, fails}
 use Rattle.table.proofs.Hex.{hex, filling}
-use Rattle.table_merge.proofs.Computes.{mergeComputes}
+use Rattle.table_merge.proofs.Computes.{merge_computes}
 use Rattle.table_merge.proofs.Examples.{step}
-use Rattle.compile.proofs.Computes.{compileComputes}
-use Rattle.judge.proofs.Computes.{judgeComputes}
-use Rattle.demands.specs.Demands.{meaningOf}
+use Rattle.compile.proofs.Computes.{compile_computes}
+use Rattle.judge.proofs.Computes.{judge_computes}
+use Rattle.demands.specs.Demands.{meaning_of}
 use Rattle.demands.proofs.Examples.{Case, judges, refuses, right}
 
 pub cases : List Case
@@ -119,5 +119,5 @@ cases =
     ∷ []
 
 pub none-wrong : wrong right 0 cases ≡ []
-unfolding wrong right cases meaningOf mergeComputes compileComputes judgeComputes
+unfolding wrong right cases meaning_of merge_computes compile_computes judge_computes
 none-wrong = refl

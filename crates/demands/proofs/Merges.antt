@@ -7,49 +7,49 @@ use mathlib.Core.List.{List, [], ◌∷◌}
 use Prim.Native.Nat.{ℕ, ◌+◌, ◌^◌, ◌<◌}
 use native.Mathlib.Omega.{arith}
 use lib.ListN.{length, take}
-use Rattle.refusals.specs.Limits.{levelLimit}
+use Rattle.refusals.specs.Limits.{level_limit}
 use Rattle.refusals.specs.Reading
 use Rattle.refusals.specs.Reading.{Reading, got}
 use Rattle.refusals.specs.Outcomes
-use Rattle.refusals.specs.Outcomes.{Outcome, gave, afterReading}
+use Rattle.refusals.specs.Outcomes.{Outcome, gave, after_reading}
 use Rattle.refusals.specs.declared.Refusal.{Refusal}
 use Rattle.refusals.proofs.Outcomes.{not-gave, same-given}
 use Rattle.meaning.specs.Constraints.{Object}
 use Rattle.meaning.specs.Data.{Datum}
 use Rattle.meaning.specs.Verdicts
 use Rattle.meaning.specs.Verdicts.{Verdict}
-use Rattle.dadl.specs.Placed.{Block, spelledBlock}
-use Rattle.meaning.specs.Moving.{movedObject}
-use Rattle.meaning.specs.contracts.Proper.{ProperObject}
+use Rattle.dadl.specs.Placed.{Block, spelled_block}
+use Rattle.meaning.specs.Moving.{moved_object}
+use Rattle.meaning.specs.Clauses.Proper.{ProperObject}
 use Rattle.meaning.proofs.Moved.{judge-moved, moved_none, moved_twice}
 use Rattle.meaning.proofs.NumberedLaws.{object-numbered}
-use Rattle.cadl_objects.specs.Texts.{constraintOf}
+use Rattle.cadl_objects.specs.Texts.{constraint_of}
 use Rattle.cadl_objects.proofs.TreeReading.{pre-order, pool-fits, records-fit, tree-proper}
-use Rattle.dadl.specs.Data.{datumOf}
+use Rattle.dadl.specs.Data.{datum_of}
 use Rattle.table.specs.Records.{count, image_of}
-use Rattle.table.specs.Check.{tableFault}
-use Rattle.table.specs.Trees.{ofObject, treeAt}
+use Rattle.table.specs.Check.{table_fault}
+use Rattle.table.specs.Trees.{of_object, tree_at}
 use Rattle.table.specs.Says.{Says}
 use Rattle.table.proofs.Checked.{Checked}
 use Rattle.table.proofs.SaysLaws.{says_there}
 use Rattle.table.proofs.CheckLaws.{check_sound, check-complete, image-back}
-use Rattle.table.proofs.TreeLaws.{movedTree}
+use Rattle.table.proofs.TreeLaws.{moved_tree}
 use Rattle.table_merge.specs.Joining.{merged}
-use Rattle.table_merge.specs.Merge.{request, MergeReport, MergeRefusal, mergeAnswer}
-use Rattle.table_merge.specs.Lists.{MergeStep, Carried, carried, behind, afterStep, afterSteps}
+use Rattle.table_merge.specs.Merge.{request, MergeReport, MergeRefusal, merge_answer}
+use Rattle.table_merge.specs.Lists.{MergeStep, Carried, carried, behind, after_step, after_steps}
 use Rattle.table_merge.proofs.MergeLaws.{count-merged, tree-kept, tree-moved}
 use Rattle.table_merge.proofs.CheckedMerge.{checked-merge}
 use Rattle.table_merge.proofs.Answers.{Joined, merge-gives}
 use Rattle.table_merge.proofs.StepLaws.{step_is}
-use Rattle.compile_flatten.specs.Flatten.{imageOfTree}
-use Rattle.compile.specs.Compile.{compileAnswer, table_of}
+use Rattle.compile_flatten.specs.Flatten.{image_of_tree}
+use Rattle.compile.specs.Compile.{compile_answer, table_of}
 use Rattle.compile.proofs.Answers.{Compiled, compile-gives}
 use Rattle.compile_flatten.specs.Layout.{IsCompiled}
 use Rattle.compile_flatten.proofs.FlattenLaws.{tree-compiled}
 use Rattle.compile_flatten.proofs.LayoutLaws.{compiled-is}
 use Rattle.compile_flatten.proofs.OneLayoutLaws.{compiled-only}
 use Rattle.compile_flatten.proofs.CheckedCompiled.{checked-compiled}
-use Rattle.judge.specs.Judge.{judgeDatum, judgeText, judgeAnswer, movedAnswer}
+use Rattle.judge.specs.Judge.{judge_datum, judge_text, judge_answer, moved_answer}
 use Rattle.rules_grammar.specs.ConstraintGrammar.{DerivesConstraint}
 use Rattle.rules_grammar.specs.DataGrammar.{DerivesData}
 use Rattle.rules_grammar.specs.Admits.{Admits}
@@ -58,26 +58,26 @@ use Rattle.rules_grammar.specs.FirstFailure.{FirstFailure}
 use Rattle.rules_faults.specs.Faults.{Least}
 use Rattle.rules_faults.specs.DataFaults
 use Rattle.rules_grammar.proofs.Judged.{valid-admits, fails-first}
-use Rattle.demands.specs.Demands.{meaningOf, Demand3, AfterMerges, Demand3Relations}
+use Rattle.demands.specs.Demands.{meaning_of, Demand3, AfterMerges, Demand3Relations}
 use Rattle.demands.proofs.JudgedTexts.{text-verdict, text-unread}
 
 -- what is carried along: a table that passes the check, with the text's tree, moved by the sum, at record 1 + sum
 pub record Carries (o : Object) (c : Carried) : Type 0 where
-  pub passes : tableFault c.table ≡ none
+  pub passes : table_fault c.table ≡ none
   pub inside : 1 + c.sum < count (image_of c.table)
-  pub tree : treeAt (image_of c.table) (1 + c.sum) ≡ ofObject (movedObject o c.sum)
+  pub tree : tree_at (image_of c.table) (1 + c.sum) ≡ of_object (moved_object o c.sum)
 
 -- the start: the table of a text that compiling accepts
-module _ (text : List ℕ) (o : Object) (end : ℕ) (e : constraintOf text ≡ got o end) where
-  checked-start : Checked (imageOfTree o)
+module _ (text : List ℕ) (o : Object) (end : ℕ) (e : constraint_of text ≡ got o end) where
+  checked-start : Checked (image_of_tree o)
   checked-start = checked-compiled o (object-numbered o 1 (pre-order text o end e)) (tree-proper text o end e) (records-fit text o end e) (pool-fits text o end e)
 
   pub start-carries : (little : Bool) → Carries o (carried (table_of little o) 0)
   start-carries little =
-      let b = image-back little (imageOfTree o) checked-start in
+      let b = image-back little (image_of_tree o) checked-start in
       let t = tree-compiled o (object-numbered o 1 (pre-order text o end e)) (tree-proper text o end e) in
       record {
-        passes = check-complete little (imageOfTree o) checked-start;
+        passes = check-complete little (image_of_tree o) checked-start;
         inside = rw b checked-start.some;
         tree = rw (b, moved_none o) t;
       }
@@ -114,44 +114,44 @@ module _ (o : Object) (table other : List ℕ) (sum : ℕ) (h : Carries o (carri
       record {
         passes = rw j.written_is (check-complete little (merged x y) c);
         inside = rw (j.written_is, j.shifts-are, b) (omega (arith, count-merged x y, h.inside));
-        tree = rw (j.written_is, j.shifts-are, b, f, g) (tree-moved x y cx (1 + sum) (omega arith) ∙ ap (movedTree k) h.tree ∙ ap ofObject (moved_twice o k sum));
+        tree = rw (j.written_is, j.shifts-are, b, f, g) (tree-moved x y cx (1 + sum) (omega arith) ∙ ap (moved_tree k) h.tree ∙ ap of_object (moved_twice o k sum));
       }
 
 -- one step, refused or not
-step-carries : (o : Object) (s : MergeStep) (c : Carried) → Carries o c → Carries o (afterStep s c)
-unfolding afterStep
-step-carries o s c h = by s.carriedFirst _ refl
+step-carries : (o : Object) (s : MergeStep) (c : Carried) → Carries o c → Carries o (after_step s c)
+unfolding after_step
+step-carries o s c h = by s.carried_first _ refl
   where
     by : (b : Bool) (a : Outcome MergeRefusal MergeReport)
-        → let m = mergeAnswer (cond b (request c.table s.other s.little) (request s.other c.table s.little)) s.out in
+        → let m = merge_answer (cond b (request c.table s.other s.little) (request s.other c.table s.little)) s.out in
         m.answer ≡ a → Carries o (behind b c m.out a)
     by b (Outcomes.refused r) e = h
     by true (gave m) e = first-carries o c.table s.other c.sum h s.little m _ (merge-gives (request c.table s.other s.little) s.out m e)
     by false (gave m) e = second-carries o c.table s.other c.sum h s.little m _ (merge-gives (request s.other c.table s.little) s.out m e)
 
 -- the whole list
-list-carries : (o : Object) (steps : List MergeStep) (c : Carried) → Carries o c → Carries o (afterSteps steps c)
+list-carries : (o : Object) (steps : List MergeStep) (c : Carried) → Carries o c → Carries o (after_steps steps c)
 list-carries o [] c h = h
-list-carries o (s ∷ ss) c h = list-carries o ss (afterStep s c) (step-carries o s c h)
+list-carries o (s ∷ ss) c h = list-carries o ss (after_step s c) (step-carries o s c h)
 
 -- judging by what is carried
 datum-moved : (o : Object) (s : ℕ) → ProperObject o → (d : Reading Datum)
-    → judgeDatum (movedObject o s) d ≡ movedAnswer s (judgeDatum o d)
+    → judge_datum (moved_object o s) d ≡ moved_answer s (judge_datum o d)
 datum-moved o s h (Reading.refused r) = refl
 datum-moved o s h (got d p) = ap gave (judge-moved o s h d)
 
 judge-carried : (o : Object) (c : Carried) → ProperObject o → Carries o c → (form : List ℕ)
-    → judgeAnswer c.table (1 + c.sum) form ≡ movedAnswer c.sum (judgeText o form)
-unfolding judgeAnswer
-judge-carried o c p h form = rw (h.passes, h.tree) (datum-moved o c.sum p (datumOf levelLimit form))
+    → judge_answer c.table (1 + c.sum) form ≡ moved_answer c.sum (judge_text o form)
+unfolding judge_answer
+judge-carried o c p h form = rw (h.passes, h.tree) (datum-moved o c.sum p (datum_of level_limit form))
 
 pub demand3 : Demand3
-unfolding meaningOf
+unfolding meaning_of
 demand3 text little out size e steps form =
     let x = compile-gives text little out size e in
     let p = tree-proper text x.tree x.end x.is in
     let c = carried (table_of little x.tree) 0 in
-    rw (x.written_is, x.is) (judge-carried x.tree (afterSteps steps c) p (list-carries x.tree steps c (start-carries text x.tree x.end x.is little)) form)
+    rw (x.written_is, x.is) (judge-carried x.tree (after_steps steps c) p (list-carries x.tree steps c (start-carries text x.tree x.end x.is little)) form)
 
 -- the table of a text is the one that the rules lay out
 pub compiled-table : (text : List ℕ) (tree : Object) (little : Bool) → DerivesConstraint text tree → (bs : List ℕ)
@@ -172,7 +172,7 @@ compiled-says text tree little d =
 
 -- a verdict that is valid, with its record moved or not
 valid-moved : (s : ℕ) (a : Outcome Refusal Verdict)
-    → (movedAnswer s a ≡ gave Verdicts.valid) ↔ (a ≡ gave Verdicts.valid)
+    → (moved_answer s a ≡ gave Verdicts.valid) ↔ (a ≡ gave Verdicts.valid)
 valid-moved s (Outcomes.refused r) = (λ e. absurd (not-gave e), λ e. absurd (not-gave e))
 valid-moved s (gave Verdicts.valid) = (λ e. refl, λ e. refl)
 valid-moved s (gave (Verdicts.fails r n p)) = (λ e. absurd (fails-valid (same-given e)), λ e. absurd (fails-valid (same-given e)))
@@ -185,40 +185,40 @@ valid-moved s (gave (Verdicts.fails r n p)) = (λ e. absurd (fails-valid (same-g
         failed (Verdicts.fails r n p) = 1
 
 -- what two texts mean is valid exactly where the tree admits the datum
-meaning-valid : (text : List ℕ) (tree : Object) (end : ℕ) (form : List ℕ) → constraintOf text ≡ got tree end
-    → (meaningOf text form ≡ gave Verdicts.valid)
-    ↔ ((tree : Object) × DerivesConstraint text tree × (b : Block) × DerivesData levelLimit form b
-    × Admits tree (spelledBlock b form))
-unfolding meaningOf
+meaning-valid : (text : List ℕ) (tree : Object) (end : ℕ) (form : List ℕ) → constraint_of text ≡ got tree end
+    → (meaning_of text form ≡ gave Verdicts.valid)
+    ↔ ((tree : Object) × DerivesConstraint text tree × (b : Block) × DerivesData level_limit form b
+    × Admits tree (spelled_block b form))
+unfolding meaning_of
 meaning-valid text tree end form e = (λ h. there (rw e at h), λ x. back x.0 x.1 x.2 x.3 x.4)
   where
-    there : judgeText tree form ≡ gave Verdicts.valid
-        → (tree : Object) × DerivesConstraint text tree × (b : Block) × DerivesData levelLimit form b
-        × Admits tree (spelledBlock b form)
+    there : judge_text tree form ≡ gave Verdicts.valid
+        → (tree : Object) × DerivesConstraint text tree × (b : Block) × DerivesData level_limit form b
+        × Admits tree (spelled_block b form)
     there h = let (b, d, a) = (text-verdict tree form Verdicts.valid (λ d. Admits tree d) (λ d. valid-admits tree d)).0 h in (tree, (Constrained.read-derives text tree).0 (end, e), b, d, a)
 
-    back : (o : Object) → DerivesConstraint text o → (b : Block) → DerivesData levelLimit form b
-        → Admits o (spelledBlock b form)
-        → afterReading (constraintOf text) (λ o. judgeText o form) ≡ gave Verdicts.valid
+    back : (o : Object) → DerivesConstraint text o → (b : Block) → DerivesData level_limit form b
+        → Admits o (spelled_block b form)
+        → after_reading (constraint_of text) (λ o. judge_text o form) ≡ gave Verdicts.valid
     back o c b d a = let x = (Constrained.read-derives text o).1 c in rw x.1 ((text-verdict o form Verdicts.valid (λ d. Admits o d) (λ d. valid-admits o d)).1 (b, d, a))
 
 -- a refusal stays, whatever is moved
-refused-moved : (s : ℕ) (a : Outcome Refusal Verdict) (r : Refusal) → movedAnswer s a ≡ Outcomes.refused r
+refused-moved : (s : ℕ) (a : Outcome Refusal Verdict) (r : Refusal) → moved_answer s a ≡ Outcomes.refused r
     → a ≡ Outcomes.refused r
 refused-moved s (Outcomes.refused x) r e = e
 refused-moved s (gave v) r e = absurd (not-gave (sym e))
 
 -- what is carried behind the list, and what judging by it answers
 module _ (text : List ℕ) (little : Bool) (out : List ℕ) (size : ℕ)
-    (e : (compileAnswer text little out).answer ≡ gave size) (steps : List MergeStep) where
+    (e : (compile_answer text little out).answer ≡ gave size) (steps : List MergeStep) where
   x : Compiled text little out size
   x = compile-gives text little out size e
 
   abbrev start : Carried
-  start = carried (take size (compileAnswer text little out).out) 0
+  start = carried (take size (compile_answer text little out).out) 0
 
   abbrev last : Carried
-  last = afterSteps steps start
+  last = after_steps steps start
 
   last_fits : 1 + last.sum < 2 ^ 32
   last_fits =
@@ -229,33 +229,33 @@ module _ (text : List ℕ) (little : Bool) (out : List ℕ) (size : ℕ)
       rw same (omega arith)
 
   last-answer : (form : List ℕ)
-      → judgeAnswer last.table (1 + last.sum) form ≡ movedAnswer last.sum (meaningOf text form)
+      → judge_answer last.table (1 + last.sum) form ≡ moved_answer last.sum (meaning_of text form)
   last-answer form = demand3 text little out size e steps form
 
-  last-valid : (form : List ℕ) → (judgeAnswer last.table (1 + last.sum) form ≡ gave Verdicts.valid)
-      ↔ ((tree : Object) × DerivesConstraint text tree × (b : Block) × DerivesData levelLimit form b
-      × Admits tree (spelledBlock b form))
+  last-valid : (form : List ℕ) → (judge_answer last.table (1 + last.sum) form ≡ gave Verdicts.valid)
+      ↔ ((tree : Object) × DerivesConstraint text tree × (b : Block) × DerivesData level_limit form b
+      × Admits tree (spelled_block b form))
   last-valid form =
-      let v = valid-moved last.sum (meaningOf text form) in
+      let v = valid-moved last.sum (meaning_of text form) in
       let m = meaning-valid text x.tree x.end form x.is in
       (λ h. m.0 (v.0 (sym (last-answer form) ∙ h)), λ z. last-answer form ∙ v.1 (m.1 z))
 
   last-fails : (form : List ℕ) (reason number place : ℕ) → (tree : Object) → DerivesConstraint text tree → (b : Block)
-      → DerivesData levelLimit form b
-      → FirstFailure tree (spelledBlock b form) reason number place
-      → judgeAnswer last.table (1 + last.sum) form ≡ gave (Verdicts.fails reason (last.sum + number) place)
-  unfolding meaningOf
+      → DerivesData level_limit form b
+      → FirstFailure tree (spelled_block b form) reason number place
+      → judge_answer last.table (1 + last.sum) form ≡ gave (Verdicts.fails reason (last.sum + number) place)
+  unfolding meaning_of
   last-fails form reason number place tree c b d f =
       let y = (Constrained.read-derives text tree).1 c in
       let k = (text-verdict tree form (Verdicts.fails reason number place) (λ z. FirstFailure tree z reason number place) (λ z. fails-first tree z reason number place)).1 (b, d, f) in
-      let m : meaningOf text form ≡ gave (Verdicts.fails reason number place) = rw y.1 k in
-      last-answer form ∙ ap (movedAnswer last.sum) m
+      let m : meaning_of text form ≡ gave (Verdicts.fails reason number place) = rw y.1 k in
+      last-answer form ∙ ap (moved_answer last.sum) m
 
-  last-unread : (form : List ℕ) (r : Refusal) → judgeAnswer last.table (1 + last.sum) form ≡ Outcomes.refused r
-      → Least r (DataFaults.faults levelLimit form)
-  unfolding meaningOf
+  last-unread : (form : List ℕ) (r : Refusal) → judge_answer last.table (1 + last.sum) form ≡ Outcomes.refused r
+      → Least r (DataFaults.faults level_limit form)
+  unfolding meaning_of
   last-unread form r h =
-      let k = refused-moved last.sum (meaningOf text form) r (sym (last-answer form) ∙ h) in
+      let k = refused-moved last.sum (meaning_of text form) r (sym (last-answer form) ∙ h) in
       text-unread x.tree form r (rw x.is at k)
 
   carried_on : AfterMerges text little out size steps

@@ -9,7 +9,7 @@ use lib.Dec.{ltb}
 use lib.ListN.{length, take, drop}
 use native.Mathlib.Omega.{arith}
 use borrow.Author.Tests.{lt-ltb, le-ltb}
-use Rattle.refusals.specs.Limits.{textLimit, levelLimit}
+use Rattle.refusals.specs.Limits.{text_limit, level_limit}
 use Rattle.refusals.specs.Reading
 use Rattle.refusals.specs.Reading.{Reading, got}
 use Rattle.refusals.specs.Outcomes
@@ -23,13 +23,13 @@ use Rattle.meaning.specs.Data.{Datum}
 use Rattle.meaning.specs.Verdicts.{Verdict}
 use Rattle.meaning.specs.Verdicts
 use Rattle.meaning.specs.Judging.{judge}
-use Rattle.dadl.specs.Placed.{Block, spelledBlock}
-use Rattle.dadl.specs.Data.{block_of, datumOf}
-use Rattle.cadl_objects.specs.Texts.{constraintText, constraintOf}
+use Rattle.dadl.specs.Placed.{Block, spelled_block}
+use Rattle.dadl.specs.Data.{block_of, datum_of}
+use Rattle.cadl_objects.specs.Texts.{constraint_text, constraint_of}
 use Rattle.cadl_objects.proofs.TreeReading.{not-ten}
-use Rattle.compile.specs.Compile.{compileOutcome, compileAnswer, table_of, tableFor}
+use Rattle.compile.specs.Compile.{compile_outcome, compile_answer, table_of, table_for}
 use Rattle.compile.proofs.Answers.{compile-gives}
-use Rattle.judge.specs.Judge.{judgeText, judgeAnswer}
+use Rattle.judge.specs.Judge.{judge_text, judge_answer}
 use Rattle.rules_grammar.specs.ConstraintGrammar.{DerivesConstraint}
 use Rattle.rules_grammar.specs.DataGrammar.{DerivesData}
 use Rattle.rules_grammar.specs.Admits.{Admits}
@@ -45,10 +45,10 @@ use Rattle.rules_faults.proofs.ConstraintScanned
 use Rattle.lexis.proofs.TestLaws.{some_inj}
 use Rattle.rules_grammar.proofs.Judged.{valid-admits, fails-first}
 use Rattle.table.specs.Records.{image_of}
-use Rattle.table.specs.Check.{tableFault}
-use Rattle.table.specs.Trees.{objectAt}
+use Rattle.table.specs.Check.{table_fault}
+use Rattle.table.specs.Trees.{object_at}
 use Rattle.table.specs.TableRules.{NoTable}
-use Rattle.table.specs.Names.{nameAnswer, sliceBytes}
+use Rattle.table.specs.Names.{name_answer, slice_bytes}
 use Rattle.table.specs.Says.{Says, NoObject, Named, NameRefuses}
 use Rattle.table.proofs.TableRuleLaws
 use Rattle.table.proofs.SaysLaws
@@ -69,131 +69,131 @@ module _ (text : List ℕ) (little : Bool) (out : List ℕ) where
   abbrev Accepted : ℕ → Type 0
   Accepted size = (tree : Object) × DerivesConstraint text tree × (size ≡ length (table_of little tree)) × (size ≤ length out)
 
-  accepted-only : (size : ℕ) → (compileAnswer text little out).answer ≡ gave size → Accepted size
+  accepted-only : (size : ℕ) → (compile_answer text little out).answer ≡ gave size → Accepted size
   accepted-only size h =
       let x = compile-gives text little out size h in
       (x.tree, (Constrained.read-derives text x.tree).0 (x.end, x.is), x.size_is, omega (arith, x.size_is, x.room))
 
-  accepted-all : (size : ℕ) → Accepted size → (compileAnswer text little out).answer ≡ gave size
-  unfolding compileAnswer
+  accepted-all : (size : ℕ) → Accepted size → (compile_answer text little out).answer ≡ gave size
+  unfolding compile_answer
   accepted-all size (tree, d, n, h) =
       let x = (Constrained.read-derives text tree).1 d in
       let b : ltb (length out) (length (table_of little tree)) ≡ false = le-ltb (length out) (length (table_of little tree)) (omega (arith, n, h)) in
       rw (x.1, b, sym n)
 
   written : (tree : Object) → DerivesConstraint text tree → length (table_of little tree) ≤ length out
-      → (compileAnswer text little out).out ≡ table_of little tree ++ drop (length (table_of little tree)) out
-  unfolding compileAnswer
+      → (compile_answer text little out).out ≡ table_of little tree ++ drop (length (table_of little tree)) out
+  unfolding compile_answer
   written tree d h =
       let x = (Constrained.read-derives text tree).1 d in
       rw (x.1, le-ltb (length out) (length (table_of little tree)) h)
 
   -- a refusal is the text's own, or the output is too short
-  refused-by : (r : Refusal) → (compileAnswer text little out).answer ≡ Outcomes.refused r
-      → (constraintOf text ≡ Reading.refused r) ⊎ TooShort text little out r
-  unfolding compileAnswer
-  refused-by r h = by (refused-or-read (constraintOf text) (tableFor little (length text) (length out)) r (refusal_is (compileOutcome text little (length out)) out r h))
+  refused-by : (r : Refusal) → (compile_answer text little out).answer ≡ Outcomes.refused r
+      → (constraint_of text ≡ Reading.refused r) ⊎ TooShort text little out r
+  unfolding compile_answer
+  refused-by r h = by (refused-or-read (constraint_of text) (table_for little (length text) (length out)) r (refusal_is (compile_outcome text little (length out)) out r h))
     where
-      by : (constraintOf text ≡ Reading.refused r) ⊎ Read (constraintOf text)
-          (tableFor little (length text) (length out)) (Outcomes.refused r)
-          → (constraintOf text ≡ Reading.refused r) ⊎ TooShort text little out r
+      by : (constraint_of text ≡ Reading.refused r) ⊎ Read (constraint_of text)
+          (table_for little (length text) (length out)) (Outcomes.refused r)
+          → (constraint_of text ≡ Reading.refused r) ⊎ TooShort text little out r
       by (inl e) = inl e
       by (inr x) =
           let bs = table_of little x.value in
           let y = too_short refusal (length text) (length out) (writes bs (length bs)) r x.follows in
           inr (record { tree = x.value; derived = (Constrained.read-derives text x.value).0 (x.place, x.is); short = y.0; told = sym y.1 })
 
-  pub refused-only : (r : Refusal) → (compileAnswer text little out).answer ≡ Outcomes.refused r
+  pub refused-only : (r : Refusal) → (compile_answer text little out).answer ≡ Outcomes.refused r
       → Least r (ConstraintFaults.faults text) ⊎ TooShort text little out r
   refused-only r h = by (refused-by r h)
     where
-      by : (constraintOf text ≡ Reading.refused r) ⊎ TooShort text little out r
+      by : (constraint_of text ≡ Reading.refused r) ⊎ TooShort text little out r
           → Least r (ConstraintFaults.faults text) ⊎ TooShort text little out r
       by (inl e) = inl (ConstraintScanned.refused-least text r e)
       by (inr x) = inr x
 
-  never-ten : (r : Refusal) → (compileAnswer text little out).answer ≡ Outcomes.refused r → number_of r.cause ≢ 10
+  never-ten : (r : Refusal) → (compile_answer text little out).answer ≡ Outcomes.refused r → number_of r.cause ≢ 10
   unfolding number_of
   never-ten r h = by (refused-by r h)
     where
-      by : (constraintOf text ≡ Reading.refused r) ⊎ TooShort text little out r → number_of r.cause ≢ 10
+      by : (constraint_of text ≡ Reading.refused r) ⊎ TooShort text little out r → number_of r.cause ≢ 10
       by (inl e) = let k = not-ten text r e in omega arith
       by (inr x) = rw x.told (omega arith)
 
   least-refused : (x : Refusal) → Least x (ConstraintFaults.faults text)
-      → (r : Refusal) × ((compileAnswer text little out).answer ≡ Outcomes.refused r) × Alike x r
-  unfolding compileAnswer
+      → (r : Refusal) × ((compile_answer text little out).answer ≡ Outcomes.refused r) × Alike x r
+  unfolding compile_answer
   least-refused x l =
       let y = ConstraintScanned.least-refused text x l in
       (y.0, rw y.1, y.2)
 
-  long-refused : textLimit < length text
-      → (compileAnswer text little out).answer ≡ Outcomes.refused (refusal TextTooLong textLimit)
-  unfolding compileAnswer constraintOf constraintText
-  long-refused h = rw (lt-ltb textLimit (length text) h)
+  long-refused : text_limit < length text
+      → (compile_answer text little out).answer ≡ Outcomes.refused (refusal TextTooLong text_limit)
+  unfolding compile_answer constraint_of constraint_text
+  long-refused h = rw (lt-ltb text_limit (length text) h)
 
   short-refused : (r : Refusal) → TooShort text little out r
-      → (compileAnswer text little out).answer ≡ Outcomes.refused r
-  unfolding compileAnswer
+      → (compile_answer text little out).answer ≡ Outcomes.refused r
+  unfolding compile_answer
   short-refused r h =
       let x = (Constrained.read-derives text h.tree).1 h.derived in
       rw (x.1, lt-ltb (length out) (length (table_of little h.tree)) h.short, h.told)
 
 -- what judging answers is what the data text gives under the object
 module _ (table : List ℕ) (root : ℕ) (form : List ℕ) (o : Object) (h : Says table root o) where
-  answer-is : judgeAnswer table root form ≡ judgeText o form
-  unfolding judgeAnswer
+  answer-is : judge_answer table root form ≡ judge_text o form
+  unfolding judge_answer
   answer-is = rw (SaysLaws.table-checked h.table, SaysLaws.says-only table root o h)
 
   verdict-told : (v : Verdict) (P : Datum → Type 0)
       → ((d : Datum) → (judge o d ≡ v) ↔ P d)
-      → (judgeAnswer table root form ≡ gave v) ↔ ((b : Block) × DerivesData levelLimit form b × P (spelledBlock b form))
+      → (judge_answer table root form ≡ gave v) ↔ ((b : Block) × DerivesData level_limit form b × P (spelled_block b form))
   verdict-told v P f = let k = text-verdict o form v P f in (λ e. k.0 (sym answer-is ∙ e), λ x. answer-is ∙ k.1 x)
 
-  pub unread-least : (r : Refusal) → judgeAnswer table root form ≡ Outcomes.refused r
-      → Least r (DataFaults.faults levelLimit form)
+  pub unread-least : (r : Refusal) → judge_answer table root form ≡ Outcomes.refused r
+      → Least r (DataFaults.faults level_limit form)
   unread-least r e = text-unread o form r (sym answer-is ∙ e)
 
-  long-unread : textLimit < length form → judgeAnswer table root form ≡ Outcomes.refused (refusal TextTooLong textLimit)
+  long-unread : text_limit < length form → judge_answer table root form ≡ Outcomes.refused (refusal TextTooLong text_limit)
   long-unread l = answer-is ∙ text-long o form l
 
-  least-unread : (x : Refusal) → Least x (DataFaults.faults levelLimit form)
-      → (r : Refusal) × (judgeAnswer table root form ≡ Outcomes.refused r) × Alike x r
+  least-unread : (x : Refusal) → Least x (DataFaults.faults level_limit form)
+      → (r : Refusal) × (judge_answer table root form ≡ Outcomes.refused r) × Alike x r
   least-unread x l = let (r, e, a) = text-least o form x l in (r, answer-is ∙ e, a)
 
 pub fails-told : (table : List ℕ) (root : ℕ) (form : List ℕ) (o : Object) (reason number place : ℕ) → Says table root o
-    → (judgeAnswer table root form ≡ gave (Verdicts.fails reason number place))
-    ↔ ((b : Block) × DerivesData levelLimit form b × FirstFailure o (spelledBlock b form) reason number place)
+    → (judge_answer table root form ≡ gave (Verdicts.fails reason number place))
+    ↔ ((b : Block) × DerivesData level_limit form b × FirstFailure o (spelled_block b form) reason number place)
 fails-told table root form o r n p h = verdict-told table root form o h (Verdicts.fails r n p) (λ d. FirstFailure o d r n p) (λ d. fails-first o d r n p)
 
 -- what judging answers where there is no table, or no object of that number
 no_table : (table : List ℕ) (root : ℕ) (form : List ℕ) (r : Refusal) → NoTable table r
-    → judgeAnswer table root form ≡ Outcomes.refused r
-unfolding judgeAnswer
+    → judge_answer table root form ≡ Outcomes.refused r
+unfolding judge_answer
 no_table table root form r h = let e = (TableRuleLaws.no_table table r).1 h in rw e
 
 module _ (table : List ℕ) (root : ℕ) (form : List ℕ) where
-  object-missing : NoObject table root → judgeAnswer table root form ≡ Outcomes.refused (refusal NotAnObject root)
-  unfolding judgeAnswer
+  object-missing : NoObject table root → judge_answer table root form ≡ Outcomes.refused (refusal NotAnObject root)
+  unfolding judge_answer
   object-missing h = let e = (SaysLaws.no-object table root).1 h in rw (e.0, e.1)
 
   -- a data text is not refused with 14, nor is a table
-  missing-object : judgeAnswer table root form ≡ Outcomes.refused (refusal NotAnObject root) → NoObject table root
-  unfolding judgeAnswer number_of
-  missing-object h = by (tableFault table) refl
+  missing-object : judge_answer table root form ≡ Outcomes.refused (refusal NotAnObject root) → NoObject table root
+  unfolding judge_answer number_of
+  missing-object h = by (table_fault table) refl
     where
-      under : tableFault table ≡ none → (o : Option Object) → objectAt (image_of table) root ≡ o → NoObject table root
+      under : table_fault table ≡ none → (o : Option Object) → object_at (image_of table) root ≡ o → NoObject table root
       under e none f = (SaysLaws.no-object table root).0 (e, f)
       under e (some o) f =
           let l = unread-least table root form o (SaysLaws.says_there table root o e f) (refusal NotAnObject root) h in
-          absurd (few (Scanned.fault-lies levelLimit form (refusal NotAnObject root) l.one))
+          absurd (few (Scanned.fault-lies level_limit form (refusal NotAnObject root) l.one))
         where
           few : Lies form (refusal NotAnObject root) → ⊥
           few (inl (x, k)) = let n = ap (λ (y : Refusal). number_of y.cause) x in omega arith
           few (inr x) = let n = x.most in omega arith
 
-      by : (x : Option Refusal) → tableFault table ≡ x → NoObject table root
-      by none e = under e (objectAt (image_of table) root) refl
+      by : (x : Option Refusal) → table_fault table ≡ x → NoObject table root
+      by none e = under e (object_at (image_of table) root) refl
       by (some x) e =
           let k : x ≡ refusal NotAnObject root = same-refusal (rw e at h) in
           absurd (never ((TableRuleLaws.no_table table (refusal NotAnObject root)).0 (rw k at e)))
@@ -203,10 +203,10 @@ module _ (table : List ℕ) (root : ℕ) (form : List ℕ) where
 
 -- the bytes of a name, and none with a refusal
 named-bytes : (bs : List ℕ) (n start size : ℕ) → Named bs n start size
-    → sliceBytes bs (nameAnswer bs n) ≡ take size (drop start bs)
+    → slice_bytes bs (name_answer bs n) ≡ take size (drop start bs)
 named-bytes bs n start size h = let e = (NamedLaws.name-given bs n start size).1 h in rw e
 
-unnamed-bytes : (bs : List ℕ) (n : ℕ) (r : Refusal) → NameRefuses bs n r → sliceBytes bs (nameAnswer bs n) ≡ []
+unnamed-bytes : (bs : List ℕ) (n : ℕ) (r : Refusal) → NameRefuses bs n r → slice_bytes bs (name_answer bs n) ≡ []
 unnamed-bytes bs n r h = let e = (NamedLaws.name-refused bs n r).1 h in rw e
 
 -- a tree is derived exactly where there is no fault
@@ -214,15 +214,15 @@ derived-faultless : (text : List ℕ)
     → ((tree : Object) × DerivesConstraint text tree) ↔ (ConstraintFaults.faults text ≡ [])
 derived-faultless text = (λ x. let y = (Constrained.read-derives text x.0).1 x.1 in (ConstraintScanned.read-faultless text).0 (x.0, y.0, y.1), λ e. back ((ConstraintScanned.read-faultless text).1 e))
   where
-    back : (o : Object) × (p : ℕ) × (constraintOf text ≡ got o p) → (tree : Object) × DerivesConstraint text tree
+    back : (o : Object) × (p : ℕ) × (constraint_of text ≡ got o p) → (tree : Object) × DerivesConstraint text tree
     back (o, p, e) = (o, (Constrained.read-derives text o).0 (p, e))
 
 derived-readable : (form : List ℕ)
-    → ((b : Block) × DerivesData levelLimit form b) ↔ (DataFaults.faults levelLimit form ≡ [])
-derived-readable form = (λ x. (Scanned.read-faultless levelLimit form).0 (x.0, length form, (Derived.read-derives levelLimit form x.0).1 x.1), λ e. back ((Scanned.read-faultless levelLimit form).1 e))
+    → ((b : Block) × DerivesData level_limit form b) ↔ (DataFaults.faults level_limit form ≡ [])
+derived-readable form = (λ x. (Scanned.read-faultless level_limit form).0 (x.0, length form, (Derived.read-derives level_limit form x.0).1 x.1), λ e. back ((Scanned.read-faultless level_limit form).1 e))
   where
-    back : (b : Block) × (p : ℕ) × (block_of levelLimit form ≡ got b p) → (b : Block) × DerivesData levelLimit form b
-    back (b, p, e) = (b, (Derived.read-derives levelLimit form b).0 (subst (λ (q : ℕ). block_of levelLimit form ≡ got b q) (Derived.read_whole levelLimit form b p e) e))
+    back : (b : Block) × (p : ℕ) × (block_of level_limit form ≡ got b p) → (b : Block) × DerivesData level_limit form b
+    back (b, p, e) = (b, (Derived.read-derives level_limit form b).0 (subst (λ (q : ℕ). block_of level_limit form ≡ got b q) (Derived.read_whole level_limit form b p e) e))
 
 pub demand2 : Demand2
 demand2 = record {
@@ -261,7 +261,7 @@ demand2 = record {
   merge-refused = MergeRuleLaws.merge-refused;
   valid = λ table root form o h. verdict-told table root form o h Verdicts.valid (λ d. Admits o d) (λ d. valid-admits o d);
   fails = fails-told;
-  one-datum = Derived.one-tree levelLimit;
+  one-datum = Derived.one-tree level_limit;
   readable = derived-readable;
   unread = λ table root form o r h. unread-least table root form o h r;
   least-unread = λ table root form o x h. least-unread table root form o h x;

@@ -6,7 +6,7 @@ use mathlib.Core.Option.{Option, none, some}
 use mathlib.Core.List.{List}
 use Prim.Native.Nat.{ℕ}
 use lib.ListN.{length}
-use Rattle.refusals.specs.Limits.{levelLimit, textLimit}
+use Rattle.refusals.specs.Limits.{level_limit, text_limit}
 use Rattle.refusals.specs.Numbers
 use Rattle.refusals.specs.Outcomes
 use Rattle.refusals.specs.Outcomes.{Outcome}
@@ -18,86 +18,86 @@ use Rattle.refusals.proofs.Outcomes.{refusal-keeps, same-refusal}
 use Rattle.meaning.specs.Constraints.{Object}
 use Rattle.meaning.specs.Verdicts.{Verdict}
 use Rattle.table.specs.Records.{image_of}
-use Rattle.table.specs.Check.{tableFault}
-use Rattle.table.specs.Trees.{objectAt}
-use Rattle.table.specs.Names.{nameAnswer}
+use Rattle.table.specs.Check.{table_fault}
+use Rattle.table.specs.Trees.{object_at}
+use Rattle.table.specs.Names.{name_answer}
 use Rattle.table.specs.TableRules.{NoTable, unframed, broken}
-use Rattle.table.specs.Says.{NameRefuses, noTable, noName}
+use Rattle.table.specs.Says.{NameRefuses, no_table, no_name}
 use Rattle.table.proofs.TableRuleLaws
 use Rattle.table.proofs.SaysLaws
 use Rattle.table.proofs.NamedLaws
-use Rattle.table_merge.specs.Merge.{MergeRequest, MergeRefusal, mergeOutcome, mergeAnswer}
+use Rattle.table_merge.specs.Merge.{MergeRequest, MergeRefusal, merge_outcome, merge_answer}
 use Rattle.table_merge.specs.MergeRules.{MergeRefuses}
 use Rattle.table_merge.specs.MergeRules
 use Rattle.table_merge.proofs.MergeRuleLaws
-use Rattle.compile.specs.Compile.{compileOutcome, compileAnswer}
-use Rattle.judge.specs.Judge.{judgeAnswer}
+use Rattle.compile.specs.Compile.{compile_outcome, compile_answer}
+use Rattle.judge.specs.Judge.{judge_answer}
 use Rattle.rules_faults.specs.Faults.{Least}
 use Rattle.rules_faults.specs.ConstraintFaults
 use Rattle.rules_faults.proofs.Outcomes.{Lies}
 use Rattle.rules_faults.proofs.Scanned
 use Rattle.rules_faults.proofs.ConstraintScanned
 use Rattle.demands.specs.Demands.{Demand1, TooShort}
-use Rattle.demands.specs.Told.{Told, InText, overLong, inside, DataTold, AtEnd, atEnd, InTable, whole, oneRecord, AsAsked, asAsked, OfBoth, joined, joinedLength, MergeTold, ofFirst, ofSecond, ofNeither}
+use Rattle.demands.specs.Told.{Told, InText, over_long, inside, DataTold, AtEnd, at_end, InTable, whole, one_record, AsAsked, as_asked, OfBoth, joined, joined_length, MergeTold, of_first, of_second, of_neither}
 use Rattle.demands.proofs.Rules.{refused-only, unread-least}
 use Rattle.demands.proofs.Failures.{failure-told}
 
 -- a fault of a text
 text-told : (s : List ℕ) (x : Refusal) → Lies s x → Told (InText s) x
 unfolding number_of
-text-told s x (inl (e, l)) = subst (Told (InText s)) (sym e) (record { sort = Numbers.limit; row = Numbers.textTooLong; place = overLong l })
+text-told s x (inl (e, l)) = subst (Told (InText s)) (sym e) (record { sort = Numbers.limit; row = Numbers.text_too_long; place = over_long l })
 text-told s x (inr f) = record { sort = Numbers.token; row = text-row x.cause f.least f.most; place = inside f.inside }
 
 compile-told : (text : List ℕ) (little : Bool) (out : List ℕ) (r : Refusal)
-    → (compileAnswer text little out).answer ≡ Outcomes.refused r → Told (InText text) r ⊎ Told (AtEnd text) r
+    → (compile_answer text little out).answer ≡ Outcomes.refused r → Told (InText text) r ⊎ Told (AtEnd text) r
 unfolding number_of
 compile-told text little out r h = by (refused-only text little out r h)
   where
     by : Least r (ConstraintFaults.faults text) ⊎ TooShort text little out r
         → Told (InText text) r ⊎ Told (AtEnd text) r
     by (inl l) = inl (text-told text r (ConstraintScanned.fault-lies text r l.one))
-    by (inr x) = inr (subst (Told (AtEnd text)) (sym x.told) (record { sort = Numbers.textEnd; row = Numbers.tableTooLong; place = atEnd }))
+    by (inr x) = inr (subst (Told (AtEnd text)) (sym x.told) (record { sort = Numbers.text_end; row = Numbers.table_too_long; place = at_end }))
 
 -- why bytes are no table
 table-told : (bs : List ℕ) (r : Refusal) → NoTable bs r → Told (InTable bs) r
 unfolding number_of
-table-told bs r (unframed h) = record { sort = Numbers.wholeTable; row = Numbers.notATable; place = whole }
-table-told bs r (broken f a b c d) = record { sort = Numbers.tableRecord; row = Numbers.brokenRecord; place = oneRecord f a b }
+table-told bs r (unframed h) = record { sort = Numbers.whole_table; row = Numbers.not_aTable; place = whole }
+table-told bs r (broken f a b c d) = record { sort = Numbers.table_record; row = Numbers.broken_record; place = one_record f a b }
 
 merge-told : (q : MergeRequest) (out : List ℕ) (r : MergeRefusal) → MergeRefuses q (length out) r → MergeTold q r
 unfolding number_of
-merge-told q out r (MergeRules.first n) = ofFirst (table-told _ _ n)
-merge-told q out r (MergeRules.second t n) = ofSecond (table-told _ _ n)
-merge-told q out r (MergeRules.records b h) = ofNeither (record { sort = Numbers.merged; row = Numbers.tooManyMerged; place = joined })
-merge-told q out r (MergeRules.pool b h k) = ofNeither (record { sort = Numbers.merged; row = Numbers.poolTooLarge; place = joined })
-merge-told q out r (MergeRules.short b h k l) = ofNeither (record { sort = Numbers.needed; row = Numbers.mergedTooLong; place = joinedLength b })
+merge-told q out r (MergeRules.first n) = of_first (table-told _ _ n)
+merge-told q out r (MergeRules.second t n) = of_second (table-told _ _ n)
+merge-told q out r (MergeRules.records b h) = of_neither (record { sort = Numbers.merged; row = Numbers.too_many_merged; place = joined })
+merge-told q out r (MergeRules.pool b h k) = of_neither (record { sort = Numbers.merged; row = Numbers.pool_too_large; place = joined })
+merge-told q out r (MergeRules.short b h k l) = of_neither (record { sort = Numbers.needed; row = Numbers.merged_too_long; place = joined_length b })
 
 name-told : (bs : List ℕ) (n : ℕ) (r : Refusal) → NameRefuses bs n r → Told (InTable bs) r ⊎ Told (AsAsked n) r
 unfolding number_of
-name-told bs n r (noTable h) = inl (table-told bs r h)
-name-told bs n r (noName t h) = inr (record { sort = Numbers.asked; row = Numbers.noName; place = asAsked })
+name-told bs n r (no_table h) = inl (table-told bs r h)
+name-told bs n r (no_name t h) = inr (record { sort = Numbers.asked; row = Numbers.no_name; place = as_asked })
 
 judge-told : (table : List ℕ) (root : ℕ) (form : List ℕ) (r : Refusal)
-    → judgeAnswer table root form ≡ Outcomes.refused r
+    → judge_answer table root form ≡ Outcomes.refused r
     → Told (InTable table) r ⊎ Told (AsAsked root) r ⊎ DataTold form r
-unfolding number_of judgeAnswer
-judge-told table root form r h = by (tableFault table) refl
+unfolding number_of judge_answer
+judge-told table root form r h = by (table_fault table) refl
   where
-    under : tableFault table ≡ none → (o : Option Object) → objectAt (image_of table) root ≡ o
+    under : table_fault table ≡ none → (o : Option Object) → object_at (image_of table) root ≡ o
         → Told (InTable table) r ⊎ Told (AsAsked root) r ⊎ DataTold form r
     under e none f =
         let k : refusal NotAnObject root ≡ r = same-refusal (rw (e, f) at h) in
-        inr (inl (subst (Told (AsAsked root)) k (record { sort = Numbers.asked; row = Numbers.notAnObject; place = asAsked })))
+        inr (inl (subst (Told (AsAsked root)) k (record { sort = Numbers.asked; row = Numbers.not_an_object; place = as_asked })))
     under e (some o) f =
         let l = unread-least table root form o (SaysLaws.says_there table root o e f) r h in
-        inr (inr (record { told = text-told form r (Scanned.fault-lies levelLimit form r l.one); cause = Scanned.fault-of levelLimit form r l.one }))
+        inr (inr (record { told = text-told form r (Scanned.fault-lies level_limit form r l.one); cause = Scanned.fault-of level_limit form r l.one }))
 
-    by : (t : Option Refusal) → tableFault table ≡ t → Told (InTable table) r ⊎ Told (AsAsked root) r ⊎ DataTold form r
-    by none e = under e (objectAt (image_of table) root) refl
+    by : (t : Option Refusal) → table_fault table ≡ t → Told (InTable table) r ⊎ Told (AsAsked root) r ⊎ DataTold form r
+    by none e = under e (object_at (image_of table) root) refl
     by (some x) e = inl (table-told table r ((TableRuleLaws.no_table table r).0 (let k : x ≡ r = same-refusal (rw e at h) in rw k at e)))
 
 pub demand1 : Demand1
-unfolding compileAnswer mergeAnswer
+unfolding compile_answer merge_answer
 demand1 = record {
   numbered = row_of;
   compile-told = compile-told;
@@ -106,6 +106,6 @@ demand1 = record {
   judge-told = judge-told;
   failure-told = failure-told;
   name-told = λ bs n r h. name-told bs n r ((NamedLaws.name-refused bs n r).0 h);
-  compile-keeps = λ text little out r. refusal-keeps (compileOutcome text little (length out)) out r;
-  merge_keeps = λ q out r. refusal-keeps (mergeOutcome q (length out)) out r;
+  compile-keeps = λ text little out r. refusal-keeps (compile_outcome text little (length out)) out r;
+  merge_keeps = λ q out r. refusal-keeps (merge_outcome q (length out)) out r;
 }

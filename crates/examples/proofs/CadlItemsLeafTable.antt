@@ -4,9 +4,9 @@ use mathlib.Core.Path.{◌≡◌, refl}
 use mathlib.Core.List.{List, [], ◌∷◌}
 use Rattle.lexis.specs.Text.{bytes}
 use Rattle.lexis.proofs.Tables.{wrong}
-use Rattle.meaning.specs.Constraints.{single, ranges, texts, booleans, integers, datePattern, dates, timePattern, durationPattern}
+use Rattle.meaning.specs.Constraints.{single, ranges, texts, booleans, integers, date_pattern, dates, time_pattern, duration_pattern}
 use Rattle.meaning.proofs.Trees.{range, item}
-use Rattle.cadl_items.proofs.Computes.{itemsCompute}
+use Rattle.cadl_items.proofs.Computes.{items_compute}
 use Rattle.cadl_items.proofs.Examples.{Case, reads, refuses, right}
 
 pub cases : List Case
@@ -366,7 +366,7 @@ cases =
     ∷ refuses (bytes "|5|, |2004-01-01|}") 1 2 6
     ∷ refuses (bytes "|2004-01-01|, |>5|}") 1 2 16
     ∷ refuses (bytes "|5|, \"a\"}") 1 2 5
-    ∷ reads (bytes "yyyy-mm-dd, 5}") 1 (single datePattern 1 1) 10
+    ∷ reads (bytes "yyyy-mm-dd, 5}") 1 (single date_pattern 1 1) 10
     ∷ refuses (bytes "5, *}") 1 2 3
     ∷ refuses (bytes "|5|, |<2004-01-01|}") 1 2 7
     ∷ refuses (bytes "|<2004-01-01|, |<=5|}") 1 2 18
@@ -391,32 +391,32 @@ cases =
     ∷ refuses (bytes "True, True, True}") 1 9 6
     ∷ refuses (bytes "True, *}") 1 2 6
     -- patterns
-    ∷ reads (bytes "yyyy-mm-dd}") 1 (single datePattern 1 1) 10
-    ∷ reads (bytes "yyyy-mm-??}") 1 (single datePattern 1 2) 10
-    ∷ reads (bytes "yyyy-??-??}") 1 (single datePattern 1 3) 10
-    ∷ reads (bytes "yyyy-mm-XX}") 1 (single datePattern 1 4) 10
-    ∷ reads (bytes "yyyy-??-XX}") 1 (single datePattern 1 5) 10
-    ∷ reads (bytes "Thh:mm:ss}") 1 (single timePattern 1 1) 9
-    ∷ reads (bytes "Thh:mm:XX}") 1 (single timePattern 1 2) 9
-    ∷ reads (bytes "Thh:??:XX}") 1 (single timePattern 1 3) 9
-    ∷ reads (bytes "Thh:??:??}") 1 (single timePattern 1 4) 9
-    ∷ reads (bytes " yyyy-mm-dd--\n}") 1 (single datePattern 1 1) 11
-    ∷ reads (bytes "yyyy-mm-dd\t}") 1 (single datePattern 1 1) 10
+    ∷ reads (bytes "yyyy-mm-dd}") 1 (single date_pattern 1 1) 10
+    ∷ reads (bytes "yyyy-mm-??}") 1 (single date_pattern 1 2) 10
+    ∷ reads (bytes "yyyy-??-??}") 1 (single date_pattern 1 3) 10
+    ∷ reads (bytes "yyyy-mm-XX}") 1 (single date_pattern 1 4) 10
+    ∷ reads (bytes "yyyy-??-XX}") 1 (single date_pattern 1 5) 10
+    ∷ reads (bytes "Thh:mm:ss}") 1 (single time_pattern 1 1) 9
+    ∷ reads (bytes "Thh:mm:XX}") 1 (single time_pattern 1 2) 9
+    ∷ reads (bytes "Thh:??:XX}") 1 (single time_pattern 1 3) 9
+    ∷ reads (bytes "Thh:??:??}") 1 (single time_pattern 1 4) 9
+    ∷ reads (bytes " yyyy-mm-dd--\n}") 1 (single date_pattern 1 1) 11
+    ∷ reads (bytes "yyyy-mm-dd\t}") 1 (single date_pattern 1 1) 10
     -- duration patterns
-    ∷ reads (bytes "Pd}") 1 (single durationPattern 1 8) 2
-    ∷ reads (bytes "Pwd}") 1 (single durationPattern 1 12) 3
-    ∷ reads (bytes "PTm}") 1 (single durationPattern 1 32) 3
-    ∷ reads (bytes "PmTm}") 1 (single durationPattern 1 34) 4
-    ∷ reads (bytes "PymwdThms}") 1 (single durationPattern 1 127) 9
-    ∷ reads (bytes "Pd --c\n}") 1 (single durationPattern 1 8) 2
-    ∷ reads (bytes "Py}") 1 (single durationPattern 1 1) 2
-    ∷ reads (bytes "Pm}") 1 (single durationPattern 1 2) 2
-    ∷ reads (bytes "PTh}") 1 (single durationPattern 1 16) 3
-    ∷ reads (bytes "PTs}") 1 (single durationPattern 1 64) 3
-    ∷ reads (bytes "PThm}") 1 (single durationPattern 1 48) 4
-    ∷ reads (bytes "PwdTm}") 1 (single durationPattern 1 44) 5
-    ∷ reads (bytes " --}\nPd\t}") 1 (single durationPattern 1 8) 7
-    ∷ reads (bytes "PyThms}") 1 (single durationPattern 1 113) 6
+    ∷ reads (bytes "Pd}") 1 (single duration_pattern 1 8) 2
+    ∷ reads (bytes "Pwd}") 1 (single duration_pattern 1 12) 3
+    ∷ reads (bytes "PTm}") 1 (single duration_pattern 1 32) 3
+    ∷ reads (bytes "PmTm}") 1 (single duration_pattern 1 34) 4
+    ∷ reads (bytes "PymwdThms}") 1 (single duration_pattern 1 127) 9
+    ∷ reads (bytes "Pd --c\n}") 1 (single duration_pattern 1 8) 2
+    ∷ reads (bytes "Py}") 1 (single duration_pattern 1 1) 2
+    ∷ reads (bytes "Pm}") 1 (single duration_pattern 1 2) 2
+    ∷ reads (bytes "PTh}") 1 (single duration_pattern 1 16) 3
+    ∷ reads (bytes "PTs}") 1 (single duration_pattern 1 64) 3
+    ∷ reads (bytes "PThm}") 1 (single duration_pattern 1 48) 4
+    ∷ reads (bytes "PwdTm}") 1 (single duration_pattern 1 44) 5
+    ∷ reads (bytes " --}\nPd\t}") 1 (single duration_pattern 1 8) 7
+    ∷ reads (bytes "PyThms}") 1 (single duration_pattern 1 113) 6
     -- what is no duration pattern, or isn't followed by `}`
     ∷ refuses (bytes "P}") 1 2 0
     ∷ refuses (bytes "PT}") 1 2 0
@@ -451,21 +451,21 @@ cases =
     ∷ refuses (bytes "True, Pd}") 1 2 6
     ∷ reads (bytes "\"Pd\"}") 1 (texts (item 1 (bytes "Pd") ∷ [])) 4
     ∷ refuses (bytes "Pd..Pw}") 1 2 0
-    ∷ reads (bytes "yyyy-mm-dd Pd}") 1 (single datePattern 1 1) 10
+    ∷ reads (bytes "yyyy-mm-dd Pd}") 1 (single date_pattern 1 1) 10
     ∷ refuses (bytes "Pwd/|P0w..P50w|}") 1 2 0
     ∷ refuses (bytes "<Pd|}") 1 2 0
     ∷ refuses (bytes "Pd --c}") 1 2 0
     -- what is no pattern, or more than one
     ∷ refuses (bytes "yyyy-mm-d}") 1 2 0
     ∷ refuses (bytes "yyyy-mm}") 1 2 0
-    ∷ reads (bytes "yyyy-mm-ddx}") 1 (single datePattern 1 1) 10
-    ∷ reads (bytes "yyyy-mm-ddThh:mm:ss}") 1 (single datePattern 1 1) 10
+    ∷ reads (bytes "yyyy-mm-ddx}") 1 (single date_pattern 1 1) 10
+    ∷ reads (bytes "yyyy-mm-ddThh:mm:ss}") 1 (single date_pattern 1 1) 10
     ∷ refuses (bytes "yyyy-??-dd}") 1 2 0
     ∷ refuses (bytes "Thh}") 1 2 0
     ∷ refuses (bytes "Thh:mm}") 1 2 0
     ∷ refuses (bytes "Thh:mm:??}") 1 2 0
-    ∷ reads (bytes "Thh:mm:ssx}") 1 (single timePattern 1 1) 9
-    ∷ reads (bytes "yyyy-mm-dd, yyyy-mm-??}") 1 (single datePattern 1 1) 10
+    ∷ reads (bytes "Thh:mm:ssx}") 1 (single time_pattern 1 1) 9
+    ∷ reads (bytes "yyyy-mm-dd, yyyy-mm-??}") 1 (single date_pattern 1 1) 10
     ∷ reads (bytes "\"yyyy-mm-dd\"}") 1 (texts (item 1 (bytes "yyyy-mm-dd") ∷ [])) 12
     ∷ refuses (bytes "yyyy}") 1 2 0
     ∷ refuses (bytes "yyyy-MM-dd}") 1 2 0
@@ -473,15 +473,15 @@ cases =
     ∷ refuses (bytes "YYYY-MM-DD}") 1 2 0
     ∷ refuses (bytes "yyyy-mm-xx}") 1 2 0
     ∷ refuses (bytes "yyyy-mm-?}") 1 2 0
-    ∷ reads (bytes "yyyy-mm-XXX}") 1 (single datePattern 1 4) 10
+    ∷ reads (bytes "yyyy-mm-XXX}") 1 (single date_pattern 1 4) 10
     ∷ refuses (bytes "Thh:??:ss}") 1 2 0
     ∷ refuses (bytes "Thh:XX:XX}") 1 2 0
-    ∷ reads (bytes "Thh:mm:ss Z}") 1 (single timePattern 1 1) 9
+    ∷ reads (bytes "Thh:mm:ss Z}") 1 (single time_pattern 1 1) 9
     ∷ refuses (bytes "hh:mm:ss}") 1 2 0
     ∷ refuses (bytes "thh:mm:ss}") 1 2 0
     ∷ refuses (bytes "TThh:mm:ss}") 1 2 0
-    ∷ reads (bytes "Thh:mm:ss, Thh:mm:XX}") 1 (single timePattern 1 1) 9
-    ∷ reads (bytes "yyyy-mm-dd yyyy-mm-dd}") 1 (single datePattern 1 1) 10
+    ∷ reads (bytes "Thh:mm:ss, Thh:mm:XX}") 1 (single time_pattern 1 1) 9
+    ∷ reads (bytes "yyyy-mm-dd yyyy-mm-dd}") 1 (single date_pattern 1 1) 10
     -- strings
     ∷ reads (bytes "\"\"}") 1 (texts (item 1 [] ∷ [])) 2
     ∷ reads (bytes "\" ~'{}|,*--\"}") 1 (texts (item 1 (bytes " ~'{}|,*--") ∷ [])) 12
@@ -552,7 +552,7 @@ cases =
     -- Date_time, and durations that are no pattern
     ∷ refuses (bytes "2004-05-20T10:00:00}") 1 2 0
     ∷ refuses (bytes "|>2004-05-20T10:00:00|}") 1 2 12
-    ∷ reads (bytes "yyyy-mm-ddThh:mm:ss}") 1 (single datePattern 1 1) 10
+    ∷ reads (bytes "yyyy-mm-ddThh:mm:ss}") 1 (single date_pattern 1 1) 10
     ∷ refuses (bytes "P1Y}") 1 2 0
     ∷ refuses (bytes "|P1Y|}") 1 2 1
     ∷ refuses (bytes "-P1Y}") 1 2 0
@@ -579,7 +579,7 @@ cases =
     ∷ reads (bytes "5; 6}") 1 (ranges integers (range 1 2_147_483_653 2_147_483_653 ∷ [])) 1
     ∷ reads (bytes "\"a\"; \"a\"}") 1 (texts (item 1 (bytes "a") ∷ [])) 3
     ∷ reads (bytes "True; True}") 1 (single booleans 1 1) 4
-    ∷ reads (bytes "yyyy-mm-dd; 2004-01-01}") 1 (single datePattern 1 1) 10
+    ∷ reads (bytes "yyyy-mm-dd; 2004-01-01}") 1 (single date_pattern 1 1) 10
     ∷ reads (bytes "|5..9|; 7}") 1 (ranges integers (range 1 2_147_483_653 2_147_483_657 ∷ [])) 6
     ∷ reads (bytes "|2004-01-01|; 2004-01-01}") 1 (ranges dates (range 1 20_040_101 20_040_101 ∷ [])) 12
     -- other marks and bytes
@@ -625,11 +625,11 @@ cases =
     ∷ refuses (bytes "True, True}") 2048 8 0
     ∷ refuses (bytes "yyyy-mm-dd}") 2048 8 0
     ∷ refuses (bytes "Thh:mm:ss}") 2048 8 0
-    ∷ reads (bytes "Thh:mm:ss}") 2047 (single timePattern 2047 1) 9
+    ∷ reads (bytes "Thh:mm:ss}") 2047 (single time_pattern 2047 1) 9
     ∷ refuses (bytes "Pwd}") 2048 8 0
-    ∷ reads (bytes "Pwd}") 2047 (single durationPattern 2047 12) 3
+    ∷ reads (bytes "Pwd}") 2047 (single duration_pattern 2047 12) 3
     ∷ []
 
 pub none-wrong : wrong right 0 cases ≡ []
-unfolding wrong right cases itemsCompute
+unfolding wrong right cases items_compute
 none-wrong = refl

@@ -5,19 +5,19 @@ use mathlib.Core.List.{List, [], ◌∷◌}
 use lib.ListN.{replicate}
 use Rattle.lexis.specs.Text.{bytes}
 use Rattle.lexis.proofs.Tables.{wrong}
-use Rattle.meaning.specs.Constraints.{no_more, any, nested, leaf, single, ranges, texts, booleans, integers, datePattern, dates, timePattern, durationPattern}
-use Rattle.meaning.proofs.Trees.{range, item, objectWith, attributeWith, objectList}
-use Rattle.cadl_objects.proofs.Computes.{constraintComputes}
-use Rattle.cadl_objects.proofs.Examples.{Case, accepts, refuses, acceptsFrom, refusesFrom, right}
+use Rattle.meaning.specs.Constraints.{no_more, any, nested, leaf, single, ranges, texts, booleans, integers, date_pattern, dates, time_pattern, duration_pattern}
+use Rattle.meaning.proofs.Trees.{range, item, object_with, attribute_with, object_list}
+use Rattle.cadl_objects.proofs.Computes.{constraint_computes}
+use Rattle.cadl_objects.proofs.Examples.{Case, accepts, refuses, accepts_from, refuses_from, right}
 
 pub cases : List Case
 cases =
     -- integers: the range's ends, needless zeros, -0
-    accepts (bytes "A matches {a matches {5}}") (objectWith 1 (bytes "A") [] (attributeWith 2 2 (bytes "a") (leaf (ranges integers (range 3 2_147_483_653 2_147_483_653 ∷ []))) no_more))
-    ∷ accepts (bytes "A matches {a matches {-5}}") (objectWith 1 (bytes "A") [] (attributeWith 2 2 (bytes "a") (leaf (ranges integers (range 3 2_147_483_643 2_147_483_643 ∷ []))) no_more))
-    ∷ accepts (bytes "A matches {a matches {0}}") (objectWith 1 (bytes "A") [] (attributeWith 2 2 (bytes "a") (leaf (ranges integers (range 3 2_147_483_648 2_147_483_648 ∷ []))) no_more))
-    ∷ accepts (bytes "A matches {a matches {-2147483648}}") (objectWith 1 (bytes "A") [] (attributeWith 2 2 (bytes "a") (leaf (ranges integers (range 3 0 0 ∷ []))) no_more))
-    ∷ accepts (bytes "A matches {a matches {2147483647}}") (objectWith 1 (bytes "A") [] (attributeWith 2 2 (bytes "a") (leaf (ranges integers (range 3 4_294_967_295 4_294_967_295 ∷ []))) no_more))
+    accepts (bytes "A matches {a matches {5}}") (object_with 1 (bytes "A") [] (attribute_with 2 2 (bytes "a") (leaf (ranges integers (range 3 2_147_483_653 2_147_483_653 ∷ []))) no_more))
+    ∷ accepts (bytes "A matches {a matches {-5}}") (object_with 1 (bytes "A") [] (attribute_with 2 2 (bytes "a") (leaf (ranges integers (range 3 2_147_483_643 2_147_483_643 ∷ []))) no_more))
+    ∷ accepts (bytes "A matches {a matches {0}}") (object_with 1 (bytes "A") [] (attribute_with 2 2 (bytes "a") (leaf (ranges integers (range 3 2_147_483_648 2_147_483_648 ∷ []))) no_more))
+    ∷ accepts (bytes "A matches {a matches {-2147483648}}") (object_with 1 (bytes "A") [] (attribute_with 2 2 (bytes "a") (leaf (ranges integers (range 3 0 0 ∷ []))) no_more))
+    ∷ accepts (bytes "A matches {a matches {2147483647}}") (object_with 1 (bytes "A") [] (attribute_with 2 2 (bytes "a") (leaf (ranges integers (range 3 4_294_967_295 4_294_967_295 ∷ []))) no_more))
     ∷ refuses (bytes "A matches {a matches {2147483648}}") 5 22
     ∷ refuses (bytes "A matches {a matches {-2147483649}}") 5 22
     ∷ refuses (bytes "A matches {a matches {99999999999999999999}}") 5 22
@@ -33,47 +33,47 @@ cases =
     ∷ refuses (bytes "A matches {a matches {5--3}}") 2 28
     ∷ refuses (bytes "A matches {a matches {5a}}") 2 23
     -- lists of integers
-    ∷ accepts (bytes "A matches {a matches {3,1,2}}") (objectWith 1 (bytes "A") [] (attributeWith 2 2 (bytes "a") (leaf (ranges integers (range 3 2_147_483_651 2_147_483_651 ∷ range 4 2_147_483_649 2_147_483_649 ∷ range 5 2_147_483_650 2_147_483_650 ∷ []))) no_more))
-    ∷ accepts (bytes "A matches {a matches {1, |5..9|, 3}}") (objectWith 1 (bytes "A") [] (attributeWith 2 2 (bytes "a") (leaf (ranges integers (range 3 2_147_483_649 2_147_483_649 ∷ range 4 2_147_483_653 2_147_483_657 ∷ range 5 2_147_483_651 2_147_483_651 ∷ []))) no_more))
+    ∷ accepts (bytes "A matches {a matches {3,1,2}}") (object_with 1 (bytes "A") [] (attribute_with 2 2 (bytes "a") (leaf (ranges integers (range 3 2_147_483_651 2_147_483_651 ∷ range 4 2_147_483_649 2_147_483_649 ∷ range 5 2_147_483_650 2_147_483_650 ∷ []))) no_more))
+    ∷ accepts (bytes "A matches {a matches {1, |5..9|, 3}}") (object_with 1 (bytes "A") [] (attribute_with 2 2 (bytes "a") (leaf (ranges integers (range 3 2_147_483_649 2_147_483_649 ∷ range 4 2_147_483_653 2_147_483_657 ∷ range 5 2_147_483_651 2_147_483_651 ∷ []))) no_more))
     -- every interval of integers
-    ∷ accepts (bytes "A matches {a matches {|5|}}") (objectWith 1 (bytes "A") [] (attributeWith 2 2 (bytes "a") (leaf (ranges integers (range 3 2_147_483_653 2_147_483_653 ∷ []))) no_more))
-    ∷ accepts (bytes "A matches {a matches {|5..9|}}") (objectWith 1 (bytes "A") [] (attributeWith 2 2 (bytes "a") (leaf (ranges integers (range 3 2_147_483_653 2_147_483_657 ∷ []))) no_more))
-    ∷ accepts (bytes "A matches {a matches {|5..<9|}}") (objectWith 1 (bytes "A") [] (attributeWith 2 2 (bytes "a") (leaf (ranges integers (range 3 2_147_483_653 2_147_483_656 ∷ []))) no_more))
-    ∷ accepts (bytes "A matches {a matches {|>5..9|}}") (objectWith 1 (bytes "A") [] (attributeWith 2 2 (bytes "a") (leaf (ranges integers (range 3 2_147_483_654 2_147_483_657 ∷ []))) no_more))
-    ∷ accepts (bytes "A matches {a matches {|>5..<9|}}") (objectWith 1 (bytes "A") [] (attributeWith 2 2 (bytes "a") (leaf (ranges integers (range 3 2_147_483_654 2_147_483_656 ∷ []))) no_more))
-    ∷ accepts (bytes "A matches {a matches {|100+/-5|}}") (objectWith 1 (bytes "A") [] (attributeWith 2 2 (bytes "a") (leaf (ranges integers (range 3 2_147_483_743 2_147_483_753 ∷ []))) no_more))
-    ∷ accepts (bytes "A matches {a matches {|<5|}}") (objectWith 1 (bytes "A") [] (attributeWith 2 2 (bytes "a") (leaf (ranges integers (range 3 0 2_147_483_652 ∷ []))) no_more))
-    ∷ accepts (bytes "A matches {a matches {|>5|}}") (objectWith 1 (bytes "A") [] (attributeWith 2 2 (bytes "a") (leaf (ranges integers (range 3 2_147_483_654 4_294_967_295 ∷ []))) no_more))
-    ∷ accepts (bytes "A matches {a matches {|<=5|}}") (objectWith 1 (bytes "A") [] (attributeWith 2 2 (bytes "a") (leaf (ranges integers (range 3 0 2_147_483_653 ∷ []))) no_more))
-    ∷ accepts (bytes "A matches {a matches {|>=5|}}") (objectWith 1 (bytes "A") [] (attributeWith 2 2 (bytes "a") (leaf (ranges integers (range 3 2_147_483_653 4_294_967_295 ∷ []))) no_more))
-    ∷ accepts (bytes "A matches {a matches {|>-9..<-5|}}") (objectWith 1 (bytes "A") [] (attributeWith 2 2 (bytes "a") (leaf (ranges integers (range 3 2_147_483_640 2_147_483_642 ∷ []))) no_more))
-    ∷ accepts (bytes "A matches {a matches {|0..<1000|}}") (objectWith 1 (bytes "A") [] (attributeWith 2 2 (bytes "a") (leaf (ranges integers (range 3 2_147_483_648 2_147_484_647 ∷ []))) no_more))
+    ∷ accepts (bytes "A matches {a matches {|5|}}") (object_with 1 (bytes "A") [] (attribute_with 2 2 (bytes "a") (leaf (ranges integers (range 3 2_147_483_653 2_147_483_653 ∷ []))) no_more))
+    ∷ accepts (bytes "A matches {a matches {|5..9|}}") (object_with 1 (bytes "A") [] (attribute_with 2 2 (bytes "a") (leaf (ranges integers (range 3 2_147_483_653 2_147_483_657 ∷ []))) no_more))
+    ∷ accepts (bytes "A matches {a matches {|5..<9|}}") (object_with 1 (bytes "A") [] (attribute_with 2 2 (bytes "a") (leaf (ranges integers (range 3 2_147_483_653 2_147_483_656 ∷ []))) no_more))
+    ∷ accepts (bytes "A matches {a matches {|>5..9|}}") (object_with 1 (bytes "A") [] (attribute_with 2 2 (bytes "a") (leaf (ranges integers (range 3 2_147_483_654 2_147_483_657 ∷ []))) no_more))
+    ∷ accepts (bytes "A matches {a matches {|>5..<9|}}") (object_with 1 (bytes "A") [] (attribute_with 2 2 (bytes "a") (leaf (ranges integers (range 3 2_147_483_654 2_147_483_656 ∷ []))) no_more))
+    ∷ accepts (bytes "A matches {a matches {|100+/-5|}}") (object_with 1 (bytes "A") [] (attribute_with 2 2 (bytes "a") (leaf (ranges integers (range 3 2_147_483_743 2_147_483_753 ∷ []))) no_more))
+    ∷ accepts (bytes "A matches {a matches {|<5|}}") (object_with 1 (bytes "A") [] (attribute_with 2 2 (bytes "a") (leaf (ranges integers (range 3 0 2_147_483_652 ∷ []))) no_more))
+    ∷ accepts (bytes "A matches {a matches {|>5|}}") (object_with 1 (bytes "A") [] (attribute_with 2 2 (bytes "a") (leaf (ranges integers (range 3 2_147_483_654 4_294_967_295 ∷ []))) no_more))
+    ∷ accepts (bytes "A matches {a matches {|<=5|}}") (object_with 1 (bytes "A") [] (attribute_with 2 2 (bytes "a") (leaf (ranges integers (range 3 0 2_147_483_653 ∷ []))) no_more))
+    ∷ accepts (bytes "A matches {a matches {|>=5|}}") (object_with 1 (bytes "A") [] (attribute_with 2 2 (bytes "a") (leaf (ranges integers (range 3 2_147_483_653 4_294_967_295 ∷ []))) no_more))
+    ∷ accepts (bytes "A matches {a matches {|>-9..<-5|}}") (object_with 1 (bytes "A") [] (attribute_with 2 2 (bytes "a") (leaf (ranges integers (range 3 2_147_483_640 2_147_483_642 ∷ []))) no_more))
+    ∷ accepts (bytes "A matches {a matches {|0..<1000|}}") (object_with 1 (bytes "A") [] (attribute_with 2 2 (bytes "a") (leaf (ranges integers (range 3 2_147_483_648 2_147_484_647 ∷ []))) no_more))
     -- ends at the range's ends
-    ∷ accepts (bytes "A matches {a matches {|-2147483648..2147483647|}}") (objectWith 1 (bytes "A") [] (attributeWith 2 2 (bytes "a") (leaf (ranges integers (range 3 0 4_294_967_295 ∷ []))) no_more))
-    ∷ accepts (bytes "A matches {a matches {|>-2147483648..<2147483647|}}") (objectWith 1 (bytes "A") [] (attributeWith 2 2 (bytes "a") (leaf (ranges integers (range 3 1 4_294_967_294 ∷ []))) no_more))
-    ∷ accepts (bytes "A matches {a matches {|>=-2147483648|}}") (objectWith 1 (bytes "A") [] (attributeWith 2 2 (bytes "a") (leaf (ranges integers (range 3 0 4_294_967_295 ∷ []))) no_more))
-    ∷ accepts (bytes "A matches {a matches {|<=2147483647|}}") (objectWith 1 (bytes "A") [] (attributeWith 2 2 (bytes "a") (leaf (ranges integers (range 3 0 4_294_967_295 ∷ []))) no_more))
-    ∷ accepts (bytes "A matches {a matches {|>=2147483647|}}") (objectWith 1 (bytes "A") [] (attributeWith 2 2 (bytes "a") (leaf (ranges integers (range 3 4_294_967_295 4_294_967_295 ∷ []))) no_more))
-    ∷ accepts (bytes "A matches {a matches {|<=-2147483648|}}") (objectWith 1 (bytes "A") [] (attributeWith 2 2 (bytes "a") (leaf (ranges integers (range 3 0 0 ∷ []))) no_more))
-    ∷ accepts (bytes "A matches {a matches {|>2147483646|}}") (objectWith 1 (bytes "A") [] (attributeWith 2 2 (bytes "a") (leaf (ranges integers (range 3 4_294_967_295 4_294_967_295 ∷ []))) no_more))
-    ∷ accepts (bytes "A matches {a matches {|<-2147483647|}}") (objectWith 1 (bytes "A") [] (attributeWith 2 2 (bytes "a") (leaf (ranges integers (range 3 0 0 ∷ []))) no_more))
+    ∷ accepts (bytes "A matches {a matches {|-2147483648..2147483647|}}") (object_with 1 (bytes "A") [] (attribute_with 2 2 (bytes "a") (leaf (ranges integers (range 3 0 4_294_967_295 ∷ []))) no_more))
+    ∷ accepts (bytes "A matches {a matches {|>-2147483648..<2147483647|}}") (object_with 1 (bytes "A") [] (attribute_with 2 2 (bytes "a") (leaf (ranges integers (range 3 1 4_294_967_294 ∷ []))) no_more))
+    ∷ accepts (bytes "A matches {a matches {|>=-2147483648|}}") (object_with 1 (bytes "A") [] (attribute_with 2 2 (bytes "a") (leaf (ranges integers (range 3 0 4_294_967_295 ∷ []))) no_more))
+    ∷ accepts (bytes "A matches {a matches {|<=2147483647|}}") (object_with 1 (bytes "A") [] (attribute_with 2 2 (bytes "a") (leaf (ranges integers (range 3 0 4_294_967_295 ∷ []))) no_more))
+    ∷ accepts (bytes "A matches {a matches {|>=2147483647|}}") (object_with 1 (bytes "A") [] (attribute_with 2 2 (bytes "a") (leaf (ranges integers (range 3 4_294_967_295 4_294_967_295 ∷ []))) no_more))
+    ∷ accepts (bytes "A matches {a matches {|<=-2147483648|}}") (object_with 1 (bytes "A") [] (attribute_with 2 2 (bytes "a") (leaf (ranges integers (range 3 0 0 ∷ []))) no_more))
+    ∷ accepts (bytes "A matches {a matches {|>2147483646|}}") (object_with 1 (bytes "A") [] (attribute_with 2 2 (bytes "a") (leaf (ranges integers (range 3 4_294_967_295 4_294_967_295 ∷ []))) no_more))
+    ∷ accepts (bytes "A matches {a matches {|<-2147483647|}}") (object_with 1 (bytes "A") [] (attribute_with 2 2 (bytes "a") (leaf (ranges integers (range 3 0 0 ∷ []))) no_more))
     -- empty intervals, told at the closing bar, and the narrowest
     ∷ refuses (bytes "A matches {a matches {|>2147483647|}}") 6 34
     ∷ refuses (bytes "A matches {a matches {|<-2147483648|}}") 6 35
     ∷ refuses (bytes "A matches {a matches {|>0..<1|}}") 6 29
-    ∷ accepts (bytes "A matches {a matches {|>0..<2|}}") (objectWith 1 (bytes "A") [] (attributeWith 2 2 (bytes "a") (leaf (ranges integers (range 3 2_147_483_649 2_147_483_649 ∷ []))) no_more))
+    ∷ accepts (bytes "A matches {a matches {|>0..<2|}}") (object_with 1 (bytes "A") [] (attribute_with 2 2 (bytes "a") (leaf (ranges integers (range 3 2_147_483_649 2_147_483_649 ∷ []))) no_more))
     ∷ refuses (bytes "A matches {a matches {|>0..0|}}") 6 28
     ∷ refuses (bytes "A matches {a matches {|0..<0|}}") 6 28
-    ∷ accepts (bytes "A matches {a matches {|0..<1|}}") (objectWith 1 (bytes "A") [] (attributeWith 2 2 (bytes "a") (leaf (ranges integers (range 3 2_147_483_648 2_147_483_648 ∷ []))) no_more))
+    ∷ accepts (bytes "A matches {a matches {|0..<1|}}") (object_with 1 (bytes "A") [] (attribute_with 2 2 (bytes "a") (leaf (ranges integers (range 3 2_147_483_648 2_147_483_648 ∷ []))) no_more))
     ∷ refuses (bytes "A matches {a matches {|5..4|}}") 6 27
     ∷ refuses (bytes "A matches {a matches {|>2147483647..2147483647|}}") 6 46
     ∷ refuses (bytes "A matches {a matches {| 9 .. 5  |}}") 6 32
     ∷ refuses (bytes "A matches {a matches {|9..5}}") 2 27
     ∷ refuses (bytes "A matches {a matches {|9..5 6|}}") 2 28
     -- a value with a distance on either side
-    ∷ accepts (bytes "A matches {a matches {|100+/-0|}}") (objectWith 1 (bytes "A") [] (attributeWith 2 2 (bytes "a") (leaf (ranges integers (range 3 2_147_483_748 2_147_483_748 ∷ []))) no_more))
-    ∷ accepts (bytes "A matches {a matches {|0+/-2147483647|}}") (objectWith 1 (bytes "A") [] (attributeWith 2 2 (bytes "a") (leaf (ranges integers (range 3 1 4_294_967_295 ∷ []))) no_more))
-    ∷ accepts (bytes "A matches {a matches {|-1+/-2147483647|}}") (objectWith 1 (bytes "A") [] (attributeWith 2 2 (bytes "a") (leaf (ranges integers (range 3 0 4_294_967_294 ∷ []))) no_more))
+    ∷ accepts (bytes "A matches {a matches {|100+/-0|}}") (object_with 1 (bytes "A") [] (attribute_with 2 2 (bytes "a") (leaf (ranges integers (range 3 2_147_483_748 2_147_483_748 ∷ []))) no_more))
+    ∷ accepts (bytes "A matches {a matches {|0+/-2147483647|}}") (object_with 1 (bytes "A") [] (attribute_with 2 2 (bytes "a") (leaf (ranges integers (range 3 1 4_294_967_295 ∷ []))) no_more))
+    ∷ accepts (bytes "A matches {a matches {|-1+/-2147483647|}}") (object_with 1 (bytes "A") [] (attribute_with 2 2 (bytes "a") (leaf (ranges integers (range 3 0 4_294_967_294 ∷ []))) no_more))
     ∷ refuses (bytes "A matches {a matches {|1+/-2147483647|}}") 5 27
     ∷ refuses (bytes "A matches {a matches {|-2+/-2147483647|}}") 5 28
     ∷ refuses (bytes "A matches {a matches {|0+/-2147483648|}}") 5 27
@@ -85,7 +85,7 @@ cases =
     ∷ refuses (bytes "A matches {a matches {|2147483647+/--1|}}") 5 36
     ∷ refuses (bytes "A matches {a matches {|0+/--2147483648|}}") 5 27
     ∷ refuses (bytes "A matches {a matches {|100+/---5|}}") 2 35
-    ∷ accepts (bytes "A matches {a matches {|100+/---5\n5|}}") (objectWith 1 (bytes "A") [] (attributeWith 2 2 (bytes "a") (leaf (ranges integers (range 3 2_147_483_743 2_147_483_753 ∷ []))) no_more))
+    ∷ accepts (bytes "A matches {a matches {|100+/---5\n5|}}") (object_with 1 (bytes "A") [] (attribute_with 2 2 (bytes "a") (leaf (ranges integers (range 3 2_147_483_743 2_147_483_753 ∷ []))) no_more))
     ∷ refuses (bytes "A matches {a matches {|5+/-007|}}") 5 27
     ∷ refuses (bytes "A matches {a matches {|007+/-2|}}") 5 23
     ∷ refuses (bytes "A matches {a matches {|2147483647+/-1}}") 5 36
@@ -105,7 +105,7 @@ cases =
     ∷ refuses (bytes "A matches {a matches {|5...9|}}") 2 26
     ∷ refuses (bytes "A matches {a matches {|5..<=9|}}") 2 26
     ∷ refuses (bytes "A matches {a matches {|> =5|}}") 2 25
-    ∷ accepts (bytes "A matches {a matches {|> 5 .. < 9|}}") (objectWith 1 (bytes "A") [] (attributeWith 2 2 (bytes "a") (leaf (ranges integers (range 3 2_147_483_654 2_147_483_656 ∷ []))) no_more))
+    ∷ accepts (bytes "A matches {a matches {|> 5 .. < 9|}}") (object_with 1 (bytes "A") [] (attribute_with 2 2 (bytes "a") (leaf (ranges integers (range 3 2_147_483_654 2_147_483_656 ∷ []))) no_more))
     ∷ refuses (bytes "A matches {a matches {|\"a\"|}}") 2 23
     ∷ refuses (bytes "A matches {a matches {|True|}}") 2 23
     ∷ refuses (bytes "A matches {a matches {|5..9..10|}}") 2 27
@@ -118,42 +118,42 @@ cases =
     ∷ refuses (bytes "A matches {a matches {|5 007|}}") 2 25
     ∷ refuses (bytes "A matches {a matches {5 007}}") 2 24
     -- every interval of dates
-    ∷ accepts (bytes "A matches {a matches {|2004-05-20|}}") (objectWith 1 (bytes "A") [] (attributeWith 2 2 (bytes "a") (leaf (ranges dates (range 3 20_040_520 20_040_520 ∷ []))) no_more))
-    ∷ accepts (bytes "A matches {a matches {|2004-05-20..2005-01-01|}}") (objectWith 1 (bytes "A") [] (attributeWith 2 2 (bytes "a") (leaf (ranges dates (range 3 20_040_520 20_050_101 ∷ []))) no_more))
-    ∷ accepts (bytes "A matches {a matches {|2004-05-20..<2005-01-02|}}") (objectWith 1 (bytes "A") [] (attributeWith 2 2 (bytes "a") (leaf (ranges dates (range 3 20_040_520 20_050_101 ∷ []))) no_more))
-    ∷ accepts (bytes "A matches {a matches {|>2004-05-20..2005-01-01|}}") (objectWith 1 (bytes "A") [] (attributeWith 2 2 (bytes "a") (leaf (ranges dates (range 3 20_040_521 20_050_101 ∷ []))) no_more))
-    ∷ accepts (bytes "A matches {a matches {|>2004-05-20..<2005-01-02|}}") (objectWith 1 (bytes "A") [] (attributeWith 2 2 (bytes "a") (leaf (ranges dates (range 3 20_040_521 20_050_101 ∷ []))) no_more))
-    ∷ accepts (bytes "A matches {a matches {|<2004-05-20|}}") (objectWith 1 (bytes "A") [] (attributeWith 2 2 (bytes "a") (leaf (ranges dates (range 3 101 20_040_519 ∷ []))) no_more))
-    ∷ accepts (bytes "A matches {a matches {|>2004-05-20|}}") (objectWith 1 (bytes "A") [] (attributeWith 2 2 (bytes "a") (leaf (ranges dates (range 3 20_040_521 99_991_231 ∷ []))) no_more))
-    ∷ accepts (bytes "A matches {a matches {|<=2004-05-20|}}") (objectWith 1 (bytes "A") [] (attributeWith 2 2 (bytes "a") (leaf (ranges dates (range 3 101 20_040_520 ∷ []))) no_more))
-    ∷ accepts (bytes "A matches {a matches {|>=2004-05-20|}}") (objectWith 1 (bytes "A") [] (attributeWith 2 2 (bytes "a") (leaf (ranges dates (range 3 20_040_520 99_991_231 ∷ []))) no_more))
+    ∷ accepts (bytes "A matches {a matches {|2004-05-20|}}") (object_with 1 (bytes "A") [] (attribute_with 2 2 (bytes "a") (leaf (ranges dates (range 3 20_040_520 20_040_520 ∷ []))) no_more))
+    ∷ accepts (bytes "A matches {a matches {|2004-05-20..2005-01-01|}}") (object_with 1 (bytes "A") [] (attribute_with 2 2 (bytes "a") (leaf (ranges dates (range 3 20_040_520 20_050_101 ∷ []))) no_more))
+    ∷ accepts (bytes "A matches {a matches {|2004-05-20..<2005-01-02|}}") (object_with 1 (bytes "A") [] (attribute_with 2 2 (bytes "a") (leaf (ranges dates (range 3 20_040_520 20_050_101 ∷ []))) no_more))
+    ∷ accepts (bytes "A matches {a matches {|>2004-05-20..2005-01-01|}}") (object_with 1 (bytes "A") [] (attribute_with 2 2 (bytes "a") (leaf (ranges dates (range 3 20_040_521 20_050_101 ∷ []))) no_more))
+    ∷ accepts (bytes "A matches {a matches {|>2004-05-20..<2005-01-02|}}") (object_with 1 (bytes "A") [] (attribute_with 2 2 (bytes "a") (leaf (ranges dates (range 3 20_040_521 20_050_101 ∷ []))) no_more))
+    ∷ accepts (bytes "A matches {a matches {|<2004-05-20|}}") (object_with 1 (bytes "A") [] (attribute_with 2 2 (bytes "a") (leaf (ranges dates (range 3 101 20_040_519 ∷ []))) no_more))
+    ∷ accepts (bytes "A matches {a matches {|>2004-05-20|}}") (object_with 1 (bytes "A") [] (attribute_with 2 2 (bytes "a") (leaf (ranges dates (range 3 20_040_521 99_991_231 ∷ []))) no_more))
+    ∷ accepts (bytes "A matches {a matches {|<=2004-05-20|}}") (object_with 1 (bytes "A") [] (attribute_with 2 2 (bytes "a") (leaf (ranges dates (range 3 101 20_040_520 ∷ []))) no_more))
+    ∷ accepts (bytes "A matches {a matches {|>=2004-05-20|}}") (object_with 1 (bytes "A") [] (attribute_with 2 2 (bytes "a") (leaf (ranges dates (range 3 20_040_520 99_991_231 ∷ []))) no_more))
     ∷ refuses (bytes "A matches {a matches {|2004-05-20+/-1|}}") 2 33
     -- open ends move by one calendar day
-    ∷ accepts (bytes "A matches {a matches {|>2003-12-31|}}") (objectWith 1 (bytes "A") [] (attributeWith 2 2 (bytes "a") (leaf (ranges dates (range 3 20_040_101 99_991_231 ∷ []))) no_more))
-    ∷ accepts (bytes "A matches {a matches {|<2004-01-01|}}") (objectWith 1 (bytes "A") [] (attributeWith 2 2 (bytes "a") (leaf (ranges dates (range 3 101 20_031_231 ∷ []))) no_more))
-    ∷ accepts (bytes "A matches {a matches {|>2004-02-28|}}") (objectWith 1 (bytes "A") [] (attributeWith 2 2 (bytes "a") (leaf (ranges dates (range 3 20_040_229 99_991_231 ∷ []))) no_more))
-    ∷ accepts (bytes "A matches {a matches {|>2004-02-29|}}") (objectWith 1 (bytes "A") [] (attributeWith 2 2 (bytes "a") (leaf (ranges dates (range 3 20_040_301 99_991_231 ∷ []))) no_more))
-    ∷ accepts (bytes "A matches {a matches {|>2003-02-28|}}") (objectWith 1 (bytes "A") [] (attributeWith 2 2 (bytes "a") (leaf (ranges dates (range 3 20_030_301 99_991_231 ∷ []))) no_more))
-    ∷ accepts (bytes "A matches {a matches {|<2004-03-01|}}") (objectWith 1 (bytes "A") [] (attributeWith 2 2 (bytes "a") (leaf (ranges dates (range 3 101 20_040_229 ∷ []))) no_more))
-    ∷ accepts (bytes "A matches {a matches {|<2003-03-01|}}") (objectWith 1 (bytes "A") [] (attributeWith 2 2 (bytes "a") (leaf (ranges dates (range 3 101 20_030_228 ∷ []))) no_more))
-    ∷ accepts (bytes "A matches {a matches {|<1900-03-01|}}") (objectWith 1 (bytes "A") [] (attributeWith 2 2 (bytes "a") (leaf (ranges dates (range 3 101 19_000_228 ∷ []))) no_more))
-    ∷ accepts (bytes "A matches {a matches {|<2000-03-01|}}") (objectWith 1 (bytes "A") [] (attributeWith 2 2 (bytes "a") (leaf (ranges dates (range 3 101 20_000_229 ∷ []))) no_more))
-    ∷ accepts (bytes "A matches {a matches {|>2004-04-30|}}") (objectWith 1 (bytes "A") [] (attributeWith 2 2 (bytes "a") (leaf (ranges dates (range 3 20_040_501 99_991_231 ∷ []))) no_more))
-    ∷ accepts (bytes "A matches {a matches {|>2004-12-31..<2006-01-01|}}") (objectWith 1 (bytes "A") [] (attributeWith 2 2 (bytes "a") (leaf (ranges dates (range 3 20_050_101 20_051_231 ∷ []))) no_more))
+    ∷ accepts (bytes "A matches {a matches {|>2003-12-31|}}") (object_with 1 (bytes "A") [] (attribute_with 2 2 (bytes "a") (leaf (ranges dates (range 3 20_040_101 99_991_231 ∷ []))) no_more))
+    ∷ accepts (bytes "A matches {a matches {|<2004-01-01|}}") (object_with 1 (bytes "A") [] (attribute_with 2 2 (bytes "a") (leaf (ranges dates (range 3 101 20_031_231 ∷ []))) no_more))
+    ∷ accepts (bytes "A matches {a matches {|>2004-02-28|}}") (object_with 1 (bytes "A") [] (attribute_with 2 2 (bytes "a") (leaf (ranges dates (range 3 20_040_229 99_991_231 ∷ []))) no_more))
+    ∷ accepts (bytes "A matches {a matches {|>2004-02-29|}}") (object_with 1 (bytes "A") [] (attribute_with 2 2 (bytes "a") (leaf (ranges dates (range 3 20_040_301 99_991_231 ∷ []))) no_more))
+    ∷ accepts (bytes "A matches {a matches {|>2003-02-28|}}") (object_with 1 (bytes "A") [] (attribute_with 2 2 (bytes "a") (leaf (ranges dates (range 3 20_030_301 99_991_231 ∷ []))) no_more))
+    ∷ accepts (bytes "A matches {a matches {|<2004-03-01|}}") (object_with 1 (bytes "A") [] (attribute_with 2 2 (bytes "a") (leaf (ranges dates (range 3 101 20_040_229 ∷ []))) no_more))
+    ∷ accepts (bytes "A matches {a matches {|<2003-03-01|}}") (object_with 1 (bytes "A") [] (attribute_with 2 2 (bytes "a") (leaf (ranges dates (range 3 101 20_030_228 ∷ []))) no_more))
+    ∷ accepts (bytes "A matches {a matches {|<1900-03-01|}}") (object_with 1 (bytes "A") [] (attribute_with 2 2 (bytes "a") (leaf (ranges dates (range 3 101 19_000_228 ∷ []))) no_more))
+    ∷ accepts (bytes "A matches {a matches {|<2000-03-01|}}") (object_with 1 (bytes "A") [] (attribute_with 2 2 (bytes "a") (leaf (ranges dates (range 3 101 20_000_229 ∷ []))) no_more))
+    ∷ accepts (bytes "A matches {a matches {|>2004-04-30|}}") (object_with 1 (bytes "A") [] (attribute_with 2 2 (bytes "a") (leaf (ranges dates (range 3 20_040_501 99_991_231 ∷ []))) no_more))
+    ∷ accepts (bytes "A matches {a matches {|>2004-12-31..<2006-01-01|}}") (object_with 1 (bytes "A") [] (attribute_with 2 2 (bytes "a") (leaf (ranges dates (range 3 20_050_101 20_051_231 ∷ []))) no_more))
     -- dates at the range's ends, and empty intervals of dates
-    ∷ accepts (bytes "A matches {a matches {|0000-01-01..9999-12-31|}}") (objectWith 1 (bytes "A") [] (attributeWith 2 2 (bytes "a") (leaf (ranges dates (range 3 101 99_991_231 ∷ []))) no_more))
+    ∷ accepts (bytes "A matches {a matches {|0000-01-01..9999-12-31|}}") (object_with 1 (bytes "A") [] (attribute_with 2 2 (bytes "a") (leaf (ranges dates (range 3 101 99_991_231 ∷ []))) no_more))
     ∷ refuses (bytes "A matches {a matches {|>9999-12-31|}}") 6 34
     ∷ refuses (bytes "A matches {a matches {|<0000-01-01|}}") 6 34
-    ∷ accepts (bytes "A matches {a matches {|>=9999-12-31|}}") (objectWith 1 (bytes "A") [] (attributeWith 2 2 (bytes "a") (leaf (ranges dates (range 3 99_991_231 99_991_231 ∷ []))) no_more))
-    ∷ accepts (bytes "A matches {a matches {|<=0000-01-01|}}") (objectWith 1 (bytes "A") [] (attributeWith 2 2 (bytes "a") (leaf (ranges dates (range 3 101 101 ∷ []))) no_more))
-    ∷ accepts (bytes "A matches {a matches {|>9999-12-30|}}") (objectWith 1 (bytes "A") [] (attributeWith 2 2 (bytes "a") (leaf (ranges dates (range 3 99_991_231 99_991_231 ∷ []))) no_more))
-    ∷ accepts (bytes "A matches {a matches {|<0000-01-02|}}") (objectWith 1 (bytes "A") [] (attributeWith 2 2 (bytes "a") (leaf (ranges dates (range 3 101 101 ∷ []))) no_more))
+    ∷ accepts (bytes "A matches {a matches {|>=9999-12-31|}}") (object_with 1 (bytes "A") [] (attribute_with 2 2 (bytes "a") (leaf (ranges dates (range 3 99_991_231 99_991_231 ∷ []))) no_more))
+    ∷ accepts (bytes "A matches {a matches {|<=0000-01-01|}}") (object_with 1 (bytes "A") [] (attribute_with 2 2 (bytes "a") (leaf (ranges dates (range 3 101 101 ∷ []))) no_more))
+    ∷ accepts (bytes "A matches {a matches {|>9999-12-30|}}") (object_with 1 (bytes "A") [] (attribute_with 2 2 (bytes "a") (leaf (ranges dates (range 3 99_991_231 99_991_231 ∷ []))) no_more))
+    ∷ accepts (bytes "A matches {a matches {|<0000-01-02|}}") (object_with 1 (bytes "A") [] (attribute_with 2 2 (bytes "a") (leaf (ranges dates (range 3 101 101 ∷ []))) no_more))
     ∷ refuses (bytes "A matches {a matches {|>2003-12-31..<2004-01-01|}}") 6 47
-    ∷ accepts (bytes "A matches {a matches {|>2003-12-31..<2004-01-02|}}") (objectWith 1 (bytes "A") [] (attributeWith 2 2 (bytes "a") (leaf (ranges dates (range 3 20_040_101 20_040_101 ∷ []))) no_more))
+    ∷ accepts (bytes "A matches {a matches {|>2003-12-31..<2004-01-02|}}") (object_with 1 (bytes "A") [] (attribute_with 2 2 (bytes "a") (leaf (ranges dates (range 3 20_040_101 20_040_101 ∷ []))) no_more))
     ∷ refuses (bytes "A matches {a matches {|2004-05-20..2004-05-19|}}") 6 45
     ∷ refuses (bytes "A matches {a matches {|>9999-12-31..<0000-01-01|}}") 6 47
     -- dates that the calendar has, and others
-    ∷ accepts (bytes "A matches {a matches {|2000-02-29|}}") (objectWith 1 (bytes "A") [] (attributeWith 2 2 (bytes "a") (leaf (ranges dates (range 3 20_000_229 20_000_229 ∷ []))) no_more))
+    ∷ accepts (bytes "A matches {a matches {|2000-02-29|}}") (object_with 1 (bytes "A") [] (attribute_with 2 2 (bytes "a") (leaf (ranges dates (range 3 20_000_229 20_000_229 ∷ []))) no_more))
     ∷ refuses (bytes "A matches {a matches {|1900-02-29|}}") 5 23
     ∷ refuses (bytes "A matches {a matches {|2004-02-30|}}") 5 23
     ∷ refuses (bytes "A matches {a matches {|2004-13-10|}}") 5 23
@@ -163,7 +163,7 @@ cases =
     -- what is no date, and dates outside bars
     ∷ refuses (bytes "A matches {a matches {2004-05-20}}") 2 22
     ∷ refuses (bytes "A matches {a matches {|2004-05|}}") 2 27
-    ∷ accepts (bytes "A matches {a matches {|2004|}}") (objectWith 1 (bytes "A") [] (attributeWith 2 2 (bytes "a") (leaf (ranges integers (range 3 2_147_485_652 2_147_485_652 ∷ []))) no_more))
+    ∷ accepts (bytes "A matches {a matches {|2004|}}") (object_with 1 (bytes "A") [] (attribute_with 2 2 (bytes "a") (leaf (ranges integers (range 3 2_147_485_652 2_147_485_652 ∷ []))) no_more))
     ∷ refuses (bytes "A matches {a matches {|2004-05-2|}}") 2 27
     ∷ refuses (bytes "A matches {a matches {|2004-05-201|}}") 2 33
     ∷ refuses (bytes "A matches {a matches {|12004-05-20|}}") 2 28
@@ -175,21 +175,21 @@ cases =
     -- items that overlap, told at the later item, and items that only touch
     ∷ refuses (bytes "A matches {a matches {5, |5..9|}}") 9 25
     ∷ refuses (bytes "A matches {a matches {|5..9|, 9}}") 9 30
-    ∷ accepts (bytes "A matches {a matches {|5..9|, 10}}") (objectWith 1 (bytes "A") [] (attributeWith 2 2 (bytes "a") (leaf (ranges integers (range 3 2_147_483_653 2_147_483_657 ∷ range 4 2_147_483_658 2_147_483_658 ∷ []))) no_more))
-    ∷ accepts (bytes "A matches {a matches {|5..9|, 4}}") (objectWith 1 (bytes "A") [] (attributeWith 2 2 (bytes "a") (leaf (ranges integers (range 3 2_147_483_653 2_147_483_657 ∷ range 4 2_147_483_652 2_147_483_652 ∷ []))) no_more))
+    ∷ accepts (bytes "A matches {a matches {|5..9|, 10}}") (object_with 1 (bytes "A") [] (attribute_with 2 2 (bytes "a") (leaf (ranges integers (range 3 2_147_483_653 2_147_483_657 ∷ range 4 2_147_483_658 2_147_483_658 ∷ []))) no_more))
+    ∷ accepts (bytes "A matches {a matches {|5..9|, 4}}") (object_with 1 (bytes "A") [] (attribute_with 2 2 (bytes "a") (leaf (ranges integers (range 3 2_147_483_653 2_147_483_657 ∷ range 4 2_147_483_652 2_147_483_652 ∷ []))) no_more))
     ∷ refuses (bytes "A matches {a matches {|1..3|, |3..5|}}") 9 30
-    ∷ accepts (bytes "A matches {a matches {|1..3|, |4..5|}}") (objectWith 1 (bytes "A") [] (attributeWith 2 2 (bytes "a") (leaf (ranges integers (range 3 2_147_483_649 2_147_483_651 ∷ range 4 2_147_483_652 2_147_483_653 ∷ []))) no_more))
+    ∷ accepts (bytes "A matches {a matches {|1..3|, |4..5|}}") (object_with 1 (bytes "A") [] (attribute_with 2 2 (bytes "a") (leaf (ranges integers (range 3 2_147_483_649 2_147_483_651 ∷ range 4 2_147_483_652 2_147_483_653 ∷ []))) no_more))
     ∷ refuses (bytes "A matches {a matches {|1..9|, |3..5|}}") 9 30
-    ∷ accepts (bytes "A matches {a matches {|>=5|, |<5|}}") (objectWith 1 (bytes "A") [] (attributeWith 2 2 (bytes "a") (leaf (ranges integers (range 3 2_147_483_653 4_294_967_295 ∷ range 4 0 2_147_483_652 ∷ []))) no_more))
+    ∷ accepts (bytes "A matches {a matches {|>=5|, |<5|}}") (object_with 1 (bytes "A") [] (attribute_with 2 2 (bytes "a") (leaf (ranges integers (range 3 2_147_483_653 4_294_967_295 ∷ range 4 0 2_147_483_652 ∷ []))) no_more))
     ∷ refuses (bytes "A matches {a matches {|>=5|, |<=5|}}") 9 29
     ∷ refuses (bytes "A matches {a matches {1, 2, 2, 1}}") 9 28
-    ∷ accepts (bytes "A matches {a matches {|100+/-5|, 106}}") (objectWith 1 (bytes "A") [] (attributeWith 2 2 (bytes "a") (leaf (ranges integers (range 3 2_147_483_743 2_147_483_753 ∷ range 4 2_147_483_754 2_147_483_754 ∷ []))) no_more))
+    ∷ accepts (bytes "A matches {a matches {|100+/-5|, 106}}") (object_with 1 (bytes "A") [] (attribute_with 2 2 (bytes "a") (leaf (ranges integers (range 3 2_147_483_743 2_147_483_753 ∷ range 4 2_147_483_754 2_147_483_754 ∷ []))) no_more))
     ∷ refuses (bytes "A matches {a matches {|100+/-5|, 105}}") 9 33
-    ∷ accepts (bytes "A matches {a matches {|0..<1000|, 1000}}") (objectWith 1 (bytes "A") [] (attributeWith 2 2 (bytes "a") (leaf (ranges integers (range 3 2_147_483_648 2_147_484_647 ∷ range 4 2_147_484_648 2_147_484_648 ∷ []))) no_more))
+    ∷ accepts (bytes "A matches {a matches {|0..<1000|, 1000}}") (object_with 1 (bytes "A") [] (attribute_with 2 2 (bytes "a") (leaf (ranges integers (range 3 2_147_483_648 2_147_484_647 ∷ range 4 2_147_484_648 2_147_484_648 ∷ []))) no_more))
     ∷ refuses (bytes "A matches {a matches {|0..<1000|, 999}}") 9 34
-    ∷ accepts (bytes "A matches {a matches {|<2004-01-01|, |>=2004-01-01|}}") (objectWith 1 (bytes "A") [] (attributeWith 2 2 (bytes "a") (leaf (ranges dates (range 3 101 20_031_231 ∷ range 4 20_040_101 99_991_231 ∷ []))) no_more))
+    ∷ accepts (bytes "A matches {a matches {|<2004-01-01|, |>=2004-01-01|}}") (object_with 1 (bytes "A") [] (attribute_with 2 2 (bytes "a") (leaf (ranges dates (range 3 101 20_031_231 ∷ range 4 20_040_101 99_991_231 ∷ []))) no_more))
     ∷ refuses (bytes "A matches {a matches {|<=2004-01-01|, |>=2004-01-01|}}") 9 38
-    ∷ accepts (bytes "A matches {a matches {|>2003-12-31|, |2003-12-31|}}") (objectWith 1 (bytes "A") [] (attributeWith 2 2 (bytes "a") (leaf (ranges dates (range 3 20_040_101 99_991_231 ∷ range 4 20_031_231 20_031_231 ∷ []))) no_more))
+    ∷ accepts (bytes "A matches {a matches {|>2003-12-31|, |2003-12-31|}}") (object_with 1 (bytes "A") [] (attribute_with 2 2 (bytes "a") (leaf (ranges dates (range 3 20_040_101 99_991_231 ∷ range 4 20_031_231 20_031_231 ∷ []))) no_more))
     ∷ refuses (bytes "A matches {a matches {|2004-01-01..2004-02-01|, |2004-02-02|, |2004-01-31|}}") 9 62
     -- an item with a fault of its own overlaps nothing
     ∷ refuses (bytes "A matches {a matches {5, |5..9}}") 2 30
@@ -218,10 +218,10 @@ cases =
     ∷ refuses (bytes "A matches {a matches {5, B matches {*}}}") 2 25
     ∷ refuses (bytes "A matches {a matches {*, 5}}") 2 23
     -- Booleans
-    ∷ accepts (bytes "A matches {a matches {True}}") (objectWith 1 (bytes "A") [] (attributeWith 2 2 (bytes "a") (leaf (single booleans 3 1)) no_more))
-    ∷ accepts (bytes "A matches {a matches {False}}") (objectWith 1 (bytes "A") [] (attributeWith 2 2 (bytes "a") (leaf (single booleans 3 2)) no_more))
-    ∷ accepts (bytes "A matches {a matches {True, False}}") (objectWith 1 (bytes "A") [] (attributeWith 2 2 (bytes "a") (leaf (single booleans 3 3)) no_more))
-    ∷ accepts (bytes "A matches {a matches {False, True}}") (objectWith 1 (bytes "A") [] (attributeWith 2 2 (bytes "a") (leaf (single booleans 3 3)) no_more))
+    ∷ accepts (bytes "A matches {a matches {True}}") (object_with 1 (bytes "A") [] (attribute_with 2 2 (bytes "a") (leaf (single booleans 3 1)) no_more))
+    ∷ accepts (bytes "A matches {a matches {False}}") (object_with 1 (bytes "A") [] (attribute_with 2 2 (bytes "a") (leaf (single booleans 3 2)) no_more))
+    ∷ accepts (bytes "A matches {a matches {True, False}}") (object_with 1 (bytes "A") [] (attribute_with 2 2 (bytes "a") (leaf (single booleans 3 3)) no_more))
+    ∷ accepts (bytes "A matches {a matches {False, True}}") (object_with 1 (bytes "A") [] (attribute_with 2 2 (bytes "a") (leaf (single booleans 3 3)) no_more))
     ∷ refuses (bytes "A matches {a matches {True, True}}") 9 28
     ∷ refuses (bytes "A matches {a matches {False, False}}") 9 29
     ∷ refuses (bytes "A matches {a matches {True, False, True}}") 2 33
@@ -231,23 +231,23 @@ cases =
     ∷ refuses (bytes "A matches {a matches {true}}") 2 22
     ∷ refuses (bytes "A matches {a matches {TRUE}}") 2 26
     -- patterns
-    ∷ accepts (bytes "A matches {a matches {yyyy-mm-dd}}") (objectWith 1 (bytes "A") [] (attributeWith 2 2 (bytes "a") (leaf (single datePattern 3 1)) no_more))
-    ∷ accepts (bytes "A matches {a matches {yyyy-mm-??}}") (objectWith 1 (bytes "A") [] (attributeWith 2 2 (bytes "a") (leaf (single datePattern 3 2)) no_more))
-    ∷ accepts (bytes "A matches {a matches {yyyy-??-??}}") (objectWith 1 (bytes "A") [] (attributeWith 2 2 (bytes "a") (leaf (single datePattern 3 3)) no_more))
-    ∷ accepts (bytes "A matches {a matches {yyyy-mm-XX}}") (objectWith 1 (bytes "A") [] (attributeWith 2 2 (bytes "a") (leaf (single datePattern 3 4)) no_more))
-    ∷ accepts (bytes "A matches {a matches {yyyy-??-XX}}") (objectWith 1 (bytes "A") [] (attributeWith 2 2 (bytes "a") (leaf (single datePattern 3 5)) no_more))
-    ∷ accepts (bytes "A matches {a matches {Thh:mm:ss}}") (objectWith 1 (bytes "A") [] (attributeWith 2 2 (bytes "a") (leaf (single timePattern 3 1)) no_more))
-    ∷ accepts (bytes "A matches {a matches {Thh:mm:XX}}") (objectWith 1 (bytes "A") [] (attributeWith 2 2 (bytes "a") (leaf (single timePattern 3 2)) no_more))
-    ∷ accepts (bytes "A matches {a matches {Thh:??:XX}}") (objectWith 1 (bytes "A") [] (attributeWith 2 2 (bytes "a") (leaf (single timePattern 3 3)) no_more))
-    ∷ accepts (bytes "A matches {a matches {Thh:??:??}}") (objectWith 1 (bytes "A") [] (attributeWith 2 2 (bytes "a") (leaf (single timePattern 3 4)) no_more))
-    ∷ accepts (bytes "A matches {a matches { yyyy-mm-dd--\n}}") (objectWith 1 (bytes "A") [] (attributeWith 2 2 (bytes "a") (leaf (single datePattern 3 1)) no_more))
+    ∷ accepts (bytes "A matches {a matches {yyyy-mm-dd}}") (object_with 1 (bytes "A") [] (attribute_with 2 2 (bytes "a") (leaf (single date_pattern 3 1)) no_more))
+    ∷ accepts (bytes "A matches {a matches {yyyy-mm-??}}") (object_with 1 (bytes "A") [] (attribute_with 2 2 (bytes "a") (leaf (single date_pattern 3 2)) no_more))
+    ∷ accepts (bytes "A matches {a matches {yyyy-??-??}}") (object_with 1 (bytes "A") [] (attribute_with 2 2 (bytes "a") (leaf (single date_pattern 3 3)) no_more))
+    ∷ accepts (bytes "A matches {a matches {yyyy-mm-XX}}") (object_with 1 (bytes "A") [] (attribute_with 2 2 (bytes "a") (leaf (single date_pattern 3 4)) no_more))
+    ∷ accepts (bytes "A matches {a matches {yyyy-??-XX}}") (object_with 1 (bytes "A") [] (attribute_with 2 2 (bytes "a") (leaf (single date_pattern 3 5)) no_more))
+    ∷ accepts (bytes "A matches {a matches {Thh:mm:ss}}") (object_with 1 (bytes "A") [] (attribute_with 2 2 (bytes "a") (leaf (single time_pattern 3 1)) no_more))
+    ∷ accepts (bytes "A matches {a matches {Thh:mm:XX}}") (object_with 1 (bytes "A") [] (attribute_with 2 2 (bytes "a") (leaf (single time_pattern 3 2)) no_more))
+    ∷ accepts (bytes "A matches {a matches {Thh:??:XX}}") (object_with 1 (bytes "A") [] (attribute_with 2 2 (bytes "a") (leaf (single time_pattern 3 3)) no_more))
+    ∷ accepts (bytes "A matches {a matches {Thh:??:??}}") (object_with 1 (bytes "A") [] (attribute_with 2 2 (bytes "a") (leaf (single time_pattern 3 4)) no_more))
+    ∷ accepts (bytes "A matches {a matches { yyyy-mm-dd--\n}}") (object_with 1 (bytes "A") [] (attribute_with 2 2 (bytes "a") (leaf (single date_pattern 3 1)) no_more))
     -- duration patterns
-    ∷ accepts (bytes "A matches {a matches {Pd}}") (objectWith 1 (bytes "A") [] (attributeWith 2 2 (bytes "a") (leaf (single durationPattern 3 8)) no_more))
-    ∷ accepts (bytes "A matches {a matches {Pwd}}") (objectWith 1 (bytes "A") [] (attributeWith 2 2 (bytes "a") (leaf (single durationPattern 3 12)) no_more))
-    ∷ accepts (bytes "A matches {a matches {PTm}}") (objectWith 1 (bytes "A") [] (attributeWith 2 2 (bytes "a") (leaf (single durationPattern 3 32)) no_more))
-    ∷ accepts (bytes "A matches {a matches {PmTm}}") (objectWith 1 (bytes "A") [] (attributeWith 2 2 (bytes "a") (leaf (single durationPattern 3 34)) no_more))
-    ∷ accepts (bytes "A matches {a matches {PymwdThms}}") (objectWith 1 (bytes "A") [] (attributeWith 2 2 (bytes "a") (leaf (single durationPattern 3 127)) no_more))
-    ∷ accepts (bytes "A matches {a matches {Pd --c\n}}") (objectWith 1 (bytes "A") [] (attributeWith 2 2 (bytes "a") (leaf (single durationPattern 3 8)) no_more))
+    ∷ accepts (bytes "A matches {a matches {Pd}}") (object_with 1 (bytes "A") [] (attribute_with 2 2 (bytes "a") (leaf (single duration_pattern 3 8)) no_more))
+    ∷ accepts (bytes "A matches {a matches {Pwd}}") (object_with 1 (bytes "A") [] (attribute_with 2 2 (bytes "a") (leaf (single duration_pattern 3 12)) no_more))
+    ∷ accepts (bytes "A matches {a matches {PTm}}") (object_with 1 (bytes "A") [] (attribute_with 2 2 (bytes "a") (leaf (single duration_pattern 3 32)) no_more))
+    ∷ accepts (bytes "A matches {a matches {PmTm}}") (object_with 1 (bytes "A") [] (attribute_with 2 2 (bytes "a") (leaf (single duration_pattern 3 34)) no_more))
+    ∷ accepts (bytes "A matches {a matches {PymwdThms}}") (object_with 1 (bytes "A") [] (attribute_with 2 2 (bytes "a") (leaf (single duration_pattern 3 127)) no_more))
+    ∷ accepts (bytes "A matches {a matches {Pd --c\n}}") (object_with 1 (bytes "A") [] (attribute_with 2 2 (bytes "a") (leaf (single duration_pattern 3 8)) no_more))
     -- what is no duration pattern, or isn't followed by `}`
     ∷ refuses (bytes "A matches {a matches {P}}") 2 23
     ∷ refuses (bytes "A matches {a matches {PT}}") 2 24
@@ -264,8 +264,8 @@ cases =
     ∷ refuses (bytes "A matches {a matches {Pd Pd}}") 2 25
     ∷ refuses (bytes "A matches {a matches {Pd[at1]}}") 2 29
     ∷ refuses (bytes "A matches {a matches {Pd]}}") 2 24
-    ∷ accepts (bytes "A matches {a matches {Pd matches {*}}}") (objectWith 1 (bytes "A") [] (attributeWith 2 2 (bytes "a") (nested (objectWith 3 (bytes "Pd") [] no_more)) no_more))
-    ∷ accepts (bytes "A matches {a matches {Pd[at1] matches {*}}}") (objectWith 1 (bytes "A") [] (attributeWith 2 2 (bytes "a") (nested (objectWith 3 (bytes "Pd") (bytes "at1") no_more)) no_more))
+    ∷ accepts (bytes "A matches {a matches {Pd matches {*}}}") (object_with 1 (bytes "A") [] (attribute_with 2 2 (bytes "a") (nested (object_with 3 (bytes "Pd") [] no_more)) no_more))
+    ∷ accepts (bytes "A matches {a matches {Pd[at1] matches {*}}}") (object_with 1 (bytes "A") [] (attribute_with 2 2 (bytes "a") (nested (object_with 3 (bytes "Pd") (bytes "at1") no_more)) no_more))
     ∷ refuses (bytes "A matches {a matches {|P1d..P2d|}}") 2 23
     -- what is no pattern, or more than one
     ∷ refuses (bytes "A matches {a matches {yyyy-mm-d}}") 2 22
@@ -278,14 +278,14 @@ cases =
     ∷ refuses (bytes "A matches {a matches {Thh:mm:??}}") 2 25
     ∷ refuses (bytes "A matches {a matches {Thh:mm:ssx}}") 2 31
     ∷ refuses (bytes "A matches {a matches {yyyy-mm-dd, yyyy-mm-??}}") 2 32
-    ∷ accepts (bytes "A matches {a matches {\"yyyy-mm-dd\"}}") (objectWith 1 (bytes "A") [] (attributeWith 2 2 (bytes "a") (leaf (texts (item 3 (bytes "yyyy-mm-dd") ∷ []))) no_more))
+    ∷ accepts (bytes "A matches {a matches {\"yyyy-mm-dd\"}}") (object_with 1 (bytes "A") [] (attribute_with 2 2 (bytes "a") (leaf (texts (item 3 (bytes "yyyy-mm-dd") ∷ []))) no_more))
     -- strings
-    ∷ accepts (bytes "A matches {a matches {\"\"}}") (objectWith 1 (bytes "A") [] (attributeWith 2 2 (bytes "a") (leaf (texts (item 3 [] ∷ []))) no_more))
-    ∷ accepts (bytes "A matches {a matches {\" ~'{}|,*--\"}}") (objectWith 1 (bytes "A") [] (attributeWith 2 2 (bytes "a") (leaf (texts (item 3 (bytes " ~'{}|,*--") ∷ []))) no_more))
-    ∷ accepts (bytes "A matches {a matches {\"a\", \"b\"}}") (objectWith 1 (bytes "A") [] (attributeWith 2 2 (bytes "a") (leaf (texts (item 3 (bytes "a") ∷ item 4 (bytes "b") ∷ []))) no_more))
-    ∷ accepts (bytes "A matches {a matches {\"a\",\"ab\"}}") (objectWith 1 (bytes "A") [] (attributeWith 2 2 (bytes "a") (leaf (texts (item 3 (bytes "a") ∷ item 4 (bytes "ab") ∷ []))) no_more))
-    ∷ accepts (bytes "A matches {a matches {\"ab\",\"a\"}}") (objectWith 1 (bytes "A") [] (attributeWith 2 2 (bytes "a") (leaf (texts (item 3 (bytes "ab") ∷ item 4 (bytes "a") ∷ []))) no_more))
-    ∷ accepts (bytes "A matches {a matches {\"a\", \"A\"}}") (objectWith 1 (bytes "A") [] (attributeWith 2 2 (bytes "a") (leaf (texts (item 3 (bytes "a") ∷ item 4 (bytes "A") ∷ []))) no_more))
+    ∷ accepts (bytes "A matches {a matches {\"\"}}") (object_with 1 (bytes "A") [] (attribute_with 2 2 (bytes "a") (leaf (texts (item 3 [] ∷ []))) no_more))
+    ∷ accepts (bytes "A matches {a matches {\" ~'{}|,*--\"}}") (object_with 1 (bytes "A") [] (attribute_with 2 2 (bytes "a") (leaf (texts (item 3 (bytes " ~'{}|,*--") ∷ []))) no_more))
+    ∷ accepts (bytes "A matches {a matches {\"a\", \"b\"}}") (object_with 1 (bytes "A") [] (attribute_with 2 2 (bytes "a") (leaf (texts (item 3 (bytes "a") ∷ item 4 (bytes "b") ∷ []))) no_more))
+    ∷ accepts (bytes "A matches {a matches {\"a\",\"ab\"}}") (object_with 1 (bytes "A") [] (attribute_with 2 2 (bytes "a") (leaf (texts (item 3 (bytes "a") ∷ item 4 (bytes "ab") ∷ []))) no_more))
+    ∷ accepts (bytes "A matches {a matches {\"ab\",\"a\"}}") (object_with 1 (bytes "A") [] (attribute_with 2 2 (bytes "a") (leaf (texts (item 3 (bytes "ab") ∷ item 4 (bytes "a") ∷ []))) no_more))
+    ∷ accepts (bytes "A matches {a matches {\"a\", \"A\"}}") (object_with 1 (bytes "A") [] (attribute_with 2 2 (bytes "a") (leaf (texts (item 3 (bytes "a") ∷ item 4 (bytes "A") ∷ []))) no_more))
     ∷ refuses (bytes "A matches {a matches {\"a\", \"a\"}}") 9 27
     ∷ refuses (bytes "A matches {a matches {\"\", \"\"}}") 9 26
     ∷ refuses (bytes "A matches {a matches {\"a\", \"b\", \"b\", \"a\"}}") 9 32
@@ -298,7 +298,7 @@ cases =
     ∷ refuses (bytes "A matches {a matches {\"â\u{88}\u{88}\"}}") 2 22
     ∷ refuses (bytes "A matches {a matches {\"a\", \"a}}") 2 27
     -- 16 items and the 17th
-    ∷ accepts (bytes "A matches {a matches {1,2,3,4,5,6,7,8,9,10,11,12,13,14,15,16}}") (objectWith 1 (bytes "A") [] (attributeWith 2 2 (bytes "a") (leaf (ranges integers (range 3 2_147_483_649 2_147_483_649 ∷ range 4 2_147_483_650 2_147_483_650 ∷ range 5 2_147_483_651 2_147_483_651 ∷ range 6 2_147_483_652 2_147_483_652 ∷ range 7 2_147_483_653 2_147_483_653 ∷ range 8 2_147_483_654 2_147_483_654 ∷ range 9 2_147_483_655 2_147_483_655 ∷ range 10 2_147_483_656 2_147_483_656 ∷ range 11 2_147_483_657 2_147_483_657 ∷ range 12 2_147_483_658 2_147_483_658 ∷ range 13 2_147_483_659 2_147_483_659 ∷ range 14 2_147_483_660 2_147_483_660 ∷ range 15 2_147_483_661 2_147_483_661 ∷ range 16 2_147_483_662 2_147_483_662 ∷ range 17 2_147_483_663 2_147_483_663 ∷ range 18 2_147_483_664 2_147_483_664 ∷ []))) no_more))
+    ∷ accepts (bytes "A matches {a matches {1,2,3,4,5,6,7,8,9,10,11,12,13,14,15,16}}") (object_with 1 (bytes "A") [] (attribute_with 2 2 (bytes "a") (leaf (ranges integers (range 3 2_147_483_649 2_147_483_649 ∷ range 4 2_147_483_650 2_147_483_650 ∷ range 5 2_147_483_651 2_147_483_651 ∷ range 6 2_147_483_652 2_147_483_652 ∷ range 7 2_147_483_653 2_147_483_653 ∷ range 8 2_147_483_654 2_147_483_654 ∷ range 9 2_147_483_655 2_147_483_655 ∷ range 10 2_147_483_656 2_147_483_656 ∷ range 11 2_147_483_657 2_147_483_657 ∷ range 12 2_147_483_658 2_147_483_658 ∷ range 13 2_147_483_659 2_147_483_659 ∷ range 14 2_147_483_660 2_147_483_660 ∷ range 15 2_147_483_661 2_147_483_661 ∷ range 16 2_147_483_662 2_147_483_662 ∷ range 17 2_147_483_663 2_147_483_663 ∷ range 18 2_147_483_664 2_147_483_664 ∷ []))) no_more))
     ∷ refuses (bytes "A matches {a matches {1,2,3,4,5,6,7,8,9,10,11,12,13,14,15,16,17}}") 7 61
     ∷ refuses (bytes "A matches {a matches {1,2,3,4,5,6,7,8,9,10,11,12,13,14,15,16,|17..18|}}") 7 61
     ∷ refuses (bytes "A matches {a matches {1,2,3,4,5,6,7,8,9,10,11,12,13,14,15,16,007}}") 5 61
@@ -311,5 +311,5 @@ cases =
     ∷ []
 
 pub none-wrong : wrong right 0 cases ≡ []
-unfolding wrong right cases objectList constraintComputes
+unfolding wrong right cases object_list constraint_computes
 none-wrong = refl

@@ -5,87 +5,87 @@ use mathlib.Core.List.{List, [], ◌∷◌}
 use lib.ListN.{replicate}
 use Rattle.lexis.specs.Text.{bytes}
 use Rattle.lexis.proofs.Tables.{wrong}
-use Rattle.meaning.specs.Constraints.{no_more, any, nested, leaf, single, ranges, texts, booleans, integers, datePattern, dates, timePattern, durationPattern}
-use Rattle.meaning.proofs.Trees.{range, item, objectWith, attributeWith, objectList}
-use Rattle.cadl_objects.proofs.Computes.{constraintComputes}
-use Rattle.cadl_objects.proofs.Examples.{Case, accepts, refuses, acceptsFrom, refusesFrom, right}
+use Rattle.meaning.specs.Constraints.{no_more, any, nested, leaf, single, ranges, texts, booleans, integers, date_pattern, dates, time_pattern, duration_pattern}
+use Rattle.meaning.proofs.Trees.{range, item, object_with, attribute_with, object_list}
+use Rattle.cadl_objects.proofs.Computes.{constraint_computes}
+use Rattle.cadl_objects.proofs.Examples.{Case, accepts, refuses, accepts_from, refuses_from, right}
 
 pub cases : List Case
 cases =
     -- texts as the generator gives them, not too many with the same answer
-    accepts (bytes "A matches { a matches { A matches { a matches { Pm } } } }") (objectWith 1 (bytes "A") [] (attributeWith 2 2 (bytes "a") (nested (objectWith 3 (bytes "A") [] (attributeWith 4 2 (bytes "a") (leaf (single durationPattern 5 2)) no_more))) no_more))
-    ∷ accepts (bytes "Thh\nmatches{existence1\nexistence matches{0..0}matches{Thh:mm:ss}abc\rexistence\nmatches{0..1}matches{PT\nmatches{*}}}") (objectWith 1 (bytes "Thh") [] (attributeWith 2 0 (bytes "existence1") (leaf (single timePattern 3 1)) (attributeWith 4 1 (bytes "abc") (nested (objectWith 5 (bytes "PT") [] no_more)) no_more)))
-    ∷ accepts (bytes "Pd â\u{88}\u{88} { a1 matches { | < 4945-11-13 | } }") (objectWith 1 (bytes "Pd") [] (attributeWith 2 2 (bytes "a1") (leaf (ranges dates (range 3 101 49_451_112 ∷ []))) no_more))
-    ∷ accepts (bytes "TRUE\tmatches{yyyy existence matches{0..1}matches{*}existence1 existence matches{1}â\u{88}\u{88}{PD\nmatches{*}}}") (objectWith 1 (bytes "TRUE") [] (attributeWith 2 1 (bytes "yyyy") any (attributeWith 3 2 (bytes "existence1") (nested (objectWith 4 (bytes "PD") [] no_more)) no_more)))
+    accepts (bytes "A matches { a matches { A matches { a matches { Pm } } } }") (object_with 1 (bytes "A") [] (attribute_with 2 2 (bytes "a") (nested (object_with 3 (bytes "A") [] (attribute_with 4 2 (bytes "a") (leaf (single duration_pattern 5 2)) no_more))) no_more))
+    ∷ accepts (bytes "Thh\nmatches{existence1\nexistence matches{0..0}matches{Thh:mm:ss}abc\rexistence\nmatches{0..1}matches{PT\nmatches{*}}}") (object_with 1 (bytes "Thh") [] (attribute_with 2 0 (bytes "existence1") (leaf (single time_pattern 3 1)) (attribute_with 4 1 (bytes "abc") (nested (object_with 5 (bytes "PT") [] no_more)) no_more)))
+    ∷ accepts (bytes "Pd â\u{88}\u{88} { a1 matches { | < 4945-11-13 | } }") (object_with 1 (bytes "Pd") [] (attribute_with 2 2 (bytes "a1") (leaf (ranges dates (range 3 101 49_451_112 ∷ []))) no_more))
+    ∷ accepts (bytes "TRUE\tmatches{yyyy existence matches{0..1}matches{*}existence1 existence matches{1}â\u{88}\u{88}{PD\nmatches{*}}}") (object_with 1 (bytes "TRUE") [] (attribute_with 2 1 (bytes "yyyy") any (attribute_with 3 2 (bytes "existence1") (nested (object_with 4 (bytes "PD") [] no_more)) no_more)))
     ∷ refuses (bytes "A--\nmatches\r{\t\ta\r\nmatches---a>\r{\n\r A\tmatches\t\n{a\nmatches{--\nA \n\tmatches{a\tmatches\t\t{ \rPdT\tmatches--Âß\"\n{ \r*} ") 2 109
-    ∷ accepts (bytes "Tru matches{matche\nexistence\rmatches{0..1}matches{PwTh}valueâ\u{88}\u{88}{|>8143-11-07..8143-11-17|,|>=8143-11-19|}}") (objectWith 1 (bytes "Tru") [] (attributeWith 2 1 (bytes "matche") (leaf (single durationPattern 3 20)) (attributeWith 4 2 (bytes "value") (leaf (ranges dates (range 5 81_431_108 81_431_117 ∷ range 6 81_431_119 99_991_231 ∷ []))) no_more)))
-    ∷ accepts (bytes "ELEMENT matches{a\rexistence\tmatches{0..0}matches{yyyy-??-??}}") (objectWith 1 (bytes "ELEMENT") [] (attributeWith 2 0 (bytes "a") (leaf (single datePattern 3 3)) no_more))
-    ∷ accepts (bytes "PymwdThmsâ\u{88}\u{88}{matche existence\rmatches{1}matches{|>1998-12-30..1998-12-31|}}") (objectWith 1 (bytes "PymwdThms") [] (attributeWith 2 2 (bytes "matche") (leaf (ranges dates (range 3 19_981_231 19_981_231 ∷ []))) no_more))
-    ∷ accepts (bytes "FALSE matches{*\n} \n") (objectWith 1 (bytes "FALSE") [] no_more)
+    ∷ accepts (bytes "Tru matches{matche\nexistence\rmatches{0..1}matches{PwTh}valueâ\u{88}\u{88}{|>8143-11-07..8143-11-17|,|>=8143-11-19|}}") (object_with 1 (bytes "Tru") [] (attribute_with 2 1 (bytes "matche") (leaf (single duration_pattern 3 20)) (attribute_with 4 2 (bytes "value") (leaf (ranges dates (range 5 81_431_108 81_431_117 ∷ range 6 81_431_119 99_991_231 ∷ []))) no_more)))
+    ∷ accepts (bytes "ELEMENT matches{a\rexistence\tmatches{0..0}matches{yyyy-??-??}}") (object_with 1 (bytes "ELEMENT") [] (attribute_with 2 0 (bytes "a") (leaf (single date_pattern 3 3)) no_more))
+    ∷ accepts (bytes "PymwdThmsâ\u{88}\u{88}{matche existence\rmatches{1}matches{|>1998-12-30..1998-12-31|}}") (object_with 1 (bytes "PymwdThms") [] (attribute_with 2 2 (bytes "matche") (leaf (ranges dates (range 3 19_981_231 19_981_231 ∷ []))) no_more))
+    ∷ accepts (bytes "FALSE matches{*\n} \n") (object_with 1 (bytes "FALSE") [] no_more)
     ∷ refuses (bytes "XXâ\u{88}\u{88}{}") 2 6
-    ∷ accepts (bytes "PymwdThms [at0000.0.0.12] matches { x9Z_ matches { A1 â\u{88}\u{88} { c â\u{88}\u{88} { \"a\" } } } }") (objectWith 1 (bytes "PymwdThms") (bytes "at0000.0.0.12") (attributeWith 2 2 (bytes "x9Z_") (nested (objectWith 3 (bytes "A1") [] (attributeWith 4 2 (bytes "c") (leaf (texts (item 5 (bytes "a") ∷ []))) no_more))) no_more))
+    ∷ accepts (bytes "PymwdThms [at0000.0.0.12] matches { x9Z_ matches { A1 â\u{88}\u{88} { c â\u{88}\u{88} { \"a\" } } } }") (object_with 1 (bytes "PymwdThms") (bytes "at0000.0.0.12") (attribute_with 2 2 (bytes "x9Z_") (nested (object_with 3 (bytes "A1") [] (attribute_with 4 2 (bytes "c") (leaf (texts (item 5 (bytes "a") ∷ []))) no_more))) no_more))
     ∷ refuses (bytes "Thh\rmatches{x9Z_â\u{88}\u{88}{Pmwd}at0001\nexistenc") 2 32
-    ∷ accepts (bytes "-- ³a1}\nFalsey\nmatches{*\r }") (objectWith 1 (bytes "Falsey") [] no_more)
+    ∷ accepts (bytes "-- ³a1}\nFalsey\nmatches{*\r }") (object_with 1 (bytes "Falsey") [] no_more)
     ∷ refuses (bytes "]+\u{88}\u{1f}a{|,\"âZw?m\u{80}*0_Ptdÿ_z|};(>|(,)|(\\\\1") 2 0
-    ∷ accepts (bytes "PTm\rmatches{mm\rexistence matches{0..1}â\u{88}\u{88}{0,|2..32|}at0001â\u{88}\u{88}{False}b matches{yyyy-mm-XX}}") (objectWith 1 (bytes "PTm") [] (attributeWith 2 1 (bytes "mm") (leaf (ranges integers (range 3 2_147_483_648 2_147_483_648 ∷ range 4 2_147_483_650 2_147_483_680 ∷ []))) (attributeWith 5 2 (bytes "at0001") (leaf (single booleans 6 2)) (attributeWith 7 2 (bytes "b") (leaf (single datePattern 8 4)) no_more))))
-    ∷ accepts (bytes "PymwdThms [at0000.0.0.12] matches { * }") (objectWith 1 (bytes "PymwdThms") (bytes "at0000.0.0.12") no_more)
-    ∷ accepts (bytes "AB â\u{88}\u{88} { c matches { Thh:mm:XX } true â\u{88}\u{88} { True , False } }") (objectWith 1 (bytes "AB") [] (attributeWith 2 2 (bytes "c") (leaf (single timePattern 3 2)) (attributeWith 4 2 (bytes "true") (leaf (single booleans 5 3)) no_more)))
-    ∷ accepts (bytes "\tPwd\r\râ\u{88}\u{88}  {\r*}") (objectWith 1 (bytes "Pwd") [] no_more)
-    ∷ accepts (bytes "Falsey â\u{88}\u{88} { mm existence matches { 1 .. 1 } matches { \" \" , \"a b\" , \"a\" } x9Z_ matches { \"A\" , \"a\" , \"~!#'()[]<>\" } }") (objectWith 1 (bytes "Falsey") [] (attributeWith 2 2 (bytes "mm") (leaf (texts (item 3 (bytes " ") ∷ item 4 (bytes "a b") ∷ item 5 (bytes "a") ∷ []))) (attributeWith 6 2 (bytes "x9Z_") (leaf (texts (item 7 (bytes "A") ∷ item 8 (bytes "a") ∷ item 9 (bytes "~!#'()[]<>") ∷ []))) no_more)))
-    ∷ accepts (bytes "A1[at0000]matches{at0001\texistence\nmatches{0..1}matches{\"\",\"a\",\"abc\"}}") (objectWith 1 (bytes "A1") (bytes "at0000") (attributeWith 2 1 (bytes "at0001") (leaf (texts (item 3 [] ∷ item 4 (bytes "a") ∷ item 5 (bytes "abc") ∷ []))) no_more))
-    ∷ accepts (bytes "PDâ\u{88}\u{88}{yyyy\rmatches{\"{|},*\",\"a\"}abc\rmatches{B[at00000000]â\u{88}\u{88}{*}}}") (objectWith 1 (bytes "PD") [] (attributeWith 2 2 (bytes "yyyy") (leaf (texts (item 3 (bytes "{|},*") ∷ item 4 (bytes "a") ∷ []))) (attributeWith 5 2 (bytes "abc") (nested (objectWith 6 (bytes "B") (bytes "at00000000") no_more)) no_more)))
-    ∷ accepts (bytes "X[at00000000]matches{at0001\texistence matches{1..1}matches{yyyy-mm-dd}mm\rexistenceâ\u{88}\u{88}{0}matches{PTs}abc\tmatches{*}}") (objectWith 1 (bytes "X") (bytes "at00000000") (attributeWith 2 2 (bytes "at0001") (leaf (single datePattern 3 1)) (attributeWith 4 0 (bytes "mm") (leaf (single durationPattern 5 64)) (attributeWith 6 2 (bytes "abc") any no_more))))
-    ∷ accepts (bytes "Thh[at0000.0.0.12]\t\r matches{*}") (objectWith 1 (bytes "Thh") (bytes "at0000.0.0.12") no_more)
-    ∷ accepts (bytes "--ñ\u{15}\rAB \n [at0.0.1]â\u{88}\u{88}{   at0001--ø1Ö{}#1\nexistence\t\r\nmatches\n\r {1--|\r..1}matches {-->»\n*}--\\£4¾\n}\t\n") (objectWith 1 (bytes "AB") (bytes "at0.0.1") (attributeWith 2 2 (bytes "at0001") any no_more))
-    ∷ accepts (bytes "B matches { yyyy existence matches { 0 .. 0 } matches { | 12 .. < 100013 | , | > -4 .. < 7 | , | 7 .. < 11 | } }") (objectWith 1 (bytes "B") [] (attributeWith 2 0 (bytes "yyyy") (leaf (ranges integers (range 3 2_147_483_660 2_147_583_660 ∷ range 4 2_147_483_645 2_147_483_654 ∷ range 5 2_147_483_655 2_147_483_658 ∷ []))) no_more))
-    ∷ accepts (bytes "\n\t\tPâ\u{88}\u{88}{ *\n \r}") (objectWith 1 (bytes "P") [] no_more)
-    ∷ accepts (bytes "P matches { * }") (objectWith 1 (bytes "P") [] no_more)
-    ∷ accepts (bytes "A matches{\t\ta matches{Py--\r}}") (objectWith 1 (bytes "A") [] (attributeWith 2 2 (bytes "a") (leaf (single durationPattern 3 1)) no_more))
-    ∷ accepts (bytes "ELEMENTâ\u{88}\u{88}{a1\texistence\nmatches{0..0}â\u{88}\u{88}{|<=9999-12-31|}existenc existenceâ\u{88}\u{88}{1..1}matches{|-3..<28|,29,|61..<63|}}") (objectWith 1 (bytes "ELEMENT") [] (attributeWith 2 0 (bytes "a1") (leaf (ranges dates (range 3 101 99_991_231 ∷ []))) (attributeWith 4 2 (bytes "existenc") (leaf (ranges integers (range 5 2_147_483_645 2_147_483_675 ∷ range 6 2_147_483_677 2_147_483_677 ∷ range 7 2_147_483_709 2_147_483_710 ∷ []))) no_more)))
+    ∷ accepts (bytes "PTm\rmatches{mm\rexistence matches{0..1}â\u{88}\u{88}{0,|2..32|}at0001â\u{88}\u{88}{False}b matches{yyyy-mm-XX}}") (object_with 1 (bytes "PTm") [] (attribute_with 2 1 (bytes "mm") (leaf (ranges integers (range 3 2_147_483_648 2_147_483_648 ∷ range 4 2_147_483_650 2_147_483_680 ∷ []))) (attribute_with 5 2 (bytes "at0001") (leaf (single booleans 6 2)) (attribute_with 7 2 (bytes "b") (leaf (single date_pattern 8 4)) no_more))))
+    ∷ accepts (bytes "PymwdThms [at0000.0.0.12] matches { * }") (object_with 1 (bytes "PymwdThms") (bytes "at0000.0.0.12") no_more)
+    ∷ accepts (bytes "AB â\u{88}\u{88} { c matches { Thh:mm:XX } true â\u{88}\u{88} { True , False } }") (object_with 1 (bytes "AB") [] (attribute_with 2 2 (bytes "c") (leaf (single time_pattern 3 2)) (attribute_with 4 2 (bytes "true") (leaf (single booleans 5 3)) no_more)))
+    ∷ accepts (bytes "\tPwd\r\râ\u{88}\u{88}  {\r*}") (object_with 1 (bytes "Pwd") [] no_more)
+    ∷ accepts (bytes "Falsey â\u{88}\u{88} { mm existence matches { 1 .. 1 } matches { \" \" , \"a b\" , \"a\" } x9Z_ matches { \"A\" , \"a\" , \"~!#'()[]<>\" } }") (object_with 1 (bytes "Falsey") [] (attribute_with 2 2 (bytes "mm") (leaf (texts (item 3 (bytes " ") ∷ item 4 (bytes "a b") ∷ item 5 (bytes "a") ∷ []))) (attribute_with 6 2 (bytes "x9Z_") (leaf (texts (item 7 (bytes "A") ∷ item 8 (bytes "a") ∷ item 9 (bytes "~!#'()[]<>") ∷ []))) no_more)))
+    ∷ accepts (bytes "A1[at0000]matches{at0001\texistence\nmatches{0..1}matches{\"\",\"a\",\"abc\"}}") (object_with 1 (bytes "A1") (bytes "at0000") (attribute_with 2 1 (bytes "at0001") (leaf (texts (item 3 [] ∷ item 4 (bytes "a") ∷ item 5 (bytes "abc") ∷ []))) no_more))
+    ∷ accepts (bytes "PDâ\u{88}\u{88}{yyyy\rmatches{\"{|},*\",\"a\"}abc\rmatches{B[at00000000]â\u{88}\u{88}{*}}}") (object_with 1 (bytes "PD") [] (attribute_with 2 2 (bytes "yyyy") (leaf (texts (item 3 (bytes "{|},*") ∷ item 4 (bytes "a") ∷ []))) (attribute_with 5 2 (bytes "abc") (nested (object_with 6 (bytes "B") (bytes "at00000000") no_more)) no_more)))
+    ∷ accepts (bytes "X[at00000000]matches{at0001\texistence matches{1..1}matches{yyyy-mm-dd}mm\rexistenceâ\u{88}\u{88}{0}matches{PTs}abc\tmatches{*}}") (object_with 1 (bytes "X") (bytes "at00000000") (attribute_with 2 2 (bytes "at0001") (leaf (single date_pattern 3 1)) (attribute_with 4 0 (bytes "mm") (leaf (single duration_pattern 5 64)) (attribute_with 6 2 (bytes "abc") any no_more))))
+    ∷ accepts (bytes "Thh[at0000.0.0.12]\t\r matches{*}") (object_with 1 (bytes "Thh") (bytes "at0000.0.0.12") no_more)
+    ∷ accepts (bytes "--ñ\u{15}\rAB \n [at0.0.1]â\u{88}\u{88}{   at0001--ø1Ö{}#1\nexistence\t\r\nmatches\n\r {1--|\r..1}matches {-->»\n*}--\\£4¾\n}\t\n") (object_with 1 (bytes "AB") (bytes "at0.0.1") (attribute_with 2 2 (bytes "at0001") any no_more))
+    ∷ accepts (bytes "B matches { yyyy existence matches { 0 .. 0 } matches { | 12 .. < 100013 | , | > -4 .. < 7 | , | 7 .. < 11 | } }") (object_with 1 (bytes "B") [] (attribute_with 2 0 (bytes "yyyy") (leaf (ranges integers (range 3 2_147_483_660 2_147_583_660 ∷ range 4 2_147_483_645 2_147_483_654 ∷ range 5 2_147_483_655 2_147_483_658 ∷ []))) no_more))
+    ∷ accepts (bytes "\n\t\tPâ\u{88}\u{88}{ *\n \r}") (object_with 1 (bytes "P") [] no_more)
+    ∷ accepts (bytes "P matches { * }") (object_with 1 (bytes "P") [] no_more)
+    ∷ accepts (bytes "A matches{\t\ta matches{Py--\r}}") (object_with 1 (bytes "A") [] (attribute_with 2 2 (bytes "a") (leaf (single duration_pattern 3 1)) no_more))
+    ∷ accepts (bytes "ELEMENTâ\u{88}\u{88}{a1\texistence\nmatches{0..0}â\u{88}\u{88}{|<=9999-12-31|}existenc existenceâ\u{88}\u{88}{1..1}matches{|-3..<28|,29,|61..<63|}}") (object_with 1 (bytes "ELEMENT") [] (attribute_with 2 0 (bytes "a1") (leaf (ranges dates (range 3 101 99_991_231 ∷ []))) (attribute_with 4 2 (bytes "existenc") (leaf (ranges integers (range 5 2_147_483_645 2_147_483_675 ∷ range 6 2_147_483_677 2_147_483_677 ∷ range 7 2_147_483_709 2_147_483_710 ∷ []))) no_more)))
     ∷ refuses (bytes "A matches { true existence matches { 1 .. 1 } matches { PyTm } matche existence matches { 0 .. 0 } â\u{88}\u{88} { yyyy-") 2 105
     ∷ refuses (bytes "A\tmatches{a existence\rmatches{1..1}matches{|1999-02-23..1999-02-22|,|1999-02-22|,|1999-02-23..<1999-02-26|}}") 6 66
-    ∷ accepts (bytes "ELEMENT\rmatches{aa\nmatches{PThm}}") (objectWith 1 (bytes "ELEMENT") [] (attributeWith 2 2 (bytes "aa") (leaf (single durationPattern 3 48)) no_more))
-    ∷ accepts (bytes "FALSE matches{mmâ\u{88}\u{88}{|50005+/-50000|}aaâ\u{88}\u{88}{TRUE\nmatches{*}}}") (objectWith 1 (bytes "FALSE") [] (attributeWith 2 2 (bytes "mm") (leaf (ranges integers (range 3 2_147_483_653 2_147_583_653 ∷ []))) (attributeWith 4 2 (bytes "aa") (nested (objectWith 5 (bytes "TRUE") [] no_more)) no_more)))
-    ∷ accepts (bytes "Pwd[at0.0.1]â\u{88}\u{88}{value\rexistence\tmatches{0..1}matches{Thh:??:XX}}") (objectWith 1 (bytes "Pwd") (bytes "at0.0.1") (attributeWith 2 1 (bytes "value") (leaf (single timePattern 3 3)) no_more))
-    ∷ accepts (bytes "A â\u{88}\u{88} { yyyy existence â\u{88}\u{88} { 0 } â\u{88}\u{88} { Thh:??:?? } true existence â\u{88}\u{88} { 1 .. 1 } matches { PmwThs } }") (objectWith 1 (bytes "A") [] (attributeWith 2 0 (bytes "yyyy") (leaf (single timePattern 3 4)) (attributeWith 4 2 (bytes "true") (leaf (single durationPattern 5 86)) no_more)))
-    ∷ accepts (bytes "FALSE[at00000000]â\u{88}\u{88}--.'m)*\u{4}\r{--V(\0 1\n*} --\u{12}") (objectWith 1 (bytes "FALSE") (bytes "at00000000") no_more)
+    ∷ accepts (bytes "ELEMENT\rmatches{aa\nmatches{PThm}}") (object_with 1 (bytes "ELEMENT") [] (attribute_with 2 2 (bytes "aa") (leaf (single duration_pattern 3 48)) no_more))
+    ∷ accepts (bytes "FALSE matches{mmâ\u{88}\u{88}{|50005+/-50000|}aaâ\u{88}\u{88}{TRUE\nmatches{*}}}") (object_with 1 (bytes "FALSE") [] (attribute_with 2 2 (bytes "mm") (leaf (ranges integers (range 3 2_147_483_653 2_147_583_653 ∷ []))) (attribute_with 4 2 (bytes "aa") (nested (object_with 5 (bytes "TRUE") [] no_more)) no_more)))
+    ∷ accepts (bytes "Pwd[at0.0.1]â\u{88}\u{88}{value\rexistence\tmatches{0..1}matches{Thh:??:XX}}") (object_with 1 (bytes "Pwd") (bytes "at0.0.1") (attribute_with 2 1 (bytes "value") (leaf (single time_pattern 3 3)) no_more))
+    ∷ accepts (bytes "A â\u{88}\u{88} { yyyy existence â\u{88}\u{88} { 0 } â\u{88}\u{88} { Thh:??:?? } true existence â\u{88}\u{88} { 1 .. 1 } matches { PmwThs } }") (object_with 1 (bytes "A") [] (attribute_with 2 0 (bytes "yyyy") (leaf (single time_pattern 3 4)) (attribute_with 4 2 (bytes "true") (leaf (single duration_pattern 5 86)) no_more)))
+    ∷ accepts (bytes "FALSE[at00000000]â\u{88}\u{88}--.'m)*\u{4}\r{--V(\0 1\n*} --\u{12}") (object_with 1 (bytes "FALSE") (bytes "at00000000") no_more)
     ∷ refuses (bytes "Pdâ\u{88}\u{88}Thh:XX:XX{matche\tmatches{0..1}â\u{88}\u{88}{yyyy-??-XX}}") 2 5
     ∷ refuses (bytes "Taaaaaaaaaaaaaaaaaaaaaaaaaaaaaaaaaaaaaaaaaaaaaaaaaaaaaaaaaaaaaa\nmatches{true existenceâ\u{88}\u{88}{1..1}matches{True,True,True}}") 9 108
-    ∷ accepts (bytes "XX [at1] â\u{88}\u{88} { * }") (objectWith 1 (bytes "XX") (bytes "at1") no_more)
+    ∷ accepts (bytes "XX [at1] â\u{88}\u{88} { * }") (object_with 1 (bytes "XX") (bytes "at1") no_more)
     ∷ refuses (bytes "P/-{z;A/\0\n>1â[(0wT;.>=") 2 1
     ∷ refuses (bytes "A matches{a matches{A\tmatches{a matches{Py;}}}}") 2 42
-    ∷ accepts (bytes "TRUEâ\u{88}\u{88}{a1\rexistence\tmatches{1..1}â\u{88}\u{88}{yyyy-mm-??}n1 existence\tmatches{1..1}matches{*}}") (objectWith 1 (bytes "TRUE") [] (attributeWith 2 2 (bytes "a1") (leaf (single datePattern 3 2)) (attributeWith 4 2 (bytes "n1") any no_more)))
-    ∷ accepts (bytes "P matches  {ab\texistence\nmatches {0..1}\tâ\u{88}\u{88}{ \t-1040255790 \t\n,|\n \n-1040255789.. \n\r-1040255789|}}") (objectWith 1 (bytes "P") [] (attributeWith 2 1 (bytes "ab") (leaf (ranges integers (range 3 1_107_227_858 1_107_227_858 ∷ range 4 1_107_227_859 1_107_227_859 ∷ []))) no_more))
+    ∷ accepts (bytes "TRUEâ\u{88}\u{88}{a1\rexistence\tmatches{1..1}â\u{88}\u{88}{yyyy-mm-??}n1 existence\tmatches{1..1}matches{*}}") (object_with 1 (bytes "TRUE") [] (attribute_with 2 2 (bytes "a1") (leaf (single date_pattern 3 2)) (attribute_with 4 2 (bytes "n1") any no_more)))
+    ∷ accepts (bytes "P matches  {ab\texistence\nmatches {0..1}\tâ\u{88}\u{88}{ \t-1040255790 \t\n,|\n \n-1040255789.. \n\r-1040255789|}}") (object_with 1 (bytes "P") [] (attribute_with 2 1 (bytes "ab") (leaf (ranges integers (range 3 1_107_227_858 1_107_227_858 ∷ range 4 1_107_227_859 1_107_227_859 ∷ []))) no_more))
     ∷ refuses (bytes " \n\tA\nmatches{a\tmatches{A matches{a\tmatches{ A\tmatches\r{\t\ta matches{Pyw}") 2 71
-    ∷ accepts (bytes "  \rFALSE--½\r[at0000]â\u{88}\u{88} {yyyy\texistence matches\t{0..\t  1\t\n\t}matches{\r|>=9999-12-31 \t|--\"|±}*Ñ\u{8d}\r}\n }--_}DÔ\u{8b}|\r") (objectWith 1 (bytes "FALSE") (bytes "at0000") (attributeWith 2 1 (bytes "yyyy") (leaf (ranges dates (range 3 99_991_231 99_991_231 ∷ []))) no_more))
-    ∷ accepts (bytes "T\nmatches{existence1â\u{88}\u{88}{Pmw}}") (objectWith 1 (bytes "T") [] (attributeWith 2 2 (bytes "existence1") (leaf (single durationPattern 3 6)) no_more))
+    ∷ accepts (bytes "  \rFALSE--½\r[at0000]â\u{88}\u{88} {yyyy\texistence matches\t{0..\t  1\t\n\t}matches{\r|>=9999-12-31 \t|--\"|±}*Ñ\u{8d}\r}\n }--_}DÔ\u{8b}|\r") (object_with 1 (bytes "FALSE") (bytes "at0000") (attribute_with 2 1 (bytes "yyyy") (leaf (ranges dates (range 3 99_991_231 99_991_231 ∷ []))) no_more))
+    ∷ accepts (bytes "T\nmatches{existence1â\u{88}\u{88}{Pmw}}") (object_with 1 (bytes "T") [] (attribute_with 2 2 (bytes "existence1") (leaf (single duration_pattern 3 6)) no_more))
     ∷ refuses (bytes "A\rmatches{a\nexistence\nmatches{1..1}â\u{88}\u{88}{|1999-02-28|,|1999-04-12|,|1999-04-14|,|{1999-04-02..<1999-04-03|}}") 2 79
-    ∷ accepts (bytes "--|cÔ\u{88}\nFalsey\t  [at0000]\n\t\tmatches{\n\r\naa\tmatches {|1999-02-28|\t ,--\u{3}Ã\n|--\u{1f}Ô|af\n1999-04-01|--<--*<\u{89}}\r}\t\n\n}") (objectWith 1 (bytes "Falsey") (bytes "at0000") (attributeWith 2 2 (bytes "aa") (leaf (ranges dates (range 3 19_990_228 19_990_228 ∷ range 4 19_990_401 19_990_401 ∷ []))) no_more))
-    ∷ accepts (bytes "T â\u{88}\u{88} { at0001 â\u{88}\u{88} { Py } n1 existence matches { 1 .. 1 } â\u{88}\u{88} { | 0 | , | 2 .. < 6 | , | > 5 .. 15 | } }") (objectWith 1 (bytes "T") [] (attributeWith 2 2 (bytes "at0001") (leaf (single durationPattern 3 1)) (attributeWith 4 2 (bytes "n1") (leaf (ranges integers (range 5 2_147_483_648 2_147_483_648 ∷ range 6 2_147_483_650 2_147_483_653 ∷ range 7 2_147_483_654 2_147_483_663 ∷ []))) no_more)))
-    ∷ accepts (bytes "Pwd matches{*}") (objectWith 1 (bytes "Pwd") [] no_more)
-    ∷ accepts (bytes "Bâ\u{88}\u{88}{yyyy\texistenceâ\u{88}\u{88}{1}matches{*}}") (objectWith 1 (bytes "B") [] (attributeWith 2 2 (bytes "yyyy") any no_more))
-    ∷ accepts (bytes "A1â\u{88}\u{88}{matchesx\nexistence matches{0..1}matches{\" \",\"a b\",\"abc\"}}") (objectWith 1 (bytes "A1") [] (attributeWith 2 1 (bytes "matchesx") (leaf (texts (item 3 (bytes " ") ∷ item 4 (bytes "a b") ∷ item 5 (bytes "abc") ∷ []))) no_more))
-    ∷ accepts (bytes "P\nmatches{value\texistence\tmatches{1}matches{False,True}}") (objectWith 1 (bytes "P") [] (attributeWith 2 2 (bytes "value") (leaf (single booleans 3 3)) no_more))
-    ∷ accepts (bytes "ABC\nmatches{aa matches{*}}") (objectWith 1 (bytes "ABC") [] (attributeWith 2 2 (bytes "aa") any no_more))
-    ∷ accepts (bytes "B-- \n[at0000]--,\rmatches { aa existence   matches{1..1}â\u{88}\u{88}{|8873-08-26.. 8873-08-26 \r|\n\n }--Û\n}") (objectWith 1 (bytes "B") (bytes "at0000") (attributeWith 2 2 (bytes "aa") (leaf (ranges dates (range 3 88_730_826 88_730_826 ∷ []))) no_more))
-    ∷ accepts (bytes "C\rmatches{at0001 existence\nmatches{0..1}matches{PTs}matchesx\nexistence matches{1}â\u{88}\u{88}{yyyy-mm-dd}}") (objectWith 1 (bytes "C") [] (attributeWith 2 1 (bytes "at0001") (leaf (single durationPattern 3 64)) (attributeWith 4 2 (bytes "matchesx") (leaf (single datePattern 5 1)) no_more)))
-    ∷ accepts (bytes "PdX\tmatches{c\texistence matches{0..1}matches{PymdTs}}") (objectWith 1 (bytes "PdX") [] (attributeWith 2 1 (bytes "c") (leaf (single durationPattern 3 75)) no_more))
-    ∷ accepts (bytes "Pwd\tmatches{value existence\tmatches{0..1}matches{Pd}abcâ\u{88}\u{88}{Câ\u{88}\u{88}{abc\nmatches{|>=9999-12-31|}}}}") (objectWith 1 (bytes "Pwd") [] (attributeWith 2 1 (bytes "value") (leaf (single durationPattern 3 8)) (attributeWith 4 2 (bytes "abc") (nested (objectWith 5 (bytes "C") [] (attributeWith 6 2 (bytes "abc") (leaf (ranges dates (range 7 99_991_231 99_991_231 ∷ []))) no_more))) no_more)))
-    ∷ accepts (bytes "PD\rmatches{a\texistenceâ\u{88}\u{88}{1}matches{\"{|},*\"}}") (objectWith 1 (bytes "PD") [] (attributeWith 2 2 (bytes "a") (leaf (texts (item 3 (bytes "{|},*") ∷ []))) no_more))
-    ∷ accepts (bytes "A matches{a\rmatches{PyTm}}") (objectWith 1 (bytes "A") [] (attributeWith 2 2 (bytes "a") (leaf (single durationPattern 3 33)) no_more))
+    ∷ accepts (bytes "--|cÔ\u{88}\nFalsey\t  [at0000]\n\t\tmatches{\n\r\naa\tmatches {|1999-02-28|\t ,--\u{3}Ã\n|--\u{1f}Ô|af\n1999-04-01|--<--*<\u{89}}\r}\t\n\n}") (object_with 1 (bytes "Falsey") (bytes "at0000") (attribute_with 2 2 (bytes "aa") (leaf (ranges dates (range 3 19_990_228 19_990_228 ∷ range 4 19_990_401 19_990_401 ∷ []))) no_more))
+    ∷ accepts (bytes "T â\u{88}\u{88} { at0001 â\u{88}\u{88} { Py } n1 existence matches { 1 .. 1 } â\u{88}\u{88} { | 0 | , | 2 .. < 6 | , | > 5 .. 15 | } }") (object_with 1 (bytes "T") [] (attribute_with 2 2 (bytes "at0001") (leaf (single duration_pattern 3 1)) (attribute_with 4 2 (bytes "n1") (leaf (ranges integers (range 5 2_147_483_648 2_147_483_648 ∷ range 6 2_147_483_650 2_147_483_653 ∷ range 7 2_147_483_654 2_147_483_663 ∷ []))) no_more)))
+    ∷ accepts (bytes "Pwd matches{*}") (object_with 1 (bytes "Pwd") [] no_more)
+    ∷ accepts (bytes "Bâ\u{88}\u{88}{yyyy\texistenceâ\u{88}\u{88}{1}matches{*}}") (object_with 1 (bytes "B") [] (attribute_with 2 2 (bytes "yyyy") any no_more))
+    ∷ accepts (bytes "A1â\u{88}\u{88}{matchesx\nexistence matches{0..1}matches{\" \",\"a b\",\"abc\"}}") (object_with 1 (bytes "A1") [] (attribute_with 2 1 (bytes "matchesx") (leaf (texts (item 3 (bytes " ") ∷ item 4 (bytes "a b") ∷ item 5 (bytes "abc") ∷ []))) no_more))
+    ∷ accepts (bytes "P\nmatches{value\texistence\tmatches{1}matches{False,True}}") (object_with 1 (bytes "P") [] (attribute_with 2 2 (bytes "value") (leaf (single booleans 3 3)) no_more))
+    ∷ accepts (bytes "ABC\nmatches{aa matches{*}}") (object_with 1 (bytes "ABC") [] (attribute_with 2 2 (bytes "aa") any no_more))
+    ∷ accepts (bytes "B-- \n[at0000]--,\rmatches { aa existence   matches{1..1}â\u{88}\u{88}{|8873-08-26.. 8873-08-26 \r|\n\n }--Û\n}") (object_with 1 (bytes "B") (bytes "at0000") (attribute_with 2 2 (bytes "aa") (leaf (ranges dates (range 3 88_730_826 88_730_826 ∷ []))) no_more))
+    ∷ accepts (bytes "C\rmatches{at0001 existence\nmatches{0..1}matches{PTs}matchesx\nexistence matches{1}â\u{88}\u{88}{yyyy-mm-dd}}") (object_with 1 (bytes "C") [] (attribute_with 2 1 (bytes "at0001") (leaf (single duration_pattern 3 64)) (attribute_with 4 2 (bytes "matchesx") (leaf (single date_pattern 5 1)) no_more)))
+    ∷ accepts (bytes "PdX\tmatches{c\texistence matches{0..1}matches{PymdTs}}") (object_with 1 (bytes "PdX") [] (attribute_with 2 1 (bytes "c") (leaf (single duration_pattern 3 75)) no_more))
+    ∷ accepts (bytes "Pwd\tmatches{value existence\tmatches{0..1}matches{Pd}abcâ\u{88}\u{88}{Câ\u{88}\u{88}{abc\nmatches{|>=9999-12-31|}}}}") (object_with 1 (bytes "Pwd") [] (attribute_with 2 1 (bytes "value") (leaf (single duration_pattern 3 8)) (attribute_with 4 2 (bytes "abc") (nested (object_with 5 (bytes "C") [] (attribute_with 6 2 (bytes "abc") (leaf (ranges dates (range 7 99_991_231 99_991_231 ∷ []))) no_more))) no_more)))
+    ∷ accepts (bytes "PD\rmatches{a\texistenceâ\u{88}\u{88}{1}matches{\"{|},*\"}}") (object_with 1 (bytes "PD") [] (attribute_with 2 2 (bytes "a") (leaf (texts (item 3 (bytes "{|},*") ∷ []))) no_more))
+    ∷ accepts (bytes "A matches{a\rmatches{PyTm}}") (object_with 1 (bytes "A") [] (attribute_with 2 2 (bytes "a") (leaf (single duration_pattern 3 33)) no_more))
     ∷ refuses (bytes "´©Þ°\u{8b}Ç¢À¯3Â\u{97}\u{1}P¬.N¶²\u{91}~ÈÓ\u{99}Ï·Ne\u{b}\u{10}8¥³èã4\u{14}}¶[qÍè") 2 0
-    ∷ accepts (bytes "Thh â\u{88}\u{88} { a1 â\u{88}\u{88} { yyyy-??-XX } at0001 existence matches { 0 .. 1 } matches { PdTs } existence1 â\u{88}\u{88} { | 95 .. 95 | } }") (objectWith 1 (bytes "Thh") [] (attributeWith 2 2 (bytes "a1") (leaf (single datePattern 3 5)) (attributeWith 4 1 (bytes "at0001") (leaf (single durationPattern 5 72)) (attributeWith 6 2 (bytes "existence1") (leaf (ranges integers (range 7 2_147_483_743 2_147_483_743 ∷ []))) no_more))))
-    ∷ accepts (bytes "\n\r Câ\u{88}\u{88}{b\rmatches{Pwd [at0.0.1]matches{\t \r*}}}") (objectWith 1 (bytes "C") [] (attributeWith 2 2 (bytes "b") (nested (objectWith 3 (bytes "Pwd") (bytes "at0.0.1") no_more)) no_more))
-    ∷ accepts (bytes "C matches{value existence\tmatches{0..1}â\u{88}\u{88}{Falsey\rmatches{*}}a1 matches{Thh:??:??}c\texistence\rmatches{0..0}â\u{88}\u{88}{-3}}") (objectWith 1 (bytes "C") [] (attributeWith 2 1 (bytes "value") (nested (objectWith 3 (bytes "Falsey") [] no_more)) (attributeWith 4 2 (bytes "a1") (leaf (single timePattern 5 4)) (attributeWith 6 0 (bytes "c") (leaf (ranges integers (range 7 2_147_483_645 2_147_483_645 ∷ []))) no_more))))
-    ∷ accepts (bytes "  P\t matches\n\r{aa\nmatches{\" \",\r\r\r\"A\", \n \"0123456789\"}a_\r\nexistence--<å}\nâ\u{88}\u{88}--µ\"**|\r{ 1}matches{yyyy-mm-dd}}") (objectWith 1 (bytes "P") [] (attributeWith 2 2 (bytes "aa") (leaf (texts (item 3 (bytes " ") ∷ item 4 (bytes "A") ∷ item 5 (bytes "0123456789") ∷ []))) (attributeWith 6 2 (bytes "a_") (leaf (single datePattern 7 1)) no_more)))
-    ∷ accepts (bytes "Falsey[at00000000]matches{x9Z_\tmatches{yyyy-??-??}}") (objectWith 1 (bytes "Falsey") (bytes "at00000000") (attributeWith 2 2 (bytes "x9Z_") (leaf (single datePattern 3 3)) no_more))
-    ∷ accepts (bytes "A_b\nmatches--\"\u{8b}a§1±\n{\t abc\texistence matches\t\t{--´\"$-\u{98} a\n0}matches\n {False,--Y**}\rTrue\r\r\n} \r}\t\r\n") (objectWith 1 (bytes "A_b") [] (attributeWith 2 0 (bytes "abc") (leaf (single booleans 3 3)) no_more))
-    ∷ accepts (bytes "AB\rmatches{ab\rexistence\rmatches{0..0}matches{Thh:??:??}at0001\texistence\tmatches{0..1}â\u{88}\u{88}{False}}") (objectWith 1 (bytes "AB") [] (attributeWith 2 0 (bytes "ab") (leaf (single timePattern 3 4)) (attributeWith 4 1 (bytes "at0001") (leaf (single booleans 5 2)) no_more)))
-    ∷ accepts (bytes "PdX[at0.0.1]matches{c matches{Thh:??:XX}}") (objectWith 1 (bytes "PdX") (bytes "at0.0.1") (attributeWith 2 2 (bytes "c") (leaf (single timePattern 3 3)) no_more))
-    ∷ accepts (bytes "PymwdThmsâ\u{88}\u{88}{*}") (objectWith 1 (bytes "PymwdThms") [] no_more)
-    ∷ accepts (bytes "ELEMENT\nmatches{matchesx\nexistenceâ\u{88}\u{88}{0..1}matches{\"b\"}n1\rexistenceâ\u{88}\u{88}{1}matches{|5653-07-20|}}") (objectWith 1 (bytes "ELEMENT") [] (attributeWith 2 1 (bytes "matchesx") (leaf (texts (item 3 (bytes "b") ∷ []))) (attributeWith 4 2 (bytes "n1") (leaf (ranges dates (range 5 56_530_720 56_530_720 ∷ []))) no_more)))
-    ∷ accepts (bytes "ABCâ\u{88}\u{88}{a_\rexistence\rmatches{1}matches{*}}") (objectWith 1 (bytes "ABC") [] (attributeWith 2 2 (bytes "a_") any no_more))
-    ∷ accepts (bytes "TRUEâ\u{88}\u{88}{trueâ\u{88}\u{88}{|0000-02-29..0000-03-09|}matche existence\tmatches{1}matches{True}n2\nmatches{Thh:??:XX}yyyy\rmatches{*}}") (objectWith 1 (bytes "TRUE") [] (attributeWith 2 2 (bytes "true") (leaf (ranges dates (range 3 229 309 ∷ []))) (attributeWith 4 2 (bytes "matche") (leaf (single booleans 5 1)) (attributeWith 6 2 (bytes "n2") (leaf (single timePattern 7 3)) (attributeWith 8 2 (bytes "yyyy") any no_more)))))
+    ∷ accepts (bytes "Thh â\u{88}\u{88} { a1 â\u{88}\u{88} { yyyy-??-XX } at0001 existence matches { 0 .. 1 } matches { PdTs } existence1 â\u{88}\u{88} { | 95 .. 95 | } }") (object_with 1 (bytes "Thh") [] (attribute_with 2 2 (bytes "a1") (leaf (single date_pattern 3 5)) (attribute_with 4 1 (bytes "at0001") (leaf (single duration_pattern 5 72)) (attribute_with 6 2 (bytes "existence1") (leaf (ranges integers (range 7 2_147_483_743 2_147_483_743 ∷ []))) no_more))))
+    ∷ accepts (bytes "\n\r Câ\u{88}\u{88}{b\rmatches{Pwd [at0.0.1]matches{\t \r*}}}") (object_with 1 (bytes "C") [] (attribute_with 2 2 (bytes "b") (nested (object_with 3 (bytes "Pwd") (bytes "at0.0.1") no_more)) no_more))
+    ∷ accepts (bytes "C matches{value existence\tmatches{0..1}â\u{88}\u{88}{Falsey\rmatches{*}}a1 matches{Thh:??:??}c\texistence\rmatches{0..0}â\u{88}\u{88}{-3}}") (object_with 1 (bytes "C") [] (attribute_with 2 1 (bytes "value") (nested (object_with 3 (bytes "Falsey") [] no_more)) (attribute_with 4 2 (bytes "a1") (leaf (single time_pattern 5 4)) (attribute_with 6 0 (bytes "c") (leaf (ranges integers (range 7 2_147_483_645 2_147_483_645 ∷ []))) no_more))))
+    ∷ accepts (bytes "  P\t matches\n\r{aa\nmatches{\" \",\r\r\r\"A\", \n \"0123456789\"}a_\r\nexistence--<å}\nâ\u{88}\u{88}--µ\"**|\r{ 1}matches{yyyy-mm-dd}}") (object_with 1 (bytes "P") [] (attribute_with 2 2 (bytes "aa") (leaf (texts (item 3 (bytes " ") ∷ item 4 (bytes "A") ∷ item 5 (bytes "0123456789") ∷ []))) (attribute_with 6 2 (bytes "a_") (leaf (single date_pattern 7 1)) no_more)))
+    ∷ accepts (bytes "Falsey[at00000000]matches{x9Z_\tmatches{yyyy-??-??}}") (object_with 1 (bytes "Falsey") (bytes "at00000000") (attribute_with 2 2 (bytes "x9Z_") (leaf (single date_pattern 3 3)) no_more))
+    ∷ accepts (bytes "A_b\nmatches--\"\u{8b}a§1±\n{\t abc\texistence matches\t\t{--´\"$-\u{98} a\n0}matches\n {False,--Y**}\rTrue\r\r\n} \r}\t\r\n") (object_with 1 (bytes "A_b") [] (attribute_with 2 0 (bytes "abc") (leaf (single booleans 3 3)) no_more))
+    ∷ accepts (bytes "AB\rmatches{ab\rexistence\rmatches{0..0}matches{Thh:??:??}at0001\texistence\tmatches{0..1}â\u{88}\u{88}{False}}") (object_with 1 (bytes "AB") [] (attribute_with 2 0 (bytes "ab") (leaf (single time_pattern 3 4)) (attribute_with 4 1 (bytes "at0001") (leaf (single booleans 5 2)) no_more)))
+    ∷ accepts (bytes "PdX[at0.0.1]matches{c matches{Thh:??:XX}}") (object_with 1 (bytes "PdX") (bytes "at0.0.1") (attribute_with 2 2 (bytes "c") (leaf (single time_pattern 3 3)) no_more))
+    ∷ accepts (bytes "PymwdThmsâ\u{88}\u{88}{*}") (object_with 1 (bytes "PymwdThms") [] no_more)
+    ∷ accepts (bytes "ELEMENT\nmatches{matchesx\nexistenceâ\u{88}\u{88}{0..1}matches{\"b\"}n1\rexistenceâ\u{88}\u{88}{1}matches{|5653-07-20|}}") (object_with 1 (bytes "ELEMENT") [] (attribute_with 2 1 (bytes "matchesx") (leaf (texts (item 3 (bytes "b") ∷ []))) (attribute_with 4 2 (bytes "n1") (leaf (ranges dates (range 5 56_530_720 56_530_720 ∷ []))) no_more)))
+    ∷ accepts (bytes "ABCâ\u{88}\u{88}{a_\rexistence\rmatches{1}matches{*}}") (object_with 1 (bytes "ABC") [] (attribute_with 2 2 (bytes "a_") any no_more))
+    ∷ accepts (bytes "TRUEâ\u{88}\u{88}{trueâ\u{88}\u{88}{|0000-02-29..0000-03-09|}matche existence\tmatches{1}matches{True}n2\nmatches{Thh:??:XX}yyyy\rmatches{*}}") (object_with 1 (bytes "TRUE") [] (attribute_with 2 2 (bytes "true") (leaf (ranges dates (range 3 229 309 ∷ []))) (attribute_with 4 2 (bytes "matche") (leaf (single booleans 5 1)) (attribute_with 6 2 (bytes "n2") (leaf (single time_pattern 7 3)) (attribute_with 8 2 (bytes "yyyy") any no_more)))))
     ∷ refuses (bytes "Pym\tmatches{a matches{A\nmatches{a matches{Td,Pd}}}}") 2 44
     ∷ refuses (bytes "A_b â\u{88}\u{88} { true exist(nce matches { 0 .. 1 } â\u{88}\u{88} { \"a b\" , \"a\" , \"b\" } n1 matches {\tPD matches { * } } }") 2 15
     ∷ refuses (bytes "P\rmatches{existence1\texistence\nmatches\n0..1}â\u{88}\u{88}{yyyy-mm-dd}n1â\u{88}\u{88}{Truâ\u{88}\u{88}{*existence1}}}") 2 39
@@ -166,5 +166,5 @@ cases =
     ∷ []
 
 pub none-wrong : wrong right 0 cases ≡ []
-unfolding wrong right cases objectList constraintComputes
+unfolding wrong right cases object_list constraint_computes
 none-wrong = refl

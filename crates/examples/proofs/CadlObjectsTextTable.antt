@@ -5,15 +5,15 @@ use mathlib.Core.List.{List, [], ◌∷◌}
 use lib.ListN.{replicate}
 use Rattle.lexis.specs.Text.{bytes}
 use Rattle.lexis.proofs.Tables.{wrong}
-use Rattle.meaning.specs.Constraints.{no_more, any, nested, leaf, single, ranges, texts, booleans, integers, datePattern, dates, timePattern, durationPattern}
-use Rattle.meaning.proofs.Trees.{range, item, objectWith, attributeWith, objectList}
-use Rattle.cadl_objects.proofs.Computes.{constraintComputes}
-use Rattle.cadl_objects.proofs.Examples.{Case, accepts, refuses, acceptsFrom, refusesFrom, right}
+use Rattle.meaning.specs.Constraints.{no_more, any, nested, leaf, single, ranges, texts, booleans, integers, date_pattern, dates, time_pattern, duration_pattern}
+use Rattle.meaning.proofs.Trees.{range, item, object_with, attribute_with, object_list}
+use Rattle.cadl_objects.proofs.Computes.{constraint_computes}
+use Rattle.cadl_objects.proofs.Examples.{Case, accepts, refuses, accepts_from, refuses_from, right}
 
 pub cases : List Case
 cases =
     -- the smallest text, cut off at each token, and with a token too many
-    accepts (bytes "A matches {*}") (objectWith 1 (bytes "A") [] no_more)
+    accepts (bytes "A matches {*}") (object_with 1 (bytes "A") [] no_more)
     ∷ refuses (bytes "A matches {*") 2 12
     ∷ refuses (bytes "A matches {") 2 11
     ∷ refuses (bytes "A matches") 2 9
@@ -32,16 +32,16 @@ cases =
     ∷ refuses (bytes "A matches {* a matches {*}}") 2 13
     ∷ refuses (bytes "A matches {a matches {*} *}") 2 25
     -- no separator is needed, any may stand, and a comment may end at the text's end
-    ∷ accepts (bytes "A[at1]matches{*}") (objectWith 1 (bytes "A") (bytes "at1") no_more)
-    ∷ accepts (bytes "A[at1]matches{a matches{5}b matches{True}}") (objectWith 1 (bytes "A") (bytes "at1") (attributeWith 2 2 (bytes "a") (leaf (ranges integers (range 3 2_147_483_653 2_147_483_653 ∷ []))) (attributeWith 4 2 (bytes "b") (leaf (single booleans 5 1)) no_more)))
-    ∷ accepts (bytes "Aâ\u{88}\u{88}{aâ\u{88}\u{88}{5}}") (objectWith 1 (bytes "A") [] (attributeWith 2 2 (bytes "a") (leaf (ranges integers (range 3 2_147_483_653 2_147_483_653 ∷ []))) no_more))
-    ∷ accepts (bytes "\r\nA\tmatches\n{ * }\r") (objectWith 1 (bytes "A") [] no_more)
-    ∷ accepts (bytes "A matches {*}  ") (objectWith 1 (bytes "A") [] no_more)
+    ∷ accepts (bytes "A[at1]matches{*}") (object_with 1 (bytes "A") (bytes "at1") no_more)
+    ∷ accepts (bytes "A[at1]matches{a matches{5}b matches{True}}") (object_with 1 (bytes "A") (bytes "at1") (attribute_with 2 2 (bytes "a") (leaf (ranges integers (range 3 2_147_483_653 2_147_483_653 ∷ []))) (attribute_with 4 2 (bytes "b") (leaf (single booleans 5 1)) no_more)))
+    ∷ accepts (bytes "Aâ\u{88}\u{88}{aâ\u{88}\u{88}{5}}") (object_with 1 (bytes "A") [] (attribute_with 2 2 (bytes "a") (leaf (ranges integers (range 3 2_147_483_653 2_147_483_653 ∷ []))) no_more))
+    ∷ accepts (bytes "\r\nA\tmatches\n{ * }\r") (object_with 1 (bytes "A") [] no_more)
+    ∷ accepts (bytes "A matches {*}  ") (object_with 1 (bytes "A") [] no_more)
     ∷ refuses (bytes "A matches {*  ") 2 14
-    ∷ accepts (bytes "--\0ÿ\nA--{\rmatches--\n{--*\n*--\n}--") (objectWith 1 (bytes "A") [] no_more)
+    ∷ accepts (bytes "--\0ÿ\nA--{\rmatches--\n{--*\n*--\n}--") (object_with 1 (bytes "A") [] no_more)
     ∷ refuses (bytes "A matches {* -- }") 2 17
-    ∷ accepts (bytes "A matches {* -- }\r}") (objectWith 1 (bytes "A") [] no_more)
-    ∷ accepts (bytes "A matches {a existence matches { 0 .. 1 } matches { | > 5 .. < 9 | } }") (objectWith 1 (bytes "A") [] (attributeWith 2 1 (bytes "a") (leaf (ranges integers (range 3 2_147_483_654 2_147_483_656 ∷ []))) no_more))
+    ∷ accepts (bytes "A matches {* -- }\r}") (object_with 1 (bytes "A") [] no_more)
+    ∷ accepts (bytes "A matches {a existence matches { 0 .. 1 } matches { | > 5 .. < 9 | } }") (object_with 1 (bytes "A") [] (attribute_with 2 1 (bytes "a") (leaf (ranges integers (range 3 2_147_483_654 2_147_483_656 ∷ []))) no_more))
     ∷ refuses (bytes "Amatches {*}") 2 9
     ∷ refuses (bytes "A matchesx {*}") 2 2
     -- other spellings of the keywords are none
@@ -54,42 +54,42 @@ cases =
     -- TYPEs: True and False are none
     ∷ refuses (bytes "True matches {*}") 2 0
     ∷ refuses (bytes "False matches {*}") 2 0
-    ∷ accepts (bytes "TRUE matches {*}") (objectWith 1 (bytes "TRUE") [] no_more)
-    ∷ accepts (bytes "True1 matches {*}") (objectWith 1 (bytes "True1") [] no_more)
-    ∷ accepts (bytes "A_1b matches {*}") (objectWith 1 (bytes "A_1b") [] no_more)
+    ∷ accepts (bytes "TRUE matches {*}") (object_with 1 (bytes "TRUE") [] no_more)
+    ∷ accepts (bytes "True1 matches {*}") (object_with 1 (bytes "True1") [] no_more)
+    ∷ accepts (bytes "A_1b matches {*}") (object_with 1 (bytes "A_1b") [] no_more)
     ∷ refuses (bytes "a matches {*}") 2 0
     ∷ refuses (bytes "_A matches {*}") 2 0
     ∷ refuses (bytes "1A matches {*}") 2 0
-    ∷ accepts (bytes "Thh matches {*}") (objectWith 1 (bytes "Thh") [] no_more)
+    ∷ accepts (bytes "Thh matches {*}") (object_with 1 (bytes "Thh") [] no_more)
     ∷ refuses (bytes "Thh:mm matches {*}") 2 3
     ∷ refuses (bytes "Thh:mm:ss matches {*}") 2 0
     ∷ refuses (bytes "T matches {a matches {True matches {*}}}") 2 27
-    ∷ accepts (bytes "T matches {a matches {True_ matches {*}}}") (objectWith 1 (bytes "T") [] (attributeWith 2 2 (bytes "a") (nested (objectWith 3 (bytes "True_") [] no_more)) no_more))
-    ∷ accepts (bytes "Pd matches {*}") (objectWith 1 (bytes "Pd") [] no_more)
+    ∷ accepts (bytes "T matches {a matches {True_ matches {*}}}") (object_with 1 (bytes "T") [] (attribute_with 2 2 (bytes "a") (nested (object_with 3 (bytes "True_") [] no_more)) no_more))
+    ∷ accepts (bytes "Pd matches {*}") (object_with 1 (bytes "Pd") [] no_more)
     ∷ refuses (bytes "Pd") 2 2
     ∷ refuses (bytes "Pd}") 2 2
     ∷ refuses (bytes "A matches {Pd}") 2 11
     ∷ refuses (bytes "A matches {a existence matches {Pd} matches {*}}") 2 32
-    ∷ accepts (bytes "PymwdThms[at1] matches {a matches {PTm matches {b matches {PTm}}}}") (objectWith 1 (bytes "PymwdThms") (bytes "at1") (attributeWith 2 2 (bytes "a") (nested (objectWith 3 (bytes "PTm") [] (attributeWith 4 2 (bytes "b") (leaf (single durationPattern 5 32)) no_more))) no_more))
+    ∷ accepts (bytes "PymwdThms[at1] matches {a matches {PTm matches {b matches {PTm}}}}") (object_with 1 (bytes "PymwdThms") (bytes "at1") (attribute_with 2 2 (bytes "a") (nested (object_with 3 (bytes "PTm") [] (attribute_with 4 2 (bytes "b") (leaf (single duration_pattern 5 32)) no_more))) no_more))
     -- NAMEs: the keywords are none
     ∷ refuses (bytes "A matches {matches matches {*}}") 2 11
     ∷ refuses (bytes "A matches {existence matches {*}}") 2 11
-    ∷ accepts (bytes "A matches {matchesx matches {*}}") (objectWith 1 (bytes "A") [] (attributeWith 2 2 (bytes "matchesx") any no_more))
-    ∷ accepts (bytes "A matches {existenc matches {*}}") (objectWith 1 (bytes "A") [] (attributeWith 2 2 (bytes "existenc") any no_more))
-    ∷ accepts (bytes "A matches {a_B1 matches {*}}") (objectWith 1 (bytes "A") [] (attributeWith 2 2 (bytes "a_B1") any no_more))
-    ∷ accepts (bytes "A matches {true matches {*}}") (objectWith 1 (bytes "A") [] (attributeWith 2 2 (bytes "true") any no_more))
-    ∷ accepts (bytes "A matches {yyyy matches {*}}") (objectWith 1 (bytes "A") [] (attributeWith 2 2 (bytes "yyyy") any no_more))
+    ∷ accepts (bytes "A matches {matchesx matches {*}}") (object_with 1 (bytes "A") [] (attribute_with 2 2 (bytes "matchesx") any no_more))
+    ∷ accepts (bytes "A matches {existenc matches {*}}") (object_with 1 (bytes "A") [] (attribute_with 2 2 (bytes "existenc") any no_more))
+    ∷ accepts (bytes "A matches {a_B1 matches {*}}") (object_with 1 (bytes "A") [] (attribute_with 2 2 (bytes "a_B1") any no_more))
+    ∷ accepts (bytes "A matches {true matches {*}}") (object_with 1 (bytes "A") [] (attribute_with 2 2 (bytes "true") any no_more))
+    ∷ accepts (bytes "A matches {yyyy matches {*}}") (object_with 1 (bytes "A") [] (attribute_with 2 2 (bytes "yyyy") any no_more))
     ∷ refuses (bytes "A matches {yyyy-mm-dd matches {*}}") 2 11
     ∷ refuses (bytes "A matches {yyyy-mm-d matches {*}}") 2 15
     ∷ refuses (bytes "A matches {B matches {*}}") 2 11
     ∷ refuses (bytes "A matches {5}") 2 11
     ∷ refuses (bytes "A matches {_a matches {*}}") 2 11
     -- attributes and objects inside them: numbers in text order
-    ∷ accepts (bytes "A matches {a matches {*}}") (objectWith 1 (bytes "A") [] (attributeWith 2 2 (bytes "a") any no_more))
-    ∷ accepts (bytes "A matches {a matches {B matches {*}}}") (objectWith 1 (bytes "A") [] (attributeWith 2 2 (bytes "a") (nested (objectWith 3 (bytes "B") [] no_more)) no_more))
-    ∷ accepts (bytes "A[at1] matches {a matches {B[at1.1] matches {b matches {5} c matches {*}}} d matches {\"x\", \"y\"} e matches {True}}") (objectWith 1 (bytes "A") (bytes "at1") (attributeWith 2 2 (bytes "a") (nested (objectWith 3 (bytes "B") (bytes "at1.1") (attributeWith 4 2 (bytes "b") (leaf (ranges integers (range 5 2_147_483_653 2_147_483_653 ∷ []))) (attributeWith 6 2 (bytes "c") any no_more)))) (attributeWith 7 2 (bytes "d") (leaf (texts (item 8 (bytes "x") ∷ item 9 (bytes "y") ∷ []))) (attributeWith 10 2 (bytes "e") (leaf (single booleans 11 1)) no_more))))
-    ∷ accepts (bytes "A matches {a matches {1, 2, 3} b matches {*} c matches {False, True}}") (objectWith 1 (bytes "A") [] (attributeWith 2 2 (bytes "a") (leaf (ranges integers (range 3 2_147_483_649 2_147_483_649 ∷ range 4 2_147_483_650 2_147_483_650 ∷ range 5 2_147_483_651 2_147_483_651 ∷ []))) (attributeWith 6 2 (bytes "b") any (attributeWith 7 2 (bytes "c") (leaf (single booleans 8 3)) no_more))))
-    ∷ accepts (bytes "A matches {a matches {A matches {a matches {A matches {a matches {yyyy-mm-dd}}}}}}") (objectWith 1 (bytes "A") [] (attributeWith 2 2 (bytes "a") (nested (objectWith 3 (bytes "A") [] (attributeWith 4 2 (bytes "a") (nested (objectWith 5 (bytes "A") [] (attributeWith 6 2 (bytes "a") (leaf (single datePattern 7 1)) no_more))) no_more))) no_more))
+    ∷ accepts (bytes "A matches {a matches {*}}") (object_with 1 (bytes "A") [] (attribute_with 2 2 (bytes "a") any no_more))
+    ∷ accepts (bytes "A matches {a matches {B matches {*}}}") (object_with 1 (bytes "A") [] (attribute_with 2 2 (bytes "a") (nested (object_with 3 (bytes "B") [] no_more)) no_more))
+    ∷ accepts (bytes "A[at1] matches {a matches {B[at1.1] matches {b matches {5} c matches {*}}} d matches {\"x\", \"y\"} e matches {True}}") (object_with 1 (bytes "A") (bytes "at1") (attribute_with 2 2 (bytes "a") (nested (object_with 3 (bytes "B") (bytes "at1.1") (attribute_with 4 2 (bytes "b") (leaf (ranges integers (range 5 2_147_483_653 2_147_483_653 ∷ []))) (attribute_with 6 2 (bytes "c") any no_more)))) (attribute_with 7 2 (bytes "d") (leaf (texts (item 8 (bytes "x") ∷ item 9 (bytes "y") ∷ []))) (attribute_with 10 2 (bytes "e") (leaf (single booleans 11 1)) no_more))))
+    ∷ accepts (bytes "A matches {a matches {1, 2, 3} b matches {*} c matches {False, True}}") (object_with 1 (bytes "A") [] (attribute_with 2 2 (bytes "a") (leaf (ranges integers (range 3 2_147_483_649 2_147_483_649 ∷ range 4 2_147_483_650 2_147_483_650 ∷ range 5 2_147_483_651 2_147_483_651 ∷ []))) (attribute_with 6 2 (bytes "b") any (attribute_with 7 2 (bytes "c") (leaf (single booleans 8 3)) no_more))))
+    ∷ accepts (bytes "A matches {a matches {A matches {a matches {A matches {a matches {yyyy-mm-dd}}}}}}") (object_with 1 (bytes "A") [] (attribute_with 2 2 (bytes "a") (nested (object_with 3 (bytes "A") [] (attribute_with 4 2 (bytes "a") (nested (object_with 5 (bytes "A") [] (attribute_with 6 2 (bytes "a") (leaf (single date_pattern 7 1)) no_more))) no_more))) no_more))
     ∷ refuses (bytes "A matches {a matches {}}") 2 22
     ∷ refuses (bytes "A matches {a matches {* 5}}") 2 24
     ∷ refuses (bytes "A matches {a matches {*}, b matches {*}}") 2 24
@@ -98,32 +98,32 @@ cases =
     ∷ refuses (bytes "A matches {a matches {*}") 2 24
     ∷ refuses (bytes "A matches {a matches {B}}") 2 23
     ∷ refuses (bytes "A matches {a matches {B matches {b matches {*}}}") 2 48
-    ∷ accepts (bytes "A matches {a matches {Pd} b matches {Pd matches {*}} c existence matches {0} matches {PThm}}") (objectWith 1 (bytes "A") [] (attributeWith 2 2 (bytes "a") (leaf (single durationPattern 3 8)) (attributeWith 4 2 (bytes "b") (nested (objectWith 5 (bytes "Pd") [] no_more)) (attributeWith 6 0 (bytes "c") (leaf (single durationPattern 7 48)) no_more))))
+    ∷ accepts (bytes "A matches {a matches {Pd} b matches {Pd matches {*}} c existence matches {0} matches {PThm}}") (object_with 1 (bytes "A") [] (attribute_with 2 2 (bytes "a") (leaf (single duration_pattern 3 8)) (attribute_with 4 2 (bytes "b") (nested (object_with 5 (bytes "Pd") [] no_more)) (attribute_with 6 0 (bytes "c") (leaf (single duration_pattern 7 48)) no_more))))
     ∷ refuses (bytes "A matches {a matches {Pd} a matches {Pw}}") 9 26
     ∷ refuses (bytes "A matches {a matches {Pd") 2 24
     ∷ refuses (bytes "A matches {a matches {Pd}") 2 25
     ∷ refuses (bytes "A matches {a matches {Pd}}}") 2 26
     ∷ refuses (bytes "A matches {a matches {Pd --}}") 2 29
     -- names: one that begins like another is another; a repeated one is told where it first comes again
-    ∷ accepts (bytes "A matches {a matches {*} ab matches {*}}") (objectWith 1 (bytes "A") [] (attributeWith 2 2 (bytes "a") any (attributeWith 3 2 (bytes "ab") any no_more)))
-    ∷ accepts (bytes "A matches {ab matches {*} a matches {*}}") (objectWith 1 (bytes "A") [] (attributeWith 2 2 (bytes "ab") any (attributeWith 3 2 (bytes "a") any no_more)))
+    ∷ accepts (bytes "A matches {a matches {*} ab matches {*}}") (object_with 1 (bytes "A") [] (attribute_with 2 2 (bytes "a") any (attribute_with 3 2 (bytes "ab") any no_more)))
+    ∷ accepts (bytes "A matches {ab matches {*} a matches {*}}") (object_with 1 (bytes "A") [] (attribute_with 2 2 (bytes "ab") any (attribute_with 3 2 (bytes "a") any no_more)))
     ∷ refuses (bytes "A matches {a matches {*} b matches {*} b matches {*} a matches {*}}") 9 39
     ∷ refuses (bytes "A matches {a matches {*} a matches {*}}") 9 25
     ∷ refuses (bytes "A matches {a matches {*} b matches {*} a") 9 39
     ∷ refuses (bytes "A matches {a matches {*} b matches {*} c matches {*} a matches {*}}") 9 53
-    ∷ accepts (bytes "A matches {a matches {B matches {a matches {*}}} b matches {*}}") (objectWith 1 (bytes "A") [] (attributeWith 2 2 (bytes "a") (nested (objectWith 3 (bytes "B") [] (attributeWith 4 2 (bytes "a") any no_more))) (attributeWith 5 2 (bytes "b") any no_more)))
-    ∷ accepts (bytes "A matches {a matches {B matches {b matches {*}}} b matches {*}}") (objectWith 1 (bytes "A") [] (attributeWith 2 2 (bytes "a") (nested (objectWith 3 (bytes "B") [] (attributeWith 4 2 (bytes "b") any no_more))) (attributeWith 5 2 (bytes "b") any no_more)))
+    ∷ accepts (bytes "A matches {a matches {B matches {a matches {*}}} b matches {*}}") (object_with 1 (bytes "A") [] (attribute_with 2 2 (bytes "a") (nested (object_with 3 (bytes "B") [] (attribute_with 4 2 (bytes "a") any no_more))) (attribute_with 5 2 (bytes "b") any no_more)))
+    ∷ accepts (bytes "A matches {a matches {B matches {b matches {*}}} b matches {*}}") (object_with 1 (bytes "A") [] (attribute_with 2 2 (bytes "a") (nested (object_with 3 (bytes "B") [] (attribute_with 4 2 (bytes "b") any no_more))) (attribute_with 5 2 (bytes "b") any no_more)))
     ∷ refuses (bytes "A matches {a matches {B matches {b matches {*} b matches {*}}}}") 9 47
     ∷ refuses (bytes "A matches {a matches {*} A matches {*}}") 2 25
-    ∷ accepts (bytes "A matches {a matches {*} aB matches {*} ab matches {*}}") (objectWith 1 (bytes "A") [] (attributeWith 2 2 (bytes "a") any (attributeWith 3 2 (bytes "aB") any (attributeWith 4 2 (bytes "ab") any no_more))))
+    ∷ accepts (bytes "A matches {a matches {*} aB matches {*} ab matches {*}}") (object_with 1 (bytes "A") [] (attribute_with 2 2 (bytes "a") any (attribute_with 3 2 (bytes "aB") any (attribute_with 4 2 (bytes "ab") any no_more))))
     -- existence as it may be spelled
-    ∷ accepts (bytes "A matches {a existence matches {0} matches {*}}") (objectWith 1 (bytes "A") [] (attributeWith 2 0 (bytes "a") any no_more))
-    ∷ accepts (bytes "A matches {a existence matches {1} matches {*}}") (objectWith 1 (bytes "A") [] (attributeWith 2 2 (bytes "a") any no_more))
-    ∷ accepts (bytes "A matches {a existence matches {0..0} matches {*}}") (objectWith 1 (bytes "A") [] (attributeWith 2 0 (bytes "a") any no_more))
-    ∷ accepts (bytes "A matches {a existence matches {0..1} matches {*}}") (objectWith 1 (bytes "A") [] (attributeWith 2 1 (bytes "a") any no_more))
-    ∷ accepts (bytes "A matches {a existence matches {1..1} matches {*}}") (objectWith 1 (bytes "A") [] (attributeWith 2 2 (bytes "a") any no_more))
-    ∷ accepts (bytes "A matches {a existence matches { 0 .. 0 } matches {*}}") (objectWith 1 (bytes "A") [] (attributeWith 2 0 (bytes "a") any no_more))
-    ∷ accepts (bytes "A matches {a existence matches {1--\n..--\r1} matches {*}}") (objectWith 1 (bytes "A") [] (attributeWith 2 2 (bytes "a") any no_more))
+    ∷ accepts (bytes "A matches {a existence matches {0} matches {*}}") (object_with 1 (bytes "A") [] (attribute_with 2 0 (bytes "a") any no_more))
+    ∷ accepts (bytes "A matches {a existence matches {1} matches {*}}") (object_with 1 (bytes "A") [] (attribute_with 2 2 (bytes "a") any no_more))
+    ∷ accepts (bytes "A matches {a existence matches {0..0} matches {*}}") (object_with 1 (bytes "A") [] (attribute_with 2 0 (bytes "a") any no_more))
+    ∷ accepts (bytes "A matches {a existence matches {0..1} matches {*}}") (object_with 1 (bytes "A") [] (attribute_with 2 1 (bytes "a") any no_more))
+    ∷ accepts (bytes "A matches {a existence matches {1..1} matches {*}}") (object_with 1 (bytes "A") [] (attribute_with 2 2 (bytes "a") any no_more))
+    ∷ accepts (bytes "A matches {a existence matches { 0 .. 0 } matches {*}}") (object_with 1 (bytes "A") [] (attribute_with 2 0 (bytes "a") any no_more))
+    ∷ accepts (bytes "A matches {a existence matches {1--\n..--\r1} matches {*}}") (object_with 1 (bytes "A") [] (attribute_with 2 2 (bytes "a") any no_more))
     -- existence as it may not be spelled
     ∷ refuses (bytes "A matches {a existence matches {00} matches {*}}") 2 32
     ∷ refuses (bytes "A matches {a existence matches {-0} matches {*}}") 2 32
@@ -161,17 +161,17 @@ cases =
     ∷ refuses (bytes "A matches {a matches {*} existence matches {0}}") 2 25
     ∷ refuses (bytes "A matches {a existence matches {0} existence matches {0} matches {*}}") 2 35
     ∷ refuses (bytes "A existence matches {0} matches {*}") 2 2
-    ∷ accepts (bytes "A matches {a existence matches {0} matches {5} b existence matches {0..1} matches {B matches {*}}}") (objectWith 1 (bytes "A") [] (attributeWith 2 0 (bytes "a") (leaf (ranges integers (range 3 2_147_483_653 2_147_483_653 ∷ []))) (attributeWith 4 1 (bytes "b") (nested (objectWith 5 (bytes "B") [] no_more)) no_more)))
+    ∷ accepts (bytes "A matches {a existence matches {0} matches {5} b existence matches {0..1} matches {B matches {*}}}") (object_with 1 (bytes "A") [] (attribute_with 2 0 (bytes "a") (leaf (ranges integers (range 3 2_147_483_653 2_147_483_653 ∷ []))) (attribute_with 4 1 (bytes "b") (nested (object_with 5 (bytes "B") [] no_more)) no_more)))
     -- codes
-    ∷ accepts (bytes "A[at1] matches {*}") (objectWith 1 (bytes "A") (bytes "at1") no_more)
-    ∷ accepts (bytes "A [at0001] matches {*}") (objectWith 1 (bytes "A") (bytes "at0001") no_more)
-    ∷ accepts (bytes "A[at1.2] matches {*}") (objectWith 1 (bytes "A") (bytes "at1.2") no_more)
-    ∷ accepts (bytes "A[at1.0.12] matches {*}") (objectWith 1 (bytes "A") (bytes "at1.0.12") no_more)
-    ∷ accepts (bytes "A --\n[at0] matches {*}") (objectWith 1 (bytes "A") (bytes "at0") no_more)
+    ∷ accepts (bytes "A[at1] matches {*}") (object_with 1 (bytes "A") (bytes "at1") no_more)
+    ∷ accepts (bytes "A [at0001] matches {*}") (object_with 1 (bytes "A") (bytes "at0001") no_more)
+    ∷ accepts (bytes "A[at1.2] matches {*}") (object_with 1 (bytes "A") (bytes "at1.2") no_more)
+    ∷ accepts (bytes "A[at1.0.12] matches {*}") (object_with 1 (bytes "A") (bytes "at1.0.12") no_more)
+    ∷ accepts (bytes "A --\n[at0] matches {*}") (object_with 1 (bytes "A") (bytes "at0") no_more)
     -- codes of 31 bytes and of 32
-    ∷ accepts (bytes "A[at012345678901234567890123456.8] matches {*}") (objectWith 1 (bytes "A") (bytes "at012345678901234567890123456.8") no_more)
+    ∷ accepts (bytes "A[at012345678901234567890123456.8] matches {*}") (object_with 1 (bytes "A") (bytes "at012345678901234567890123456.8") no_more)
     ∷ refuses (bytes "A[at0123456789012345678901234567.9] matches {*}") 4 1
-    ∷ accepts (bytes "A[at01234567890123456789012345678] matches {*}") (objectWith 1 (bytes "A") (bytes "at01234567890123456789012345678") no_more)
+    ∷ accepts (bytes "A[at01234567890123456789012345678] matches {*}") (object_with 1 (bytes "A") (bytes "at01234567890123456789012345678") no_more)
     ∷ refuses (bytes "A[at012345678901234567890123456789] matches {*}") 4 1
     -- what is no code, or stands where none may
     ∷ refuses (bytes "A[at] matches {*}") 2 1
@@ -188,7 +188,7 @@ cases =
     ∷ refuses (bytes "A[at1 matches {*}") 2 1
     ∷ refuses (bytes "A[at1x] matches {*}") 2 1
     ∷ refuses (bytes "A[at1]] matches {*}") 2 6
-    ∷ accepts (bytes "Aat1 matches {*}") (objectWith 1 (bytes "Aat1") [] no_more)
+    ∷ accepts (bytes "Aat1 matches {*}") (object_with 1 (bytes "Aat1") [] no_more)
     ∷ refuses (bytes "A[at1][at2] matches {*}") 2 6
     ∷ refuses (bytes "A[] matches {*}") 2 1
     ∷ refuses (bytes "A[ matches {*}") 2 1
@@ -198,30 +198,30 @@ cases =
     ∷ refuses (bytes "A[at012345678901234567890123456789] {*}") 4 1
     ∷ refuses (bytes "[at1] matches {*}") 2 0
     -- types and names of 63 bytes and of 64
-    ∷ accepts (bytes "Abcdefghijklmnopqrstuvwxyz_0123456789_ABCDEFGHIJKLMNOPQRSTUVWXY matches {*}") (objectWith 1 (bytes "Abcdefghijklmnopqrstuvwxyz_0123456789_ABCDEFGHIJKLMNOPQRSTUVWXY") [] no_more)
+    ∷ accepts (bytes "Abcdefghijklmnopqrstuvwxyz_0123456789_ABCDEFGHIJKLMNOPQRSTUVWXY matches {*}") (object_with 1 (bytes "Abcdefghijklmnopqrstuvwxyz_0123456789_ABCDEFGHIJKLMNOPQRSTUVWXY") [] no_more)
     ∷ refuses (bytes "Abcdefghijklmnopqrstuvwxyz_0123456789_ABCDEFGHIJKLMNOPQRSTUVWXYZ matches {*}") 4 0
     ∷ refuses (bytes "Abcdefghijklmnopqrstuvwxyz_0123456789_ABCDEFGHIJKLMNOPQRSTUVWXYZ {*}") 4 0
-    ∷ accepts (bytes "A matches {abcdefghijklmnopqrstuvwxyz_0123456789_ABCDEFGHIJKLMNOPQRSTUVWXY matches {*}}") (objectWith 1 (bytes "A") [] (attributeWith 2 2 (bytes "abcdefghijklmnopqrstuvwxyz_0123456789_ABCDEFGHIJKLMNOPQRSTUVWXY") any no_more))
+    ∷ accepts (bytes "A matches {abcdefghijklmnopqrstuvwxyz_0123456789_ABCDEFGHIJKLMNOPQRSTUVWXY matches {*}}") (object_with 1 (bytes "A") [] (attribute_with 2 2 (bytes "abcdefghijklmnopqrstuvwxyz_0123456789_ABCDEFGHIJKLMNOPQRSTUVWXY") any no_more))
     ∷ refuses (bytes "A matches {abcdefghijklmnopqrstuvwxyz_0123456789_ABCDEFGHIJKLMNOPQRSTUVWXYZ matches {*}}") 4 11
     ∷ refuses (bytes "A matches {abcdefghijklmnopqrstuvwxyz_0123456789_ABCDEFGHIJKLMNOPQRSTUVWXYZ matches {*} abcdefghijklmnopqrstuvwxyz_0123456789_ABCDEFGHIJKLMNOPQRSTUVWXYZ matches {*}}") 4 11
     ∷ refuses (bytes "A matches {abcdefghijklmnopqrstuvwxyz_0123456789_ABCDEFGHIJKLMNOPQRSTUVWXY matches {*} abcdefghijklmnopqrstuvwxyz_0123456789_ABCDEFGHIJKLMNOPQRSTUVWXY matches {*}}") 9 87
-    ∷ accepts (bytes "A matches {a matches {Abcdefghijklmnopqrstuvwxyz_0123456789_ABCDEFGHIJKLMNOPQRSTUVWXY matches {*}}}") (objectWith 1 (bytes "A") [] (attributeWith 2 2 (bytes "a") (nested (objectWith 3 (bytes "Abcdefghijklmnopqrstuvwxyz_0123456789_ABCDEFGHIJKLMNOPQRSTUVWXY") [] no_more)) no_more))
+    ∷ accepts (bytes "A matches {a matches {Abcdefghijklmnopqrstuvwxyz_0123456789_ABCDEFGHIJKLMNOPQRSTUVWXY matches {*}}}") (object_with 1 (bytes "A") [] (attribute_with 2 2 (bytes "a") (nested (object_with 3 (bytes "Abcdefghijklmnopqrstuvwxyz_0123456789_ABCDEFGHIJKLMNOPQRSTUVWXY") [] no_more)) no_more))
     ∷ refuses (bytes "A matches {a matches {Abcdefghijklmnopqrstuvwxyz_0123456789_ABCDEFGHIJKLMNOPQRSTUVWXYz matches {*}}}") 4 22
     -- strings of 255 bytes and of 256
-    ∷ accepts (bytes "A matches {a matches {\"xxxxxxxxxxxxxxxxxxxxxxxxxxxxxxxxxxxxxxxxxxxxxxxxxxxxxxxxxxxxxxxxxxxxxxxxxxxxxxxxxxxxxxxxxxxxxxxxxxxxxxxxxxxxxxxxxxxxxxxxxxxxxxxxxxxxxxxxxxxxxxxxxxxxxxxxxxxxxxxxxxxxxxxxxxxxxxxxxxxxxxxxxxxxxxxxxxxxxxxxxxxxxxxxxxxxxxxxxxxxxxxxxxxxxxxxxxxxxxxxxxxxxxxxxxxxxxx\"}}") (objectWith 1 (bytes "A") [] (attributeWith 2 2 (bytes "a") (leaf (texts (item 3 (bytes "xxxxxxxxxxxxxxxxxxxxxxxxxxxxxxxxxxxxxxxxxxxxxxxxxxxxxxxxxxxxxxxxxxxxxxxxxxxxxxxxxxxxxxxxxxxxxxxxxxxxxxxxxxxxxxxxxxxxxxxxxxxxxxxxxxxxxxxxxxxxxxxxxxxxxxxxxxxxxxxxxxxxxxxxxxxxxxxxxxxxxxxxxxxxxxxxxxxxxxxxxxxxxxxxxxxxxxxxxxxxxxxxxxxxxxxxxxxxxxxxxxxxxxxxxxxxxxx") ∷ []))) no_more))
+    ∷ accepts (bytes "A matches {a matches {\"xxxxxxxxxxxxxxxxxxxxxxxxxxxxxxxxxxxxxxxxxxxxxxxxxxxxxxxxxxxxxxxxxxxxxxxxxxxxxxxxxxxxxxxxxxxxxxxxxxxxxxxxxxxxxxxxxxxxxxxxxxxxxxxxxxxxxxxxxxxxxxxxxxxxxxxxxxxxxxxxxxxxxxxxxxxxxxxxxxxxxxxxxxxxxxxxxxxxxxxxxxxxxxxxxxxxxxxxxxxxxxxxxxxxxxxxxxxxxxxxxxxxxxxxxxxxxxx\"}}") (object_with 1 (bytes "A") [] (attribute_with 2 2 (bytes "a") (leaf (texts (item 3 (bytes "xxxxxxxxxxxxxxxxxxxxxxxxxxxxxxxxxxxxxxxxxxxxxxxxxxxxxxxxxxxxxxxxxxxxxxxxxxxxxxxxxxxxxxxxxxxxxxxxxxxxxxxxxxxxxxxxxxxxxxxxxxxxxxxxxxxxxxxxxxxxxxxxxxxxxxxxxxxxxxxxxxxxxxxxxxxxxxxxxxxxxxxxxxxxxxxxxxxxxxxxxxxxxxxxxxxxxxxxxxxxxxxxxxxxxxxxxxxxxxxxxxxxxxxxxxxxxxx") ∷ []))) no_more))
     ∷ refuses (bytes "A matches {a matches {\"xxxxxxxxxxxxxxxxxxxxxxxxxxxxxxxxxxxxxxxxxxxxxxxxxxxxxxxxxxxxxxxxxxxxxxxxxxxxxxxxxxxxxxxxxxxxxxxxxxxxxxxxxxxxxxxxxxxxxxxxxxxxxxxxxxxxxxxxxxxxxxxxxxxxxxxxxxxxxxxxxxxxxxxxxxxxxxxxxxxxxxxxxxxxxxxxxxxxxxxxxxxxxxxxxxxxxxxxxxxxxxxxxxxxxxxxxxxxxxxxxxxxxxxxxxxxxxxx\"}}") 4 22
     ∷ refuses (bytes "A matches {a matches {\"a\", \"xxxxxxxxxxxxxxxxxxxxxxxxxxxxxxxxxxxxxxxxxxxxxxxxxxxxxxxxxxxxxxxxxxxxxxxxxxxxxxxxxxxxxxxxxxxxxxxxxxxxxxxxxxxxxxxxxxxxxxxxxxxxxxxxxxxxxxxxxxxxxxxxxxxxxxxxxxxxxxxxxxxxxxxxxxxxxxxxxxxxxxxxxxxxxxxxxxxxxxxxxxxxxxxxxxxxxxxxxxxxxxxxxxxxxxxxxxxxxxxxxxxxxxxxxxxxxxxx\", \"a\"}}") 4 27
     -- 16 levels and the 17th, told at its TYPE
-    ∷ accepts (bytes "Aâ\u{88}\u{88}{aâ\u{88}\u{88}{Aâ\u{88}\u{88}{aâ\u{88}\u{88}{Aâ\u{88}\u{88}{aâ\u{88}\u{88}{Aâ\u{88}\u{88}{aâ\u{88}\u{88}{Aâ\u{88}\u{88}{aâ\u{88}\u{88}{Aâ\u{88}\u{88}{aâ\u{88}\u{88}{Aâ\u{88}\u{88}{aâ\u{88}\u{88}{Aâ\u{88}\u{88}{aâ\u{88}\u{88}{Aâ\u{88}\u{88}{aâ\u{88}\u{88}{Aâ\u{88}\u{88}{aâ\u{88}\u{88}{Aâ\u{88}\u{88}{aâ\u{88}\u{88}{Aâ\u{88}\u{88}{aâ\u{88}\u{88}{Aâ\u{88}\u{88}{aâ\u{88}\u{88}{Aâ\u{88}\u{88}{aâ\u{88}\u{88}{Aâ\u{88}\u{88}{aâ\u{88}\u{88}{A matches{*}}}}}}}}}}}}}}}}}}}}}}}}}}}}}}}") (objectWith 1 (bytes "A") [] (attributeWith 2 2 (bytes "a") (nested (objectWith 3 (bytes "A") [] (attributeWith 4 2 (bytes "a") (nested (objectWith 5 (bytes "A") [] (attributeWith 6 2 (bytes "a") (nested (objectWith 7 (bytes "A") [] (attributeWith 8 2 (bytes "a") (nested (objectWith 9 (bytes "A") [] (attributeWith 10 2 (bytes "a") (nested (objectWith 11 (bytes "A") [] (attributeWith 12 2 (bytes "a") (nested (objectWith 13 (bytes "A") [] (attributeWith 14 2 (bytes "a") (nested (objectWith 15 (bytes "A") [] (attributeWith 16 2 (bytes "a") (nested (objectWith 17 (bytes "A") [] (attributeWith 18 2 (bytes "a") (nested (objectWith 19 (bytes "A") [] (attributeWith 20 2 (bytes "a") (nested (objectWith 21 (bytes "A") [] (attributeWith 22 2 (bytes "a") (nested (objectWith 23 (bytes "A") [] (attributeWith 24 2 (bytes "a") (nested (objectWith 25 (bytes "A") [] (attributeWith 26 2 (bytes "a") (nested (objectWith 27 (bytes "A") [] (attributeWith 28 2 (bytes "a") (nested (objectWith 29 (bytes "A") [] (attributeWith 30 2 (bytes "a") (nested (objectWith 31 (bytes "A") [] no_more)) no_more))) no_more))) no_more))) no_more))) no_more))) no_more))) no_more))) no_more))) no_more))) no_more))) no_more))) no_more))) no_more))) no_more))) no_more))
-    ∷ accepts (bytes "Aâ\u{88}\u{88}{aâ\u{88}\u{88}{Aâ\u{88}\u{88}{aâ\u{88}\u{88}{Aâ\u{88}\u{88}{aâ\u{88}\u{88}{Aâ\u{88}\u{88}{aâ\u{88}\u{88}{Aâ\u{88}\u{88}{aâ\u{88}\u{88}{Aâ\u{88}\u{88}{aâ\u{88}\u{88}{Aâ\u{88}\u{88}{aâ\u{88}\u{88}{Aâ\u{88}\u{88}{aâ\u{88}\u{88}{Aâ\u{88}\u{88}{aâ\u{88}\u{88}{Aâ\u{88}\u{88}{aâ\u{88}\u{88}{Aâ\u{88}\u{88}{aâ\u{88}\u{88}{Aâ\u{88}\u{88}{aâ\u{88}\u{88}{Aâ\u{88}\u{88}{aâ\u{88}\u{88}{Aâ\u{88}\u{88}{aâ\u{88}\u{88}{Aâ\u{88}\u{88}{aâ\u{88}\u{88}{A matches{a matches{5}}}}}}}}}}}}}}}}}}}}}}}}}}}}}}}}") (objectWith 1 (bytes "A") [] (attributeWith 2 2 (bytes "a") (nested (objectWith 3 (bytes "A") [] (attributeWith 4 2 (bytes "a") (nested (objectWith 5 (bytes "A") [] (attributeWith 6 2 (bytes "a") (nested (objectWith 7 (bytes "A") [] (attributeWith 8 2 (bytes "a") (nested (objectWith 9 (bytes "A") [] (attributeWith 10 2 (bytes "a") (nested (objectWith 11 (bytes "A") [] (attributeWith 12 2 (bytes "a") (nested (objectWith 13 (bytes "A") [] (attributeWith 14 2 (bytes "a") (nested (objectWith 15 (bytes "A") [] (attributeWith 16 2 (bytes "a") (nested (objectWith 17 (bytes "A") [] (attributeWith 18 2 (bytes "a") (nested (objectWith 19 (bytes "A") [] (attributeWith 20 2 (bytes "a") (nested (objectWith 21 (bytes "A") [] (attributeWith 22 2 (bytes "a") (nested (objectWith 23 (bytes "A") [] (attributeWith 24 2 (bytes "a") (nested (objectWith 25 (bytes "A") [] (attributeWith 26 2 (bytes "a") (nested (objectWith 27 (bytes "A") [] (attributeWith 28 2 (bytes "a") (nested (objectWith 29 (bytes "A") [] (attributeWith 30 2 (bytes "a") (nested (objectWith 31 (bytes "A") [] (attributeWith 32 2 (bytes "a") (leaf (ranges integers (range 33 2_147_483_653 2_147_483_653 ∷ []))) no_more))) no_more))) no_more))) no_more))) no_more))) no_more))) no_more))) no_more))) no_more))) no_more))) no_more))) no_more))) no_more))) no_more))) no_more))) no_more))
+    ∷ accepts (bytes "Aâ\u{88}\u{88}{aâ\u{88}\u{88}{Aâ\u{88}\u{88}{aâ\u{88}\u{88}{Aâ\u{88}\u{88}{aâ\u{88}\u{88}{Aâ\u{88}\u{88}{aâ\u{88}\u{88}{Aâ\u{88}\u{88}{aâ\u{88}\u{88}{Aâ\u{88}\u{88}{aâ\u{88}\u{88}{Aâ\u{88}\u{88}{aâ\u{88}\u{88}{Aâ\u{88}\u{88}{aâ\u{88}\u{88}{Aâ\u{88}\u{88}{aâ\u{88}\u{88}{Aâ\u{88}\u{88}{aâ\u{88}\u{88}{Aâ\u{88}\u{88}{aâ\u{88}\u{88}{Aâ\u{88}\u{88}{aâ\u{88}\u{88}{Aâ\u{88}\u{88}{aâ\u{88}\u{88}{Aâ\u{88}\u{88}{aâ\u{88}\u{88}{Aâ\u{88}\u{88}{aâ\u{88}\u{88}{A matches{*}}}}}}}}}}}}}}}}}}}}}}}}}}}}}}}") (object_with 1 (bytes "A") [] (attribute_with 2 2 (bytes "a") (nested (object_with 3 (bytes "A") [] (attribute_with 4 2 (bytes "a") (nested (object_with 5 (bytes "A") [] (attribute_with 6 2 (bytes "a") (nested (object_with 7 (bytes "A") [] (attribute_with 8 2 (bytes "a") (nested (object_with 9 (bytes "A") [] (attribute_with 10 2 (bytes "a") (nested (object_with 11 (bytes "A") [] (attribute_with 12 2 (bytes "a") (nested (object_with 13 (bytes "A") [] (attribute_with 14 2 (bytes "a") (nested (object_with 15 (bytes "A") [] (attribute_with 16 2 (bytes "a") (nested (object_with 17 (bytes "A") [] (attribute_with 18 2 (bytes "a") (nested (object_with 19 (bytes "A") [] (attribute_with 20 2 (bytes "a") (nested (object_with 21 (bytes "A") [] (attribute_with 22 2 (bytes "a") (nested (object_with 23 (bytes "A") [] (attribute_with 24 2 (bytes "a") (nested (object_with 25 (bytes "A") [] (attribute_with 26 2 (bytes "a") (nested (object_with 27 (bytes "A") [] (attribute_with 28 2 (bytes "a") (nested (object_with 29 (bytes "A") [] (attribute_with 30 2 (bytes "a") (nested (object_with 31 (bytes "A") [] no_more)) no_more))) no_more))) no_more))) no_more))) no_more))) no_more))) no_more))) no_more))) no_more))) no_more))) no_more))) no_more))) no_more))) no_more))) no_more))
+    ∷ accepts (bytes "Aâ\u{88}\u{88}{aâ\u{88}\u{88}{Aâ\u{88}\u{88}{aâ\u{88}\u{88}{Aâ\u{88}\u{88}{aâ\u{88}\u{88}{Aâ\u{88}\u{88}{aâ\u{88}\u{88}{Aâ\u{88}\u{88}{aâ\u{88}\u{88}{Aâ\u{88}\u{88}{aâ\u{88}\u{88}{Aâ\u{88}\u{88}{aâ\u{88}\u{88}{Aâ\u{88}\u{88}{aâ\u{88}\u{88}{Aâ\u{88}\u{88}{aâ\u{88}\u{88}{Aâ\u{88}\u{88}{aâ\u{88}\u{88}{Aâ\u{88}\u{88}{aâ\u{88}\u{88}{Aâ\u{88}\u{88}{aâ\u{88}\u{88}{Aâ\u{88}\u{88}{aâ\u{88}\u{88}{Aâ\u{88}\u{88}{aâ\u{88}\u{88}{Aâ\u{88}\u{88}{aâ\u{88}\u{88}{A matches{a matches{5}}}}}}}}}}}}}}}}}}}}}}}}}}}}}}}}") (object_with 1 (bytes "A") [] (attribute_with 2 2 (bytes "a") (nested (object_with 3 (bytes "A") [] (attribute_with 4 2 (bytes "a") (nested (object_with 5 (bytes "A") [] (attribute_with 6 2 (bytes "a") (nested (object_with 7 (bytes "A") [] (attribute_with 8 2 (bytes "a") (nested (object_with 9 (bytes "A") [] (attribute_with 10 2 (bytes "a") (nested (object_with 11 (bytes "A") [] (attribute_with 12 2 (bytes "a") (nested (object_with 13 (bytes "A") [] (attribute_with 14 2 (bytes "a") (nested (object_with 15 (bytes "A") [] (attribute_with 16 2 (bytes "a") (nested (object_with 17 (bytes "A") [] (attribute_with 18 2 (bytes "a") (nested (object_with 19 (bytes "A") [] (attribute_with 20 2 (bytes "a") (nested (object_with 21 (bytes "A") [] (attribute_with 22 2 (bytes "a") (nested (object_with 23 (bytes "A") [] (attribute_with 24 2 (bytes "a") (nested (object_with 25 (bytes "A") [] (attribute_with 26 2 (bytes "a") (nested (object_with 27 (bytes "A") [] (attribute_with 28 2 (bytes "a") (nested (object_with 29 (bytes "A") [] (attribute_with 30 2 (bytes "a") (nested (object_with 31 (bytes "A") [] (attribute_with 32 2 (bytes "a") (leaf (ranges integers (range 33 2_147_483_653 2_147_483_653 ∷ []))) no_more))) no_more))) no_more))) no_more))) no_more))) no_more))) no_more))) no_more))) no_more))) no_more))) no_more))) no_more))) no_more))) no_more))) no_more))) no_more))
     ∷ refuses (bytes "Aâ\u{88}\u{88}{aâ\u{88}\u{88}{Aâ\u{88}\u{88}{aâ\u{88}\u{88}{Aâ\u{88}\u{88}{aâ\u{88}\u{88}{Aâ\u{88}\u{88}{aâ\u{88}\u{88}{Aâ\u{88}\u{88}{aâ\u{88}\u{88}{Aâ\u{88}\u{88}{aâ\u{88}\u{88}{Aâ\u{88}\u{88}{aâ\u{88}\u{88}{Aâ\u{88}\u{88}{aâ\u{88}\u{88}{Aâ\u{88}\u{88}{aâ\u{88}\u{88}{Aâ\u{88}\u{88}{aâ\u{88}\u{88}{Aâ\u{88}\u{88}{aâ\u{88}\u{88}{Aâ\u{88}\u{88}{aâ\u{88}\u{88}{Aâ\u{88}\u{88}{aâ\u{88}\u{88}{Aâ\u{88}\u{88}{aâ\u{88}\u{88}{Aâ\u{88}\u{88}{aâ\u{88}\u{88}{Aâ\u{88}\u{88}{aâ\u{88}\u{88}{A matches{*}}}}}}}}}}}}}}}}}}}}}}}}}}}}}}}}}") 3 160
-    ∷ accepts (bytes "Aâ\u{88}\u{88}{aâ\u{88}\u{88}{Aâ\u{88}\u{88}{aâ\u{88}\u{88}{Aâ\u{88}\u{88}{aâ\u{88}\u{88}{Aâ\u{88}\u{88}{aâ\u{88}\u{88}{Aâ\u{88}\u{88}{aâ\u{88}\u{88}{Aâ\u{88}\u{88}{aâ\u{88}\u{88}{Aâ\u{88}\u{88}{aâ\u{88}\u{88}{Aâ\u{88}\u{88}{aâ\u{88}\u{88}{Aâ\u{88}\u{88}{aâ\u{88}\u{88}{Aâ\u{88}\u{88}{aâ\u{88}\u{88}{Aâ\u{88}\u{88}{aâ\u{88}\u{88}{Aâ\u{88}\u{88}{aâ\u{88}\u{88}{Aâ\u{88}\u{88}{aâ\u{88}\u{88}{Aâ\u{88}\u{88}{aâ\u{88}\u{88}{Aâ\u{88}\u{88}{aâ\u{88}\u{88}{Aâ\u{88}\u{88}{aâ\u{88}\u{88}{5}}}}}}}}}}}}}}}}}}}}}}}}}}}}}}}}") (objectWith 1 (bytes "A") [] (attributeWith 2 2 (bytes "a") (nested (objectWith 3 (bytes "A") [] (attributeWith 4 2 (bytes "a") (nested (objectWith 5 (bytes "A") [] (attributeWith 6 2 (bytes "a") (nested (objectWith 7 (bytes "A") [] (attributeWith 8 2 (bytes "a") (nested (objectWith 9 (bytes "A") [] (attributeWith 10 2 (bytes "a") (nested (objectWith 11 (bytes "A") [] (attributeWith 12 2 (bytes "a") (nested (objectWith 13 (bytes "A") [] (attributeWith 14 2 (bytes "a") (nested (objectWith 15 (bytes "A") [] (attributeWith 16 2 (bytes "a") (nested (objectWith 17 (bytes "A") [] (attributeWith 18 2 (bytes "a") (nested (objectWith 19 (bytes "A") [] (attributeWith 20 2 (bytes "a") (nested (objectWith 21 (bytes "A") [] (attributeWith 22 2 (bytes "a") (nested (objectWith 23 (bytes "A") [] (attributeWith 24 2 (bytes "a") (nested (objectWith 25 (bytes "A") [] (attributeWith 26 2 (bytes "a") (nested (objectWith 27 (bytes "A") [] (attributeWith 28 2 (bytes "a") (nested (objectWith 29 (bytes "A") [] (attributeWith 30 2 (bytes "a") (nested (objectWith 31 (bytes "A") [] (attributeWith 32 2 (bytes "a") (leaf (ranges integers (range 33 2_147_483_653 2_147_483_653 ∷ []))) no_more))) no_more))) no_more))) no_more))) no_more))) no_more))) no_more))) no_more))) no_more))) no_more))) no_more))) no_more))) no_more))) no_more))) no_more))) no_more))
-    ∷ accepts (bytes "Aâ\u{88}\u{88}{aâ\u{88}\u{88}{Aâ\u{88}\u{88}{aâ\u{88}\u{88}{Aâ\u{88}\u{88}{aâ\u{88}\u{88}{Aâ\u{88}\u{88}{aâ\u{88}\u{88}{Aâ\u{88}\u{88}{aâ\u{88}\u{88}{Aâ\u{88}\u{88}{aâ\u{88}\u{88}{Aâ\u{88}\u{88}{aâ\u{88}\u{88}{Aâ\u{88}\u{88}{aâ\u{88}\u{88}{Aâ\u{88}\u{88}{aâ\u{88}\u{88}{Aâ\u{88}\u{88}{aâ\u{88}\u{88}{Aâ\u{88}\u{88}{aâ\u{88}\u{88}{Aâ\u{88}\u{88}{aâ\u{88}\u{88}{Aâ\u{88}\u{88}{aâ\u{88}\u{88}{Aâ\u{88}\u{88}{aâ\u{88}\u{88}{Aâ\u{88}\u{88}{aâ\u{88}\u{88}{Aâ\u{88}\u{88}{aâ\u{88}\u{88}{True}}}}}}}}}}}}}}}}}}}}}}}}}}}}}}}}") (objectWith 1 (bytes "A") [] (attributeWith 2 2 (bytes "a") (nested (objectWith 3 (bytes "A") [] (attributeWith 4 2 (bytes "a") (nested (objectWith 5 (bytes "A") [] (attributeWith 6 2 (bytes "a") (nested (objectWith 7 (bytes "A") [] (attributeWith 8 2 (bytes "a") (nested (objectWith 9 (bytes "A") [] (attributeWith 10 2 (bytes "a") (nested (objectWith 11 (bytes "A") [] (attributeWith 12 2 (bytes "a") (nested (objectWith 13 (bytes "A") [] (attributeWith 14 2 (bytes "a") (nested (objectWith 15 (bytes "A") [] (attributeWith 16 2 (bytes "a") (nested (objectWith 17 (bytes "A") [] (attributeWith 18 2 (bytes "a") (nested (objectWith 19 (bytes "A") [] (attributeWith 20 2 (bytes "a") (nested (objectWith 21 (bytes "A") [] (attributeWith 22 2 (bytes "a") (nested (objectWith 23 (bytes "A") [] (attributeWith 24 2 (bytes "a") (nested (objectWith 25 (bytes "A") [] (attributeWith 26 2 (bytes "a") (nested (objectWith 27 (bytes "A") [] (attributeWith 28 2 (bytes "a") (nested (objectWith 29 (bytes "A") [] (attributeWith 30 2 (bytes "a") (nested (objectWith 31 (bytes "A") [] (attributeWith 32 2 (bytes "a") (leaf (single booleans 33 1)) no_more))) no_more))) no_more))) no_more))) no_more))) no_more))) no_more))) no_more))) no_more))) no_more))) no_more))) no_more))) no_more))) no_more))) no_more))) no_more))
+    ∷ accepts (bytes "Aâ\u{88}\u{88}{aâ\u{88}\u{88}{Aâ\u{88}\u{88}{aâ\u{88}\u{88}{Aâ\u{88}\u{88}{aâ\u{88}\u{88}{Aâ\u{88}\u{88}{aâ\u{88}\u{88}{Aâ\u{88}\u{88}{aâ\u{88}\u{88}{Aâ\u{88}\u{88}{aâ\u{88}\u{88}{Aâ\u{88}\u{88}{aâ\u{88}\u{88}{Aâ\u{88}\u{88}{aâ\u{88}\u{88}{Aâ\u{88}\u{88}{aâ\u{88}\u{88}{Aâ\u{88}\u{88}{aâ\u{88}\u{88}{Aâ\u{88}\u{88}{aâ\u{88}\u{88}{Aâ\u{88}\u{88}{aâ\u{88}\u{88}{Aâ\u{88}\u{88}{aâ\u{88}\u{88}{Aâ\u{88}\u{88}{aâ\u{88}\u{88}{Aâ\u{88}\u{88}{aâ\u{88}\u{88}{Aâ\u{88}\u{88}{aâ\u{88}\u{88}{5}}}}}}}}}}}}}}}}}}}}}}}}}}}}}}}}") (object_with 1 (bytes "A") [] (attribute_with 2 2 (bytes "a") (nested (object_with 3 (bytes "A") [] (attribute_with 4 2 (bytes "a") (nested (object_with 5 (bytes "A") [] (attribute_with 6 2 (bytes "a") (nested (object_with 7 (bytes "A") [] (attribute_with 8 2 (bytes "a") (nested (object_with 9 (bytes "A") [] (attribute_with 10 2 (bytes "a") (nested (object_with 11 (bytes "A") [] (attribute_with 12 2 (bytes "a") (nested (object_with 13 (bytes "A") [] (attribute_with 14 2 (bytes "a") (nested (object_with 15 (bytes "A") [] (attribute_with 16 2 (bytes "a") (nested (object_with 17 (bytes "A") [] (attribute_with 18 2 (bytes "a") (nested (object_with 19 (bytes "A") [] (attribute_with 20 2 (bytes "a") (nested (object_with 21 (bytes "A") [] (attribute_with 22 2 (bytes "a") (nested (object_with 23 (bytes "A") [] (attribute_with 24 2 (bytes "a") (nested (object_with 25 (bytes "A") [] (attribute_with 26 2 (bytes "a") (nested (object_with 27 (bytes "A") [] (attribute_with 28 2 (bytes "a") (nested (object_with 29 (bytes "A") [] (attribute_with 30 2 (bytes "a") (nested (object_with 31 (bytes "A") [] (attribute_with 32 2 (bytes "a") (leaf (ranges integers (range 33 2_147_483_653 2_147_483_653 ∷ []))) no_more))) no_more))) no_more))) no_more))) no_more))) no_more))) no_more))) no_more))) no_more))) no_more))) no_more))) no_more))) no_more))) no_more))) no_more))) no_more))
+    ∷ accepts (bytes "Aâ\u{88}\u{88}{aâ\u{88}\u{88}{Aâ\u{88}\u{88}{aâ\u{88}\u{88}{Aâ\u{88}\u{88}{aâ\u{88}\u{88}{Aâ\u{88}\u{88}{aâ\u{88}\u{88}{Aâ\u{88}\u{88}{aâ\u{88}\u{88}{Aâ\u{88}\u{88}{aâ\u{88}\u{88}{Aâ\u{88}\u{88}{aâ\u{88}\u{88}{Aâ\u{88}\u{88}{aâ\u{88}\u{88}{Aâ\u{88}\u{88}{aâ\u{88}\u{88}{Aâ\u{88}\u{88}{aâ\u{88}\u{88}{Aâ\u{88}\u{88}{aâ\u{88}\u{88}{Aâ\u{88}\u{88}{aâ\u{88}\u{88}{Aâ\u{88}\u{88}{aâ\u{88}\u{88}{Aâ\u{88}\u{88}{aâ\u{88}\u{88}{Aâ\u{88}\u{88}{aâ\u{88}\u{88}{Aâ\u{88}\u{88}{aâ\u{88}\u{88}{True}}}}}}}}}}}}}}}}}}}}}}}}}}}}}}}}") (object_with 1 (bytes "A") [] (attribute_with 2 2 (bytes "a") (nested (object_with 3 (bytes "A") [] (attribute_with 4 2 (bytes "a") (nested (object_with 5 (bytes "A") [] (attribute_with 6 2 (bytes "a") (nested (object_with 7 (bytes "A") [] (attribute_with 8 2 (bytes "a") (nested (object_with 9 (bytes "A") [] (attribute_with 10 2 (bytes "a") (nested (object_with 11 (bytes "A") [] (attribute_with 12 2 (bytes "a") (nested (object_with 13 (bytes "A") [] (attribute_with 14 2 (bytes "a") (nested (object_with 15 (bytes "A") [] (attribute_with 16 2 (bytes "a") (nested (object_with 17 (bytes "A") [] (attribute_with 18 2 (bytes "a") (nested (object_with 19 (bytes "A") [] (attribute_with 20 2 (bytes "a") (nested (object_with 21 (bytes "A") [] (attribute_with 22 2 (bytes "a") (nested (object_with 23 (bytes "A") [] (attribute_with 24 2 (bytes "a") (nested (object_with 25 (bytes "A") [] (attribute_with 26 2 (bytes "a") (nested (object_with 27 (bytes "A") [] (attribute_with 28 2 (bytes "a") (nested (object_with 29 (bytes "A") [] (attribute_with 30 2 (bytes "a") (nested (object_with 31 (bytes "A") [] (attribute_with 32 2 (bytes "a") (leaf (single booleans 33 1)) no_more))) no_more))) no_more))) no_more))) no_more))) no_more))) no_more))) no_more))) no_more))) no_more))) no_more))) no_more))) no_more))) no_more))) no_more))) no_more))
     ∷ refuses (bytes "Aâ\u{88}\u{88}{aâ\u{88}\u{88}{Aâ\u{88}\u{88}{aâ\u{88}\u{88}{Aâ\u{88}\u{88}{aâ\u{88}\u{88}{Aâ\u{88}\u{88}{aâ\u{88}\u{88}{Aâ\u{88}\u{88}{aâ\u{88}\u{88}{Aâ\u{88}\u{88}{aâ\u{88}\u{88}{Aâ\u{88}\u{88}{aâ\u{88}\u{88}{Aâ\u{88}\u{88}{aâ\u{88}\u{88}{Aâ\u{88}\u{88}{aâ\u{88}\u{88}{Aâ\u{88}\u{88}{aâ\u{88}\u{88}{Aâ\u{88}\u{88}{aâ\u{88}\u{88}{Aâ\u{88}\u{88}{aâ\u{88}\u{88}{Aâ\u{88}\u{88}{aâ\u{88}\u{88}{Aâ\u{88}\u{88}{aâ\u{88}\u{88}{Aâ\u{88}\u{88}{aâ\u{88}\u{88}{Aâ\u{88}\u{88}{aâ\u{88}\u{88}{Abcdefghijklmnopqrstuvwxyz_0123456789_ABCDEFGHIJKLMNOPQRSTUVWXYZ matches{*}}}}}}}}}}}}}}}}}}}}}}}}}}}}}}}}}") 3 160
     ∷ refuses (bytes "Aâ\u{88}\u{88}{aâ\u{88}\u{88}{Aâ\u{88}\u{88}{aâ\u{88}\u{88}{Aâ\u{88}\u{88}{aâ\u{88}\u{88}{Aâ\u{88}\u{88}{aâ\u{88}\u{88}{Aâ\u{88}\u{88}{aâ\u{88}\u{88}{Aâ\u{88}\u{88}{aâ\u{88}\u{88}{Aâ\u{88}\u{88}{aâ\u{88}\u{88}{Aâ\u{88}\u{88}{aâ\u{88}\u{88}{Aâ\u{88}\u{88}{aâ\u{88}\u{88}{Aâ\u{88}\u{88}{aâ\u{88}\u{88}{Aâ\u{88}\u{88}{aâ\u{88}\u{88}{Aâ\u{88}\u{88}{aâ\u{88}\u{88}{Aâ\u{88}\u{88}{aâ\u{88}\u{88}{Aâ\u{88}\u{88}{aâ\u{88}\u{88}{Aâ\u{88}\u{88}{aâ\u{88}\u{88}{Aâ\u{88}\u{88}{aâ\u{88}\u{88}{B") 3 160
     ∷ refuses (bytes "Aâ\u{88}\u{88}{aâ\u{88}\u{88}{Aâ\u{88}\u{88}{aâ\u{88}\u{88}{Aâ\u{88}\u{88}{aâ\u{88}\u{88}{Aâ\u{88}\u{88}{aâ\u{88}\u{88}{Aâ\u{88}\u{88}{aâ\u{88}\u{88}{Aâ\u{88}\u{88}{aâ\u{88}\u{88}{Aâ\u{88}\u{88}{aâ\u{88}\u{88}{Aâ\u{88}\u{88}{aâ\u{88}\u{88}{Aâ\u{88}\u{88}{aâ\u{88}\u{88}{Aâ\u{88}\u{88}{aâ\u{88}\u{88}{Aâ\u{88}\u{88}{aâ\u{88}\u{88}{Aâ\u{88}\u{88}{aâ\u{88}\u{88}{Aâ\u{88}\u{88}{aâ\u{88}\u{88}{Aâ\u{88}\u{88}{aâ\u{88}\u{88}{Aâ\u{88}\u{88}{aâ\u{88}\u{88}{Aâ\u{88}\u{88}{aâ\u{88}\u{88}{b") 2 160
-    ∷ accepts (bytes "Aâ\u{88}\u{88}{aâ\u{88}\u{88}{Aâ\u{88}\u{88}{aâ\u{88}\u{88}{Aâ\u{88}\u{88}{aâ\u{88}\u{88}{Aâ\u{88}\u{88}{aâ\u{88}\u{88}{Aâ\u{88}\u{88}{aâ\u{88}\u{88}{Aâ\u{88}\u{88}{aâ\u{88}\u{88}{Aâ\u{88}\u{88}{aâ\u{88}\u{88}{Aâ\u{88}\u{88}{aâ\u{88}\u{88}{Aâ\u{88}\u{88}{aâ\u{88}\u{88}{Aâ\u{88}\u{88}{aâ\u{88}\u{88}{Aâ\u{88}\u{88}{aâ\u{88}\u{88}{Aâ\u{88}\u{88}{aâ\u{88}\u{88}{Aâ\u{88}\u{88}{aâ\u{88}\u{88}{Aâ\u{88}\u{88}{aâ\u{88}\u{88}{Aâ\u{88}\u{88}{aâ\u{88}\u{88}{Aâ\u{88}\u{88}{aâ\u{88}\u{88}{Pd}}}}}}}}}}}}}}}}}}}}}}}}}}}}}}}}") (objectWith 1 (bytes "A") [] (attributeWith 2 2 (bytes "a") (nested (objectWith 3 (bytes "A") [] (attributeWith 4 2 (bytes "a") (nested (objectWith 5 (bytes "A") [] (attributeWith 6 2 (bytes "a") (nested (objectWith 7 (bytes "A") [] (attributeWith 8 2 (bytes "a") (nested (objectWith 9 (bytes "A") [] (attributeWith 10 2 (bytes "a") (nested (objectWith 11 (bytes "A") [] (attributeWith 12 2 (bytes "a") (nested (objectWith 13 (bytes "A") [] (attributeWith 14 2 (bytes "a") (nested (objectWith 15 (bytes "A") [] (attributeWith 16 2 (bytes "a") (nested (objectWith 17 (bytes "A") [] (attributeWith 18 2 (bytes "a") (nested (objectWith 19 (bytes "A") [] (attributeWith 20 2 (bytes "a") (nested (objectWith 21 (bytes "A") [] (attributeWith 22 2 (bytes "a") (nested (objectWith 23 (bytes "A") [] (attributeWith 24 2 (bytes "a") (nested (objectWith 25 (bytes "A") [] (attributeWith 26 2 (bytes "a") (nested (objectWith 27 (bytes "A") [] (attributeWith 28 2 (bytes "a") (nested (objectWith 29 (bytes "A") [] (attributeWith 30 2 (bytes "a") (nested (objectWith 31 (bytes "A") [] (attributeWith 32 2 (bytes "a") (leaf (single durationPattern 33 8)) no_more))) no_more))) no_more))) no_more))) no_more))) no_more))) no_more))) no_more))) no_more))) no_more))) no_more))) no_more))) no_more))) no_more))) no_more))) no_more))
-    ∷ accepts (bytes "Aâ\u{88}\u{88}{aâ\u{88}\u{88}{Aâ\u{88}\u{88}{aâ\u{88}\u{88}{Aâ\u{88}\u{88}{aâ\u{88}\u{88}{Aâ\u{88}\u{88}{aâ\u{88}\u{88}{Aâ\u{88}\u{88}{aâ\u{88}\u{88}{Aâ\u{88}\u{88}{aâ\u{88}\u{88}{Aâ\u{88}\u{88}{aâ\u{88}\u{88}{Aâ\u{88}\u{88}{aâ\u{88}\u{88}{Aâ\u{88}\u{88}{aâ\u{88}\u{88}{Aâ\u{88}\u{88}{aâ\u{88}\u{88}{Aâ\u{88}\u{88}{aâ\u{88}\u{88}{Aâ\u{88}\u{88}{aâ\u{88}\u{88}{Aâ\u{88}\u{88}{aâ\u{88}\u{88}{Aâ\u{88}\u{88}{aâ\u{88}\u{88}{Aâ\u{88}\u{88}{aâ\u{88}\u{88}{Aâ\u{88}\u{88}{aâ\u{88}\u{88}{Pd--}\n}}}}}}}}}}}}}}}}}}}}}}}}}}}}}}}}") (objectWith 1 (bytes "A") [] (attributeWith 2 2 (bytes "a") (nested (objectWith 3 (bytes "A") [] (attributeWith 4 2 (bytes "a") (nested (objectWith 5 (bytes "A") [] (attributeWith 6 2 (bytes "a") (nested (objectWith 7 (bytes "A") [] (attributeWith 8 2 (bytes "a") (nested (objectWith 9 (bytes "A") [] (attributeWith 10 2 (bytes "a") (nested (objectWith 11 (bytes "A") [] (attributeWith 12 2 (bytes "a") (nested (objectWith 13 (bytes "A") [] (attributeWith 14 2 (bytes "a") (nested (objectWith 15 (bytes "A") [] (attributeWith 16 2 (bytes "a") (nested (objectWith 17 (bytes "A") [] (attributeWith 18 2 (bytes "a") (nested (objectWith 19 (bytes "A") [] (attributeWith 20 2 (bytes "a") (nested (objectWith 21 (bytes "A") [] (attributeWith 22 2 (bytes "a") (nested (objectWith 23 (bytes "A") [] (attributeWith 24 2 (bytes "a") (nested (objectWith 25 (bytes "A") [] (attributeWith 26 2 (bytes "a") (nested (objectWith 27 (bytes "A") [] (attributeWith 28 2 (bytes "a") (nested (objectWith 29 (bytes "A") [] (attributeWith 30 2 (bytes "a") (nested (objectWith 31 (bytes "A") [] (attributeWith 32 2 (bytes "a") (leaf (single durationPattern 33 8)) no_more))) no_more))) no_more))) no_more))) no_more))) no_more))) no_more))) no_more))) no_more))) no_more))) no_more))) no_more))) no_more))) no_more))) no_more))) no_more))
+    ∷ accepts (bytes "Aâ\u{88}\u{88}{aâ\u{88}\u{88}{Aâ\u{88}\u{88}{aâ\u{88}\u{88}{Aâ\u{88}\u{88}{aâ\u{88}\u{88}{Aâ\u{88}\u{88}{aâ\u{88}\u{88}{Aâ\u{88}\u{88}{aâ\u{88}\u{88}{Aâ\u{88}\u{88}{aâ\u{88}\u{88}{Aâ\u{88}\u{88}{aâ\u{88}\u{88}{Aâ\u{88}\u{88}{aâ\u{88}\u{88}{Aâ\u{88}\u{88}{aâ\u{88}\u{88}{Aâ\u{88}\u{88}{aâ\u{88}\u{88}{Aâ\u{88}\u{88}{aâ\u{88}\u{88}{Aâ\u{88}\u{88}{aâ\u{88}\u{88}{Aâ\u{88}\u{88}{aâ\u{88}\u{88}{Aâ\u{88}\u{88}{aâ\u{88}\u{88}{Aâ\u{88}\u{88}{aâ\u{88}\u{88}{Aâ\u{88}\u{88}{aâ\u{88}\u{88}{Pd}}}}}}}}}}}}}}}}}}}}}}}}}}}}}}}}") (object_with 1 (bytes "A") [] (attribute_with 2 2 (bytes "a") (nested (object_with 3 (bytes "A") [] (attribute_with 4 2 (bytes "a") (nested (object_with 5 (bytes "A") [] (attribute_with 6 2 (bytes "a") (nested (object_with 7 (bytes "A") [] (attribute_with 8 2 (bytes "a") (nested (object_with 9 (bytes "A") [] (attribute_with 10 2 (bytes "a") (nested (object_with 11 (bytes "A") [] (attribute_with 12 2 (bytes "a") (nested (object_with 13 (bytes "A") [] (attribute_with 14 2 (bytes "a") (nested (object_with 15 (bytes "A") [] (attribute_with 16 2 (bytes "a") (nested (object_with 17 (bytes "A") [] (attribute_with 18 2 (bytes "a") (nested (object_with 19 (bytes "A") [] (attribute_with 20 2 (bytes "a") (nested (object_with 21 (bytes "A") [] (attribute_with 22 2 (bytes "a") (nested (object_with 23 (bytes "A") [] (attribute_with 24 2 (bytes "a") (nested (object_with 25 (bytes "A") [] (attribute_with 26 2 (bytes "a") (nested (object_with 27 (bytes "A") [] (attribute_with 28 2 (bytes "a") (nested (object_with 29 (bytes "A") [] (attribute_with 30 2 (bytes "a") (nested (object_with 31 (bytes "A") [] (attribute_with 32 2 (bytes "a") (leaf (single duration_pattern 33 8)) no_more))) no_more))) no_more))) no_more))) no_more))) no_more))) no_more))) no_more))) no_more))) no_more))) no_more))) no_more))) no_more))) no_more))) no_more))) no_more))
+    ∷ accepts (bytes "Aâ\u{88}\u{88}{aâ\u{88}\u{88}{Aâ\u{88}\u{88}{aâ\u{88}\u{88}{Aâ\u{88}\u{88}{aâ\u{88}\u{88}{Aâ\u{88}\u{88}{aâ\u{88}\u{88}{Aâ\u{88}\u{88}{aâ\u{88}\u{88}{Aâ\u{88}\u{88}{aâ\u{88}\u{88}{Aâ\u{88}\u{88}{aâ\u{88}\u{88}{Aâ\u{88}\u{88}{aâ\u{88}\u{88}{Aâ\u{88}\u{88}{aâ\u{88}\u{88}{Aâ\u{88}\u{88}{aâ\u{88}\u{88}{Aâ\u{88}\u{88}{aâ\u{88}\u{88}{Aâ\u{88}\u{88}{aâ\u{88}\u{88}{Aâ\u{88}\u{88}{aâ\u{88}\u{88}{Aâ\u{88}\u{88}{aâ\u{88}\u{88}{Aâ\u{88}\u{88}{aâ\u{88}\u{88}{Aâ\u{88}\u{88}{aâ\u{88}\u{88}{Pd--}\n}}}}}}}}}}}}}}}}}}}}}}}}}}}}}}}}") (object_with 1 (bytes "A") [] (attribute_with 2 2 (bytes "a") (nested (object_with 3 (bytes "A") [] (attribute_with 4 2 (bytes "a") (nested (object_with 5 (bytes "A") [] (attribute_with 6 2 (bytes "a") (nested (object_with 7 (bytes "A") [] (attribute_with 8 2 (bytes "a") (nested (object_with 9 (bytes "A") [] (attribute_with 10 2 (bytes "a") (nested (object_with 11 (bytes "A") [] (attribute_with 12 2 (bytes "a") (nested (object_with 13 (bytes "A") [] (attribute_with 14 2 (bytes "a") (nested (object_with 15 (bytes "A") [] (attribute_with 16 2 (bytes "a") (nested (object_with 17 (bytes "A") [] (attribute_with 18 2 (bytes "a") (nested (object_with 19 (bytes "A") [] (attribute_with 20 2 (bytes "a") (nested (object_with 21 (bytes "A") [] (attribute_with 22 2 (bytes "a") (nested (object_with 23 (bytes "A") [] (attribute_with 24 2 (bytes "a") (nested (object_with 25 (bytes "A") [] (attribute_with 26 2 (bytes "a") (nested (object_with 27 (bytes "A") [] (attribute_with 28 2 (bytes "a") (nested (object_with 29 (bytes "A") [] (attribute_with 30 2 (bytes "a") (nested (object_with 31 (bytes "A") [] (attribute_with 32 2 (bytes "a") (leaf (single duration_pattern 33 8)) no_more))) no_more))) no_more))) no_more))) no_more))) no_more))) no_more))) no_more))) no_more))) no_more))) no_more))) no_more))) no_more))) no_more))) no_more))) no_more))
     ∷ refuses (bytes "Aâ\u{88}\u{88}{aâ\u{88}\u{88}{Aâ\u{88}\u{88}{aâ\u{88}\u{88}{Aâ\u{88}\u{88}{aâ\u{88}\u{88}{Aâ\u{88}\u{88}{aâ\u{88}\u{88}{Aâ\u{88}\u{88}{aâ\u{88}\u{88}{Aâ\u{88}\u{88}{aâ\u{88}\u{88}{Aâ\u{88}\u{88}{aâ\u{88}\u{88}{Aâ\u{88}\u{88}{aâ\u{88}\u{88}{Aâ\u{88}\u{88}{aâ\u{88}\u{88}{Aâ\u{88}\u{88}{aâ\u{88}\u{88}{Aâ\u{88}\u{88}{aâ\u{88}\u{88}{Aâ\u{88}\u{88}{aâ\u{88}\u{88}{Aâ\u{88}\u{88}{aâ\u{88}\u{88}{Aâ\u{88}\u{88}{aâ\u{88}\u{88}{Aâ\u{88}\u{88}{aâ\u{88}\u{88}{Aâ\u{88}\u{88}{aâ\u{88}\u{88}{PD}}}}}}}}}}}}}}}}}}}}}}}}}}}}}}}}") 3 160
     ∷ refuses (bytes "Aâ\u{88}\u{88}{aâ\u{88}\u{88}{Aâ\u{88}\u{88}{aâ\u{88}\u{88}{Aâ\u{88}\u{88}{aâ\u{88}\u{88}{Aâ\u{88}\u{88}{aâ\u{88}\u{88}{Aâ\u{88}\u{88}{aâ\u{88}\u{88}{Aâ\u{88}\u{88}{aâ\u{88}\u{88}{Aâ\u{88}\u{88}{aâ\u{88}\u{88}{Aâ\u{88}\u{88}{aâ\u{88}\u{88}{Aâ\u{88}\u{88}{aâ\u{88}\u{88}{Aâ\u{88}\u{88}{aâ\u{88}\u{88}{Aâ\u{88}\u{88}{aâ\u{88}\u{88}{Aâ\u{88}\u{88}{aâ\u{88}\u{88}{Aâ\u{88}\u{88}{aâ\u{88}\u{88}{Aâ\u{88}\u{88}{aâ\u{88}\u{88}{Aâ\u{88}\u{88}{aâ\u{88}\u{88}{Aâ\u{88}\u{88}{aâ\u{88}\u{88}{Pd matches{*}}}}}}}}}}}}}}}}}}}}}}}}}}}}}}}}}") 3 160
     ∷ refuses (bytes "Aâ\u{88}\u{88}{aâ\u{88}\u{88}{Aâ\u{88}\u{88}{aâ\u{88}\u{88}{Aâ\u{88}\u{88}{aâ\u{88}\u{88}{Aâ\u{88}\u{88}{aâ\u{88}\u{88}{Aâ\u{88}\u{88}{aâ\u{88}\u{88}{Aâ\u{88}\u{88}{aâ\u{88}\u{88}{Aâ\u{88}\u{88}{aâ\u{88}\u{88}{Aâ\u{88}\u{88}{aâ\u{88}\u{88}{Aâ\u{88}\u{88}{aâ\u{88}\u{88}{Aâ\u{88}\u{88}{aâ\u{88}\u{88}{Aâ\u{88}\u{88}{aâ\u{88}\u{88}{Aâ\u{88}\u{88}{aâ\u{88}\u{88}{Aâ\u{88}\u{88}{aâ\u{88}\u{88}{Aâ\u{88}\u{88}{aâ\u{88}\u{88}{Aâ\u{88}\u{88}{aâ\u{88}\u{88}{Aâ\u{88}\u{88}{aâ\u{88}\u{88}{Pd") 3 160
@@ -236,5 +236,5 @@ cases =
     ∷ []
 
 pub none-wrong : wrong right 0 cases ≡ []
-unfolding wrong right cases objectList constraintComputes
+unfolding wrong right cases object_list constraint_computes
 none-wrong = refl

@@ -6,7 +6,7 @@ use mathlib.Core.List.{List, [], ◌∷◌}
 use Rattle.lexis.specs.Text.{bytes}
 use Rattle.lexis.proofs.Tables.{wrong}
 use Rattle.table.proofs.Hex.{hex, filling}
-use Rattle.compile.proofs.Computes.{compileComputes}
+use Rattle.compile.proofs.Computes.{compile_computes}
 use Rattle.compile.proofs.Examples.{Case, compiles, refuses, right}
 
 pub cases : List Case
@@ -77,5 +77,5 @@ cases =
     ∷ []
 
 pub none-wrong : wrong right 0 cases ≡ []
-unfolding wrong right cases compileComputes
+unfolding wrong right cases compile_computes
 none-wrong = refl

@@ -7,8 +7,8 @@ use lib.ListN.{replicate}
 use Rattle.lexis.specs.Text.{bytes}
 use Rattle.lexis.proofs.Tables.{wrong}
 use Rattle.meaning.specs.Data.{datum, no_more, member, string, word, block}
-use Rattle.meaning.proofs.Trees.{datumList}
-use Rattle.dadl.proofs.Computes.{dataComputes}
+use Rattle.meaning.proofs.Trees.{datum_list}
+use Rattle.dadl.proofs.Computes.{data_computes}
 use Rattle.dadl.proofs.Examples.{Case, accepts, refuses, right}
 
 pub cases : List Case
@@ -420,5 +420,5 @@ cases =
     ∷ []
 
 pub none-wrong : wrong right 0 cases ≡ []
-unfolding wrong right cases datumList dataComputes
+unfolding wrong right cases datum_list data_computes
 none-wrong = refl

@@ -6,7 +6,7 @@ use Rattle.lexis.specs.Text.{bytes}
 use Rattle.lexis.proofs.Tables.{wrong}
 use Rattle.meaning.specs.Verdicts.{valid, fails}
 use Rattle.table.proofs.Hex.{hex}
-use Rattle.judge.proofs.Computes.{judgeComputes}
+use Rattle.judge.proofs.Computes.{judge_computes}
 use Rattle.judge.proofs.Examples.{Case, judges, refuses, right}
 
 pub cases : List Case
@@ -115,5 +115,5 @@ cases =
     ∷ []
 
 pub none-wrong : wrong right 0 cases ≡ []
-unfolding wrong right cases judgeComputes
+unfolding wrong right cases judge_computes
 none-wrong = refl

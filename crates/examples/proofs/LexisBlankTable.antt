@@ -4,8 +4,8 @@ use mathlib.Core.Path.{◌≡◌, refl}
 use mathlib.Core.List.{List, [], ◌∷◌}
 use Rattle.lexis.specs.Text.{bytes}
 use Rattle.lexis.proofs.Tables.{wrong}
-use Rattle.lexis.proofs.Computes.{lexisComputes}
-use Rattle.lexis.proofs.Examples.{BlankCase, starts, blankRight}
+use Rattle.lexis.proofs.Computes.{lexis_computes}
+use Rattle.lexis.proofs.Examples.{BlankCase, starts, blank_right}
 
 pub cases : List BlankCase
 cases =
@@ -206,6 +206,6 @@ cases =
     ∷ starts (bytes "<!--x") 6 6
     ∷ []
 
-pub none-wrong : wrong blankRight 0 cases ≡ []
-unfolding wrong blankRight cases lexisComputes
+pub none-wrong : wrong blank_right 0 cases ≡ []
+unfolding wrong blank_right cases lexis_computes
 none-wrong = refl

@@ -5,9 +5,9 @@ use mathlib.Core.Bool.{true, false}
 use mathlib.Core.List.{List, [], ◌∷◌, ◌++◌}
 use lib.ListN.{replicate}
 use Rattle.lexis.proofs.Tables.{wrong}
-use Rattle.table.proofs.Computes.{tableComputes}
+use Rattle.table.proofs.Computes.{table_computes}
 use Rattle.table.proofs.Hex.{hex}
-use Rattle.table.proofs.Examples.{CheckCase, passes, refuses, rewrites, checkRight}
+use Rattle.table.proofs.Examples.{CheckCase, passes, refuses, rewrites, check_right}
 
 pub cases : List CheckCase
 cases =
@@ -173,6 +173,6 @@ cases =
     ∷ refuses (hex "ADC00000 0A000000 02000000 03000000 00000000 00000000 C0AD0500 00000000 00000002 00000000 00000000 00000000 ADC00200 01000000 01000000 00000000 00000000 00000000 C0AD0100 00000000 00000001 00000001 00000001 00000004 ADC00202 01000000 01000000 05000000 00000000 00000000 C0AD0A03 00000000 00000000 00000000 00000000 00000000 ADC00100 00000000 02000000 00000000 00000000 00000000 C0AD0700 0131CA25 0131CA6D 00000000 00000000 00000000 ADC00302 00000000 00000000 00000000 00000000 00000000 C0AD0928 00000000 00000000 00000000 00000000 00000000 4161") 13 4
     ∷ []
 
-pub none-wrong : wrong checkRight 0 cases ≡ []
-unfolding wrong checkRight cases tableComputes
+pub none-wrong : wrong check_right 0 cases ≡ []
+unfolding wrong check_right cases table_computes
 none-wrong = refl

@@ -5,9 +5,9 @@ use mathlib.Core.Bool.{true, false}
 use mathlib.Core.List.{List, [], ◌∷◌, ◌++◌}
 use lib.ListN.{replicate}
 use Rattle.lexis.proofs.Tables.{wrong}
-use Rattle.table.proofs.Computes.{tableComputes}
+use Rattle.table.proofs.Computes.{table_computes}
 use Rattle.table.proofs.Hex.{hex}
-use Rattle.table.proofs.Examples.{CheckCase, passes, refuses, rewrites, checkRight}
+use Rattle.table.proofs.Examples.{CheckCase, passes, refuses, rewrites, check_right}
 
 pub cases : List CheckCase
 cases =
@@ -478,6 +478,6 @@ cases =
     ∷ refuses (hex "C0AD0000 00000003 00000002 00000001 00000000 00000000 C0AD0100 00000000 00000001 00000000 00000000 00000000 ADC00908 00000000 00000000 00000000 00000000 01000000 4161") 13 2
     ∷ []
 
-pub none-wrong : wrong checkRight 0 cases ≡ []
-unfolding wrong checkRight cases tableComputes
+pub none-wrong : wrong check_right 0 cases ≡ []
+unfolding wrong check_right cases table_computes
 none-wrong = refl

@@ -5,9 +5,9 @@ use mathlib.Core.Bool.{true, false}
 use mathlib.Core.List.{List, [], ◌∷◌, ◌++◌}
 use lib.ListN.{replicate}
 use Rattle.lexis.proofs.Tables.{wrong}
-use Rattle.table.proofs.Computes.{tableComputes}
+use Rattle.table.proofs.Computes.{table_computes}
 use Rattle.table.proofs.Hex.{hex}
-use Rattle.table.proofs.Examples.{CheckCase, passes, refuses, rewrites, checkRight}
+use Rattle.table.proofs.Examples.{CheckCase, passes, refuses, rewrites, check_right}
 
 pub cases : List CheckCase
 cases =
@@ -114,6 +114,6 @@ cases =
     ∷ refuses (hex "ADC00000 0F000000 18000000 01000000 00000000 00000000 ADC00100 00000000 03000000 03000000 08000000 02000000 ADC00201 0B820000 01000000 03000000 06000000 00000000 ADC00400 B83B56B2 B83B56B2 00000000 00000000 04000000 ADC00400 BD3B56B2 FFFFFF7F 00000000 00000000 05000000 ADC00400 BB3B56B2 BB3B56B2 00000000 00000000 00000000 ADC00201 0C000000 02000000 07000000 0A000000 00000000 ADC00400 D7FFFF7F D7FFFF7F 00000000 00000000 08000000 ADC00400 FAFFFF7F FAFFFF7F 00000000 00000000 09000000 ADC00400 F7FFFF7F F8FFFF7F 00000000 00000000 00000000 ADC00202 0E000000 08000000 0B000000 0C000000 00000000 ADC00602 00000000 00000000 00000000 00000000 00000000 ADC00202 16000000 02000000 0D000000 00000000 00000000 ADC00700 68000000 71000000 00000000 00000000 0E000000 ADC00700 65000000 65000000 00000000 00000000 00000000 415F6261 74303030 312E3162 61316578 69737465 6E636E33") 13 2
     ∷ []
 
-pub none-wrong : wrong checkRight 0 cases ≡ []
-unfolding wrong checkRight cases tableComputes
+pub none-wrong : wrong check_right 0 cases ≡ []
+unfolding wrong check_right cases table_computes
 none-wrong = refl

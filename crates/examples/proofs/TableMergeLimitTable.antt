@@ -4,30 +4,30 @@ use mathlib.Core.Path.{◌≡◌, refl}
 use mathlib.Core.Bool.{true, false}
 use mathlib.Core.List.{List, [], ◌∷◌}
 use Rattle.lexis.proofs.Tables.{wrong}
-use Rattle.table_merge.proofs.Computes.{mergeComputes}
-use Rattle.table_merge.proofs.Examples.{JoinCase, joinRefuses, joinRight}
+use Rattle.table_merge.proofs.Computes.{merge_computes}
+use Rattle.table_merge.proofs.Examples.{JoinCase, join_refuses, join_right}
 
 pub cases : List JoinCase
 cases =
     -- 8 before 10 before 11, each at its edge; an output of ten bytes is kept
-    joinRefuses 1024 1 1024 1 false 10 8 0
-    ∷ joinRefuses 1024 1 1023 1 true 10 11 49_154
-    ∷ joinRefuses 1023 1 1024 1 false 10 11 49_154
-    ∷ joinRefuses 2047 1 1 1 true 10 8 0
-    ∷ joinRefuses 2046 1 1 1 false 10 11 49_154
-    ∷ joinRefuses 1 1 2047 1 true 10 8 0
-    ∷ joinRefuses 1 1 2046 1 false 10 11 49_154
-    ∷ joinRefuses 1 16_384 1 1 true 10 10 0
-    ∷ joinRefuses 1 16_383 1 1 false 10 11 16_456
-    ∷ joinRefuses 1 1 1 16_384 true 10 10 0
-    ∷ joinRefuses 1 1 1 16_383 false 10 11 16_456
-    ∷ joinRefuses 1 8193 2 8192 true 10 10 0
-    ∷ joinRefuses 2 8192 1 8192 false 10 11 16_480
-    ∷ joinRefuses 2047 16_384 1 1 true 10 8 0
-    ∷ joinRefuses 2046 16_384 1 1 false 10 10 0
-    ∷ joinRefuses 1 1 1 1 true 10 11 74
+    join_refuses 1024 1 1024 1 false 10 8 0
+    ∷ join_refuses 1024 1 1023 1 true 10 11 49_154
+    ∷ join_refuses 1023 1 1024 1 false 10 11 49_154
+    ∷ join_refuses 2047 1 1 1 true 10 8 0
+    ∷ join_refuses 2046 1 1 1 false 10 11 49_154
+    ∷ join_refuses 1 1 2047 1 true 10 8 0
+    ∷ join_refuses 1 1 2046 1 false 10 11 49_154
+    ∷ join_refuses 1 16_384 1 1 true 10 10 0
+    ∷ join_refuses 1 16_383 1 1 false 10 11 16_456
+    ∷ join_refuses 1 1 1 16_384 true 10 10 0
+    ∷ join_refuses 1 1 1 16_383 false 10 11 16_456
+    ∷ join_refuses 1 8193 2 8192 true 10 10 0
+    ∷ join_refuses 2 8192 1 8192 false 10 11 16_480
+    ∷ join_refuses 2047 16_384 1 1 true 10 8 0
+    ∷ join_refuses 2046 16_384 1 1 false 10 10 0
+    ∷ join_refuses 1 1 1 1 true 10 11 74
     ∷ []
 
-pub none-wrong : wrong joinRight 0 cases ≡ []
-unfolding wrong joinRight cases mergeComputes
+pub none-wrong : wrong join_right 0 cases ≡ []
+unfolding wrong join_right cases merge_computes
 none-wrong = refl

@@ -5,7 +5,7 @@ use mathlib.Core.Bool.{true, false}
 use mathlib.Core.List.{List, [], ◌∷◌}
 use Rattle.lexis.proofs.Tables.{wrong}
 use Rattle.table.proofs.Hex.{hex, filling}
-use Rattle.table_merge.proofs.Computes.{mergeComputes}
+use Rattle.table_merge.proofs.Computes.{merge_computes}
 use Rattle.table_merge.proofs.Examples.{Case, merges, refuses, right}
 
 pub cases : List Case
@@ -74,5 +74,5 @@ cases =
     ∷ []
 
 pub none-wrong : wrong right 0 cases ≡ []
-unfolding wrong right cases mergeComputes
+unfolding wrong right cases merge_computes
 none-wrong = refl

@@ -4,9 +4,9 @@ use mathlib.Core.Path.{◌≡◌, refl}
 use mathlib.Core.Bool.{true, false}
 use mathlib.Core.List.{List, [], ◌∷◌}
 use Rattle.lexis.proofs.Tables.{wrong}
-use Rattle.table.proofs.Computes.{tableComputes}
+use Rattle.table.proofs.Computes.{table_computes}
 use Rattle.table.proofs.Hex.{hex}
-use Rattle.table.proofs.Examples.{NumberCase, spelled, numberRight}
+use Rattle.table.proofs.Examples.{NumberCase, spelled, number_right}
 
 pub cases : List NumberCase
 cases =
@@ -43,6 +43,6 @@ cases =
     ∷ spelled true 4_294_967_295 (hex "FFFFFFFF")
     ∷ []
 
-pub none-wrong : wrong numberRight 0 cases ≡ []
-unfolding wrong numberRight cases tableComputes
+pub none-wrong : wrong number_right 0 cases ≡ []
+unfolding wrong number_right cases table_computes
 none-wrong = refl

@@ -4,9 +4,9 @@ use mathlib.Core.Path.{◌≡◌, refl}
 use mathlib.Core.Bool.{true, false}
 use mathlib.Core.List.{List, [], ◌∷◌}
 use Rattle.lexis.proofs.Tables.{wrong}
-use Rattle.table.proofs.Computes.{tableComputes}
+use Rattle.table.proofs.Computes.{table_computes}
 use Rattle.table.proofs.Hex.{hex}
-use Rattle.table.proofs.Examples.{RecordCase, holds, marked, recordRight}
+use Rattle.table.proofs.Examples.{RecordCase, holds, marked, record_right}
 
 pub cases : List RecordCase
 cases =
@@ -48,6 +48,6 @@ cases =
     ∷ marked (hex "FFFF0100 00000000 00000001 00000000 00000000 00000000") false
     ∷ []
 
-pub none-wrong : wrong recordRight 0 cases ≡ []
-unfolding wrong recordRight cases tableComputes
+pub none-wrong : wrong record_right 0 cases ≡ []
+unfolding wrong record_right cases table_computes
 none-wrong = refl

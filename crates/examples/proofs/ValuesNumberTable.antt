@@ -5,146 +5,146 @@ use mathlib.Core.Bool.{true, false}
 use mathlib.Core.Option.{none, some}
 use mathlib.Core.List.{List, [], ◌∷◌}
 use Rattle.values.specs.Integers.{pair, nought, greatest}
-use Rattle.values.specs.Calendar.{firstDay, lastDay}
+use Rattle.values.specs.Calendar.{first_day, last_day}
 use Rattle.lexis.proofs.Tables.{wrong}
-use Rattle.values.proofs.Computes.{valuesCompute}
-use Rattle.values.proofs.Examples.{NumberCase, leapIs, daysAre, realIs, follows, precedes, spreads, bitsAre, endIs, numberRight}
+use Rattle.values.proofs.Computes.{values_compute}
+use Rattle.values.proofs.Examples.{NumberCase, leap_is, days_are, real_is, follows, precedes, spreads, bits_are, end_is, number_right}
 
 pub cases : List NumberCase
 cases =
     -- leap years by 4, not 100, yet 400
-    leapIs 0 true
-    ∷ leapIs 1 false
-    ∷ leapIs 2 false
-    ∷ leapIs 3 false
-    ∷ leapIs 4 true
-    ∷ leapIs 96 true
-    ∷ leapIs 100 false
-    ∷ leapIs 200 false
-    ∷ leapIs 300 false
-    ∷ leapIs 400 true
-    ∷ leapIs 500 false
-    ∷ leapIs 800 true
-    ∷ leapIs 1600 true
-    ∷ leapIs 1700 false
-    ∷ leapIs 1899 false
-    ∷ leapIs 1900 false
-    ∷ leapIs 1904 true
-    ∷ leapIs 1996 true
-    ∷ leapIs 1999 false
-    ∷ leapIs 2000 true
-    ∷ leapIs 2001 false
-    ∷ leapIs 2002 false
-    ∷ leapIs 2003 false
-    ∷ leapIs 2004 true
-    ∷ leapIs 2100 false
-    ∷ leapIs 2200 false
-    ∷ leapIs 2300 false
-    ∷ leapIs 2400 true
-    ∷ leapIs 4000 true
-    ∷ leapIs 9996 true
-    ∷ leapIs 9999 false
+    leap_is 0 true
+    ∷ leap_is 1 false
+    ∷ leap_is 2 false
+    ∷ leap_is 3 false
+    ∷ leap_is 4 true
+    ∷ leap_is 96 true
+    ∷ leap_is 100 false
+    ∷ leap_is 200 false
+    ∷ leap_is 300 false
+    ∷ leap_is 400 true
+    ∷ leap_is 500 false
+    ∷ leap_is 800 true
+    ∷ leap_is 1600 true
+    ∷ leap_is 1700 false
+    ∷ leap_is 1899 false
+    ∷ leap_is 1900 false
+    ∷ leap_is 1904 true
+    ∷ leap_is 1996 true
+    ∷ leap_is 1999 false
+    ∷ leap_is 2000 true
+    ∷ leap_is 2001 false
+    ∷ leap_is 2002 false
+    ∷ leap_is 2003 false
+    ∷ leap_is 2004 true
+    ∷ leap_is 2100 false
+    ∷ leap_is 2200 false
+    ∷ leap_is 2300 false
+    ∷ leap_is 2400 true
+    ∷ leap_is 4000 true
+    ∷ leap_is 9996 true
+    ∷ leap_is 9999 false
     -- month lengths of common and leap years
-    ∷ daysAre 2003 0 0
-    ∷ daysAre 2003 1 31
-    ∷ daysAre 2003 2 28
-    ∷ daysAre 2003 3 31
-    ∷ daysAre 2003 4 30
-    ∷ daysAre 2003 5 31
-    ∷ daysAre 2003 6 30
-    ∷ daysAre 2003 7 31
-    ∷ daysAre 2003 8 31
-    ∷ daysAre 2003 9 30
-    ∷ daysAre 2003 10 31
-    ∷ daysAre 2003 11 30
-    ∷ daysAre 2003 12 31
-    ∷ daysAre 2003 13 0
-    ∷ daysAre 2004 0 0
-    ∷ daysAre 2004 1 31
-    ∷ daysAre 2004 2 29
-    ∷ daysAre 2004 3 31
-    ∷ daysAre 2004 4 30
-    ∷ daysAre 2004 5 31
-    ∷ daysAre 2004 6 30
-    ∷ daysAre 2004 7 31
-    ∷ daysAre 2004 8 31
-    ∷ daysAre 2004 9 30
-    ∷ daysAre 2004 10 31
-    ∷ daysAre 2004 11 30
-    ∷ daysAre 2004 12 31
-    ∷ daysAre 2004 13 0
-    ∷ daysAre 1900 0 0
-    ∷ daysAre 1900 1 31
-    ∷ daysAre 1900 2 28
-    ∷ daysAre 1900 3 31
-    ∷ daysAre 1900 4 30
-    ∷ daysAre 1900 5 31
-    ∷ daysAre 1900 6 30
-    ∷ daysAre 1900 7 31
-    ∷ daysAre 1900 8 31
-    ∷ daysAre 1900 9 30
-    ∷ daysAre 1900 10 31
-    ∷ daysAre 1900 11 30
-    ∷ daysAre 1900 12 31
-    ∷ daysAre 1900 13 0
-    ∷ daysAre 2000 0 0
-    ∷ daysAre 2000 1 31
-    ∷ daysAre 2000 2 29
-    ∷ daysAre 2000 3 31
-    ∷ daysAre 2000 4 30
-    ∷ daysAre 2000 5 31
-    ∷ daysAre 2000 6 30
-    ∷ daysAre 2000 7 31
-    ∷ daysAre 2000 8 31
-    ∷ daysAre 2000 9 30
-    ∷ daysAre 2000 10 31
-    ∷ daysAre 2000 11 30
-    ∷ daysAre 2000 12 31
-    ∷ daysAre 2000 13 0
+    ∷ days_are 2003 0 0
+    ∷ days_are 2003 1 31
+    ∷ days_are 2003 2 28
+    ∷ days_are 2003 3 31
+    ∷ days_are 2003 4 30
+    ∷ days_are 2003 5 31
+    ∷ days_are 2003 6 30
+    ∷ days_are 2003 7 31
+    ∷ days_are 2003 8 31
+    ∷ days_are 2003 9 30
+    ∷ days_are 2003 10 31
+    ∷ days_are 2003 11 30
+    ∷ days_are 2003 12 31
+    ∷ days_are 2003 13 0
+    ∷ days_are 2004 0 0
+    ∷ days_are 2004 1 31
+    ∷ days_are 2004 2 29
+    ∷ days_are 2004 3 31
+    ∷ days_are 2004 4 30
+    ∷ days_are 2004 5 31
+    ∷ days_are 2004 6 30
+    ∷ days_are 2004 7 31
+    ∷ days_are 2004 8 31
+    ∷ days_are 2004 9 30
+    ∷ days_are 2004 10 31
+    ∷ days_are 2004 11 30
+    ∷ days_are 2004 12 31
+    ∷ days_are 2004 13 0
+    ∷ days_are 1900 0 0
+    ∷ days_are 1900 1 31
+    ∷ days_are 1900 2 28
+    ∷ days_are 1900 3 31
+    ∷ days_are 1900 4 30
+    ∷ days_are 1900 5 31
+    ∷ days_are 1900 6 30
+    ∷ days_are 1900 7 31
+    ∷ days_are 1900 8 31
+    ∷ days_are 1900 9 30
+    ∷ days_are 1900 10 31
+    ∷ days_are 1900 11 30
+    ∷ days_are 1900 12 31
+    ∷ days_are 1900 13 0
+    ∷ days_are 2000 0 0
+    ∷ days_are 2000 1 31
+    ∷ days_are 2000 2 29
+    ∷ days_are 2000 3 31
+    ∷ days_are 2000 4 30
+    ∷ days_are 2000 5 31
+    ∷ days_are 2000 6 30
+    ∷ days_are 2000 7 31
+    ∷ days_are 2000 8 31
+    ∷ days_are 2000 9 30
+    ∷ days_are 2000 10 31
+    ∷ days_are 2000 11 30
+    ∷ days_are 2000 12 31
+    ∷ days_are 2000 13 0
     -- packed numbers that are days of the calendar, and others
-    ∷ realIs 0 false
-    ∷ realIs 1 false
-    ∷ realIs 31 false
-    ∷ realIs 100 false
-    ∷ realIs 101 true
-    ∷ realIs 131 true
-    ∷ realIs 132 false
-    ∷ realIs 228 true
-    ∷ realIs 229 true
-    ∷ realIs 230 false
-    ∷ realIs 1231 true
-    ∷ realIs 1232 false
-    ∷ realIs 1301 false
-    ∷ realIs 9999 false
-    ∷ realIs 10_000 false
-    ∷ realIs 10_101 true
-    ∷ realIs 19_000_228 true
-    ∷ realIs 19_000_229 false
-    ∷ realIs 19_000_301 true
-    ∷ realIs 20_000_229 true
-    ∷ realIs 20_030_229 false
-    ∷ realIs 20_040_100 false
-    ∷ realIs 20_040_101 true
-    ∷ realIs 20_040_131 true
-    ∷ realIs 20_040_132 false
-    ∷ realIs 20_040_229 true
-    ∷ realIs 20_040_230 false
-    ∷ realIs 20_040_430 true
-    ∷ realIs 20_040_431 false
-    ∷ realIs 20_041_200 false
-    ∷ realIs 20_041_231 true
-    ∷ realIs 20_041_232 false
-    ∷ realIs 20_041_301 false
-    ∷ realIs 20_040_001 false
-    ∷ realIs 20_049_999 false
-    ∷ realIs 21_000_229 false
-    ∷ realIs 99_991_230 true
-    ∷ realIs 99_991_231 true
-    ∷ realIs 99_991_232 false
-    ∷ realIs 99_991_301 false
-    ∷ realIs 100_000_101 false
-    ∷ realIs 100_000_000 false
-    ∷ realIs 4_294_967_295 false
+    ∷ real_is 0 false
+    ∷ real_is 1 false
+    ∷ real_is 31 false
+    ∷ real_is 100 false
+    ∷ real_is 101 true
+    ∷ real_is 131 true
+    ∷ real_is 132 false
+    ∷ real_is 228 true
+    ∷ real_is 229 true
+    ∷ real_is 230 false
+    ∷ real_is 1231 true
+    ∷ real_is 1232 false
+    ∷ real_is 1301 false
+    ∷ real_is 9999 false
+    ∷ real_is 10_000 false
+    ∷ real_is 10_101 true
+    ∷ real_is 19_000_228 true
+    ∷ real_is 19_000_229 false
+    ∷ real_is 19_000_301 true
+    ∷ real_is 20_000_229 true
+    ∷ real_is 20_030_229 false
+    ∷ real_is 20_040_100 false
+    ∷ real_is 20_040_101 true
+    ∷ real_is 20_040_131 true
+    ∷ real_is 20_040_132 false
+    ∷ real_is 20_040_229 true
+    ∷ real_is 20_040_230 false
+    ∷ real_is 20_040_430 true
+    ∷ real_is 20_040_431 false
+    ∷ real_is 20_041_200 false
+    ∷ real_is 20_041_231 true
+    ∷ real_is 20_041_232 false
+    ∷ real_is 20_041_301 false
+    ∷ real_is 20_040_001 false
+    ∷ real_is 20_049_999 false
+    ∷ real_is 21_000_229 false
+    ∷ real_is 99_991_230 true
+    ∷ real_is 99_991_231 true
+    ∷ real_is 99_991_232 false
+    ∷ real_is 99_991_301 false
+    ∷ real_is 100_000_101 false
+    ∷ real_is 100_000_000 false
+    ∷ real_is 4_294_967_295 false
     -- the day after and the day before, at the ends of months, of years and of the range
     ∷ follows 101 102
     ∷ follows 102 103
@@ -254,24 +254,24 @@ cases =
     ∷ spreads 4_294_967_295 4_294_967_295 none
     ∷ spreads 0 0 none
     -- the ends of the ranges, and 0
-    ∷ endIs firstDay 101
-    ∷ endIs lastDay 99_991_231
-    ∷ endIs nought 2_147_483_648
-    ∷ endIs greatest 4_294_967_295
+    ∷ end_is first_day 101
+    ∷ end_is last_day 99_991_231
+    ∷ end_is nought 2_147_483_648
+    ∷ end_is greatest 4_294_967_295
     -- two's complement
-    ∷ bitsAre 0 2_147_483_648
-    ∷ bitsAre 1 2_147_483_649
-    ∷ bitsAre 2_147_482_648 4_294_966_296
-    ∷ bitsAre 2_147_483_646 4_294_967_294
-    ∷ bitsAre 2_147_483_647 4_294_967_295
-    ∷ bitsAre 2_147_483_648 0
-    ∷ bitsAre 2_147_483_649 1
-    ∷ bitsAre 2_147_483_650 2
-    ∷ bitsAre 2_147_484_648 1000
-    ∷ bitsAre 4_294_967_294 2_147_483_646
-    ∷ bitsAre 4_294_967_295 2_147_483_647
+    ∷ bits_are 0 2_147_483_648
+    ∷ bits_are 1 2_147_483_649
+    ∷ bits_are 2_147_482_648 4_294_966_296
+    ∷ bits_are 2_147_483_646 4_294_967_294
+    ∷ bits_are 2_147_483_647 4_294_967_295
+    ∷ bits_are 2_147_483_648 0
+    ∷ bits_are 2_147_483_649 1
+    ∷ bits_are 2_147_483_650 2
+    ∷ bits_are 2_147_484_648 1000
+    ∷ bits_are 4_294_967_294 2_147_483_646
+    ∷ bits_are 4_294_967_295 2_147_483_647
     ∷ []
 
-pub none-wrong : wrong numberRight 0 cases ≡ []
-unfolding wrong numberRight cases valuesCompute
+pub none-wrong : wrong number_right 0 cases ≡ []
+unfolding wrong number_right cases values_compute
 none-wrong = refl

@@ -6,8 +6,8 @@ use mathlib.Core.Option.{none, some}
 use mathlib.Core.List.{List, [], ◌∷◌}
 use Rattle.lexis.specs.Text.{bytes}
 use Rattle.lexis.proofs.Tables.{wrong}
-use Rattle.values.proofs.Computes.{valuesCompute}
-use Rattle.values.proofs.Examples.{WordCase, reads, date, wordRight}
+use Rattle.values.proofs.Computes.{values_compute}
+use Rattle.values.proofs.Examples.{WordCase, reads, date, word_right}
 
 pub cases : List WordCase
 cases =
@@ -433,6 +433,6 @@ cases =
     ∷ reads (bytes "P5[") none none none none none false
     ∷ []
 
-pub none-wrong : wrong wordRight 0 cases ≡ []
-unfolding wrong wordRight cases valuesCompute
+pub none-wrong : wrong word_right 0 cases ≡ []
+unfolding wrong word_right cases values_compute
 none-wrong = refl

@@ -6,9 +6,9 @@ use mathlib.Core.List.{List, [], ◌∷◌}
 use Rattle.lexis.specs.Text.{bytes}
 use Rattle.lexis.proofs.Tables.{wrong}
 use Rattle.table.proofs.Hex.{hex, filling}
-use Rattle.table_merge.proofs.Computes.{mergeComputes}
-use Rattle.compile.proofs.Computes.{compileComputes}
-use Rattle.judge.proofs.Computes.{judgeComputes}
+use Rattle.table_merge.proofs.Computes.{merge_computes}
+use Rattle.compile.proofs.Computes.{compile_computes}
+use Rattle.judge.proofs.Computes.{judge_computes}
 use Rattle.gateway.proofs.Examples.{Case, compiles, checks, merges, judges, names, right}
 
 pub cases : List Case
@@ -74,5 +74,5 @@ cases =
     ∷ []
 
 pub none-wrong : wrong right 0 cases ≡ []
-unfolding wrong right cases mergeComputes compileComputes judgeComputes
+unfolding wrong right cases merge_computes compile_computes judge_computes
 none-wrong = refl

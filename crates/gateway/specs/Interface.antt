@@ -9,16 +9,16 @@ use Rattle.refusals.specs.declared.Refusal.{Refusal}
 use Rattle.meaning.specs.Verdicts.{Verdict, valid, fails}
 use Rattle.table.specs.Names.{Slice}
 use Rattle.table.specs.declared.check.CheckAnswer.{CheckAnswer}
-use Rattle.table.specs.declared.check.CheckAnswer.TheVariants as checkAnswer
+use Rattle.table.specs.declared.check.CheckAnswer.TheVariants as check_answer
 use Rattle.table.specs.declared.names.NameResult.{NameResult}
-use Rattle.table.specs.declared.names.NameResult.TheVariants as nameResult
+use Rattle.table.specs.declared.names.NameResult.TheVariants as name_result
 use Rattle.table_merge.specs.Merge.{MergeReport, MergeRefusal}
 use Rattle.table_merge.specs.declared.MergeResult.{MergeResult}
-use Rattle.table_merge.specs.declared.MergeResult.TheVariants as mergeResult
+use Rattle.table_merge.specs.declared.MergeResult.TheVariants as merge_result
 use Rattle.compile.specs.declared.CompileResult.{CompileResult}
-use Rattle.compile.specs.declared.CompileResult.TheVariants as compileResult
+use Rattle.compile.specs.declared.CompileResult.TheVariants as compile_result
 use Rattle.judge.specs.declared.JudgeResult.{JudgeResult}
-use Rattle.judge.specs.declared.JudgeResult.TheVariants as judgeResult
+use Rattle.judge.specs.declared.JudgeResult.TheVariants as judge_result
 
 -- a number and a place
 pub record Placed : Type 0 where
@@ -28,8 +28,8 @@ pub record Placed : Type 0 where
 abbrev pub placed : ℕ → ℕ → Placed
 placed number place = record { number = number; place = place }
 
-abbrev pub refusalTold : Refusal → Placed
-refusalTold r = placed (number_of r.cause) r.place
+abbrev pub refusal_told : Refusal → Placed
+refusal_told r = placed (number_of r.cause) r.place
 
 -- what a job says and the output are those of its answer
 pub record AnswerIs {E A S : Type 0} (tell : Outcome E A → S) (a : Answered E A) (said : S)
@@ -38,14 +38,14 @@ pub record AnswerIs {E A S : Type 0} (tell : Outcome E A → S) (a : Answered E 
   pub out : bytes ≡ a.out
 
 -- compiling: on 0 the place is the table's length
-abbrev pub compileTold : Outcome Refusal ℕ → Placed
-compileTold (refused r) = refusalTold r
-compileTold (gave length) = placed 0 length
+abbrev pub compile_told : Outcome Refusal ℕ → Placed
+compile_told (refused r) = refusal_told r
+compile_told (gave length) = placed 0 length
 
 -- the check: 0 and 0, or a refusal
-abbrev pub checkTold : Option Refusal → Placed
-checkTold none = placed 0 0
-checkTold (some r) = refusalTold r
+abbrev pub check_told : Option Refusal → Placed
+check_told none = placed 0 0
+check_told (some r) = refusal_told r
 
 -- merging: on 0 the place is the table's length; the table named for 12 and 13 is 1 or 2
 pub record MergeSaid : Type 0 where
@@ -54,59 +54,59 @@ pub record MergeSaid : Type 0 where
   pub pool : ℕ
   pub which : ℕ
 
-abbrev pub mergeSaid : Placed → ℕ → ℕ → ℕ → MergeSaid
-mergeSaid told records pool which = record { told = told; records = records; pool = pool; which = which }
+abbrev pub merge_said : Placed → ℕ → ℕ → ℕ → MergeSaid
+merge_said told records pool which = record { told = told; records = records; pool = pool; which = which }
 
-abbrev pub mergeTold : Outcome MergeRefusal MergeReport → MergeSaid
-mergeTold (refused r) = mergeSaid (refusalTold r.why) 0 0 r.table
-mergeTold (gave m) = mergeSaid (placed 0 m.length) m.shifts.records m.shifts.pool 0
+abbrev pub merge_told : Outcome MergeRefusal MergeReport → MergeSaid
+merge_told (refused r) = merge_said (refusal_told r.why) 0 0 r.table
+merge_told (gave m) = merge_said (placed 0 m.length) m.shifts.records m.shifts.pool 0
 
 -- judging: 0 is valid; the record is 0 with a refusal
 pub record JudgeTold : Type 0 where
   pub told : Placed
   pub constraint : ℕ
 
-abbrev pub judgeSaid : Placed → ℕ → JudgeTold
-judgeSaid told constraint = record { told = told; constraint = constraint }
+abbrev pub judge_said : Placed → ℕ → JudgeTold
+judge_said told constraint = record { told = told; constraint = constraint }
 
-abbrev pub verdictTold : Verdict → JudgeTold
-verdictTold valid = judgeSaid (placed 0 0) 0
-verdictTold (fails reason number place) = judgeSaid (placed reason place) number
+abbrev pub verdict_told : Verdict → JudgeTold
+verdict_told valid = judge_said (placed 0 0) 0
+verdict_told (fails reason number place) = judge_said (placed reason place) number
 
-abbrev pub judgeTold : Outcome Refusal Verdict → JudgeTold
-judgeTold (refused r) = judgeSaid (refusalTold r) 0
-judgeTold (gave v) = verdictTold v
+abbrev pub judge_told : Outcome Refusal Verdict → JudgeTold
+judge_told (refused r) = judge_said (refusal_told r) 0
+judge_told (gave v) = verdict_told v
 
 -- a name: the start and the length of the part; with a refusal the start is its place
 pub record NameTold : Type 0 where
   pub told : Placed
   pub length : ℕ
 
-abbrev pub nameSaid : Placed → ℕ → NameTold
-nameSaid told length = record { told = told; length = length }
+abbrev pub name_said : Placed → ℕ → NameTold
+name_said told length = record { told = told; length = length }
 
-abbrev pub nameTold : Outcome Refusal Slice → NameTold
-nameTold (refused r) = nameSaid (refusalTold r) 0
-nameTold (gave p) = nameSaid (placed 0 p.start) p.length
+abbrev pub name_told : Outcome Refusal Slice → NameTold
+name_told (refused r) = name_said (refusal_told r) 0
+name_told (gave p) = name_said (placed 0 p.start) p.length
 
 -- the number and the values of each case of the jobs' answers
-abbrev pub compileNumbers : CompileResult → Placed
-compileNumbers (compileResult.Done length) = placed 0 length
-compileNumbers (compileResult.Refused r) = refusalTold r
+abbrev pub compile_numbers : CompileResult → Placed
+compile_numbers (compile_result.Done length) = placed 0 length
+compile_numbers (compile_result.Refused r) = refusal_told r
 
-abbrev pub checkNumbers : CheckAnswer → Placed
-checkNumbers checkAnswer.Passed = placed 0 0
-checkNumbers (checkAnswer.Refused r) = refusalTold r
+abbrev pub check_numbers : CheckAnswer → Placed
+check_numbers check_answer.Passed = placed 0 0
+check_numbers (check_answer.Refused r) = refusal_told r
 
-abbrev pub mergeNumbers : MergeResult → MergeSaid
-mergeNumbers (mergeResult.Done length records pool) = mergeSaid (placed 0 length) records.0 pool.0 0
-mergeNumbers (mergeResult.Refused table r) = mergeSaid (refusalTold r) 0 0 table
+abbrev pub merge_numbers : MergeResult → MergeSaid
+merge_numbers (merge_result.Done length records pool) = merge_said (placed 0 length) records.0 pool.0 0
+merge_numbers (merge_result.Refused table r) = merge_said (refusal_told r) 0 0 table
 
-abbrev pub judgeNumbers : JudgeResult → JudgeTold
-judgeNumbers judgeResult.Valid = judgeSaid (placed 0 0) 0
-judgeNumbers (judgeResult.Refused r) = judgeSaid (refusalTold r) 0
-judgeNumbers (judgeResult.Failed reason «record» place) = judgeSaid (placed reason place) «record».0
+abbrev pub judge_numbers : JudgeResult → JudgeTold
+judge_numbers judge_result.Valid = judge_said (placed 0 0) 0
+judge_numbers (judge_result.Refused r) = judge_said (refusal_told r) 0
+judge_numbers (judge_result.Failed reason «record» place) = judge_said (placed reason place) «record».0
 
-abbrev pub nameNumbers : NameResult → NameTold
-nameNumbers (nameResult.Named start length) = nameSaid (placed 0 start) length
-nameNumbers (nameResult.Refused r) = nameSaid (refusalTold r) 0
+abbrev pub name_numbers : NameResult → NameTold
+name_numbers (name_result.Named start length) = name_said (placed 0 start) length
+name_numbers (name_result.Refused r) = name_said (refusal_told r) 0

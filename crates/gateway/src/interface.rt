@@ -1,11 +1,11 @@
 // The C interface. Each function returns 0 or document 01's number, and sets every argument that is lent to it: to what the outcome names, else to 0.
 ghost use Rattle.std.specs.Prelude.{◌≡◌};
-ghost use Rattle.table.specs.Check.{tableFault};
-ghost use Rattle.table.specs.Names.{nameAnswer};
-ghost use Rattle.table_merge.specs.Merge.{request, mergeAnswer};
-ghost use Rattle.compile.specs.Compile.{compileAnswer};
-ghost use Rattle.judge.specs.Judge.{judgeAnswer};
-ghost use Rattle.gateway.specs.Interface.{placed, refusalTold, AnswerIs, compileTold, checkTold, mergeSaid, mergeTold, judgeSaid, judgeTold, nameSaid, nameTold};
+ghost use Rattle.table.specs.Check.{table_fault};
+ghost use Rattle.table.specs.Names.{name_answer};
+ghost use Rattle.table_merge.specs.Merge.{request, merge_answer};
+ghost use Rattle.compile.specs.Compile.{compile_answer};
+ghost use Rattle.judge.specs.Judge.{judge_answer};
+ghost use Rattle.gateway.specs.Interface.{placed, refusal_told, AnswerIs, compile_told, check_told, merge_said, merge_told, judge_said, judge_told, name_said, name_told};
 
 use compile::CompileResult;
 use judge::JudgeResult;
@@ -17,7 +17,7 @@ use table_merge::MergeResult;
 
 // Returns a refusal's number, and sets its place.
 fn told(refusal: Refusal, place: &mut u64) -> u32
-    ensures { placed result place.new ≡ refusalTold refusal }
+    ensures { placed result place.new ≡ refusal_told refusal }
 {
     *place = refusal.place as u64;
     let cause = refusal.cause;
@@ -27,7 +27,7 @@ fn told(refusal: Refusal, place: &mut u64) -> u32
 // Compiles a constraint text; on 0, `*place` is the table's length.
 #[unsafe(no_mangle)]
 pub extern "C" fn dk_compile(text: &[u8], little: bool, out: &mut [u8], place: &mut u64) -> u32
-    ensures { AnswerIs compileTold (compileAnswer text.now little out.old)
+    ensures { AnswerIs compile_told (compile_answer text.now little out.old)
         (placed result place.new) out.new }
 {
     match compile::compile(text, little, out) {
@@ -44,7 +44,7 @@ pub extern "C" fn dk_compile(text: &[u8], little: bool, out: &mut [u8], place: &
 // Checks a table.
 #[unsafe(no_mangle)]
 pub extern "C" fn dk_check(table: &[u8], place: &mut u64) -> u32
-    ensures { placed result place.new ≡ checkTold (tableFault table.now) }
+    ensures { placed result place.new ≡ check_told (table_fault table.now) }
 {
     match table::check::check(table) {
         CheckAnswer::Passed => {
@@ -69,9 +69,9 @@ pub extern "C" fn dk_merge(
     pool_shift: &mut u32,
     which: &mut u32,
 ) -> u32
-    ensures { AnswerIs mergeTold
-        (mergeAnswer (request first.now second.now little) out.old)
-        (mergeSaid (placed result place.new) record_shift.new pool_shift.new
+    ensures { AnswerIs merge_told
+        (merge_answer (request first.now second.now little) out.old)
+        (merge_said (placed result place.new) record_shift.new pool_shift.new
         which.new)
         out.new }
 {
@@ -105,8 +105,8 @@ pub extern "C" fn dk_judge(
     record: &mut u32,
     place: &mut u64,
 ) -> u32
-    ensures { judgeSaid (placed result place.new) «record».new
-        ≡ judgeTold (judgeAnswer table.now root «data».now) }
+    ensures { judge_said (placed result place.new) «record».new
+        ≡ judge_told (judge_answer table.now root «data».now) }
 {
     match judge::judge(table, root, data) {
         JudgeResult::Valid => {
@@ -133,8 +133,8 @@ pub extern "C" fn dk_judge(
 // Asks for the name of a record: the part's place in the table's bytes and its length; with a refusal `*start` is its place.
 #[unsafe(no_mangle)]
 pub extern "C" fn dk_name(table: &[u8], record: u32, start: &mut u64, len: &mut u64) -> u32
-    ensures { nameSaid (placed result start.new) len.new
-        ≡ nameTold (nameAnswer table.now «record») }
+    ensures { name_said (placed result start.new) len.new
+        ≡ name_told (name_answer table.now «record») }
 {
     match table::names::name_refusal(table, record) {
         NameResult::Named {

@@ -1,9 +1,9 @@
 -- What the checker opens to compute with the definitions of this crate and those below. Assumes nothing.
-use Rattle.dadl.proofs.Computes.{dataComputes}
-use Rattle.meaning.proofs.Computes.{meaningComputes}
-use Rattle.table.proofs.Computes.{tableComputes}
-use Rattle.judge.specs.Judge.{judgeAnswer}
+use Rattle.dadl.proofs.Computes.{data_computes}
+use Rattle.meaning.proofs.Computes.{meaning_computes}
+use Rattle.table.proofs.Computes.{table_computes}
+use Rattle.judge.specs.Judge.{judge_answer}
 
-unfoldable pub judgeComputes : Unit {0}
-unfolding dataComputes meaningComputes tableComputes judgeAnswer
-judgeComputes = tt
+unfoldable pub judge_computes : Unit {0}
+unfolding data_computes meaning_computes table_computes judge_answer
+judge_computes = tt

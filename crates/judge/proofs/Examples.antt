@@ -2,10 +2,10 @@
 use mathlib.Core.Bool.{Bool}
 use mathlib.Core.List.{List}
 use Prim.Native.Nat.{ℕ}
-use Rattle.refusals.proofs.Examples.{isRefusal, is_refused, isGiven}
+use Rattle.refusals.proofs.Examples.{is_refusal, is_refused, is_given}
 use Rattle.meaning.specs.Verdicts.{Verdict}
-use Rattle.meaning.proofs.Examples.{isVerdict}
-use Rattle.judge.specs.Judge.{judgeAnswer}
+use Rattle.meaning.proofs.Examples.{is_verdict}
+use Rattle.judge.specs.Judge.{judge_answer}
 
 -- a table, a root, a data text; the verdict, or the refusal's number and place
 pub data Case : Type 0 where
@@ -13,5 +13,5 @@ pub data Case : Type 0 where
   refuses : (table : List ℕ) (root : ℕ) (text : List ℕ) → (number place : ℕ) → Case
 
 unfoldable pub right : Case → Bool
-right (judges table root text v) = isGiven (judgeAnswer table root text) (λ x. isVerdict x v)
-right (refuses table root text number place) = is_refused (judgeAnswer table root text) (λ r. isRefusal r number place)
+right (judges table root text v) = is_given (judge_answer table root text) (λ x. is_verdict x v)
+right (refuses table root text number place) = is_refused (judge_answer table root text) (λ r. is_refusal r number place)

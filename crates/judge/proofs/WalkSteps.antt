@@ -13,21 +13,21 @@ use Rattle.values.proofs.Common.{by_order}
 use Rattle.meaning.specs.Data.{Datum, datum, Members}
 use Rattle.meaning.specs.Verdicts.{valid, fails}
 use Rattle.meaning.specs.Verdicts
-use Rattle.meaning.specs.Judging.{thenJudge, typeSuits, judge, judgeAttributes, judgeValue}
-use Rattle.table.specs.Records.{field, recordIn}
+use Rattle.meaning.specs.Judging.{then_judge, type_suits, judge, judge_attributes, judge_value}
+use Rattle.table.specs.Records.{field, record_in}
 use Rattle.table.specs.Rows.{shape_of}
 use Rattle.table.specs.Check.{kind_at}
-use Rattle.table.specs.Trees.{attributesIn, treeAt}
-use Rattle.table.specs.contracts.Answers.{recordOf}
+use Rattle.table.specs.Trees.{attributes_in, tree_at}
+use Rattle.table.specs.Clauses.Answers.{record_of}
 use Rattle.table.specs.declared.records.Entry.{Entry}
 use Rattle.table.specs.declared.records.RecordNumber.{RecordNumber}
 use Rattle.table.proofs.UseLaws.{LinkRight}
-use Rattle.judge_admission.specs.contracts.Items.{name_of, Lies, imageFrom, TableGood}
-use Rattle.judge_attributes.specs.contracts.Answers.{verdictIn}
-use Rattle.judge_tape.specs.contracts.Rows.{typeOn, membersOn, datumOn, DatumWithin, MembersWithin}
-use Rattle.judge_attributes.specs.contracts.Attributes.{judgeFirst, AttributeAt, blockUnder, Leads, AttributeAnswerIs}
-use Rattle.judge.specs.contracts.Walk.{Under}
-use Rattle.judge_tape.specs.contracts.Memo.{marked, Marks, base_of, VisitOf, admittedIn, ChainGood, ChainMarked, BlockAdmitted, mayVisit, MemoGood}
+use Rattle.judge_admission.specs.Clauses.Items.{name_of, Lies, image_from, TableGood}
+use Rattle.judge_attributes.specs.Clauses.Answers.{verdict_in}
+use Rattle.judge_tape.specs.Clauses.Rows.{type_on, members_on, datum_on, DatumWithin, MembersWithin}
+use Rattle.judge_attributes.specs.Clauses.Attributes.{judge_first, AttributeAt, block_under, Leads, AttributeAnswerIs}
+use Rattle.judge.specs.Clauses.Walk.{Under}
+use Rattle.judge_tape.specs.Clauses.Memo.{marked, Marks, base_of, VisitOf, admitted_in, ChainGood, ChainMarked, BlockAdmitted, may_visit, MemoGood}
 use Rattle.judge_tape.specs.declared.members.Block.{Block}
 use Rattle.judge_tape.specs.declared.memo.Visit.{Visit}
 use Rattle.judge_attributes.specs.declared.Failure.{Failure}
@@ -42,11 +42,11 @@ use Rattle.judge_tape.proofs.MemoLaws.{memo-visited, base-small, chain-sound, me
 
 -- a type that is not written suits, and one that is if it is the object's
 module _ (s t : List ℕ) (start end : ℕ) where
-  pub type-none : end ≡ 0 → true ≡ typeSuits t (typeOn s start end)
+  pub type-none : end ≡ 0 → true ≡ type_suits t (type_on s start end)
   type-none h = rw h
 
   pub type-same : (w : List ℕ) (r : Bool) → w ≡ t → r ≡ same w (take (end - start) (drop start s)) → (end ≡ 0 → ⊥)
-      → r ≡ typeSuits t (typeOn s start end)
+      → r ≡ type_suits t (type_on s start end)
   type-same w r ew er h = rw (ne_eqb end 0 h, ← ew) er
 
 -- a datum of at most so many levels: there is one, and its members have one less
@@ -60,10 +60,10 @@ within-less (datum p t ms) zero h = absurd h
 within-less (datum p t ms) (suc levels) h = let e : suc levels - 1 ≡ levels = omega arith in (omega arith, rw e h)
 
 -- a link that leads up, or is 0
-link-kind : (records pool : List ℕ) → TableGood records pool → (n k i j : ℕ) → kind_at (imageFrom records pool) n ≡ k
-    → (0 < field (recordIn records n) i → LinkRight (imageFrom records pool) n (j ∷ []) (field (recordIn records n) i))
-    → 0 < field (recordIn records n) i → kind_at (imageFrom records pool) (field (recordIn records n) i) ≡ j
-link-kind records pool t n k i j e l h = by_kind (kind_at (imageFrom records pool) (field (recordIn records n) i)) j [] (l h).kind (λ y. y) (λ y. absurd (false≢true y))
+link-kind : (records pool : List ℕ) → TableGood records pool → (n k i j : ℕ) → kind_at (image_from records pool) n ≡ k
+    → (0 < field (record_in records n) i → LinkRight (image_from records pool) n (j ∷ []) (field (record_in records n) i))
+    → 0 < field (record_in records n) i → kind_at (image_from records pool) (field (record_in records n) i) ≡ j
+link-kind records pool t n k i j e l h = by_kind (kind_at (image_from records pool) (field (record_in records n) i)) j [] (l h).kind (λ y. y) (λ y. absurd (false≢true y))
 
 -- at attribute n of the walk from `first` on, by an object whose type suits
 pub record InAttributes (records pool s tape : List ℕ) (rows levels object : ℕ) (b : Block) (v : Visit)
@@ -72,13 +72,13 @@ pub record InAttributes (records pool s tape : List ℕ) (rows levels object : �
   pub visit : VisitOf records b v
   pub known : MemoGood records pool s tape rows memo
   pub same : length memo ≡ length start
-  pub chain : 0 < first → kind_at (imageFrom records pool) first ≡ 2
-  pub kind : 0 < n → kind_at (imageFrom records pool) n ≡ 2
-  pub is : judgeAttributes (attributesIn (treeAt (imageFrom records pool) n)) b.place
-      (membersOn s rows tape b) ≡ judgeAttributes (attributesIn (treeAt (imageFrom records pool) first)) b.place
-      (membersOn s rows tape b)
-  pub whole : judgeAttributes (attributesIn (treeAt (imageFrom records pool) first)) b.place
-      (membersOn s rows tape b) ≡ blockUnder (imageFrom records pool) s rows tape object b
+  pub chain : 0 < first → kind_at (image_from records pool) first ≡ 2
+  pub kind : 0 < n → kind_at (image_from records pool) n ≡ 2
+  pub is : judge_attributes (attributes_in (tree_at (image_from records pool) n)) b.place
+      (members_on s rows tape b) ≡ judge_attributes (attributes_in (tree_at (image_from records pool) first)) b.place
+      (members_on s rows tape b)
+  pub whole : judge_attributes (attributes_in (tree_at (image_from records pool) first)) b.place
+      (members_on s rows tape b) ≡ block_under (image_from records pool) s rows tape object b
 
 -- what the levels and a memo of so many bytes leave to do: a walk without a memo may be given up for one with
 abbrev room : ℕ → ℕ
@@ -92,12 +92,12 @@ room_most (suc n) = omega arith
 unfoldable pub effort : ℕ → ℕ → ℕ
 effort levels size = 3 * levels + room size
 
-unfoldable pub effortOfMemo : ℕ → ℕ
-effortOfMemo levels = 3 * levels + 1
+unfoldable pub effort_of_memo : ℕ → ℕ
+effort_of_memo levels = 3 * levels + 1
 
-pub memo-effort : (levels n t : ℕ) → 0 < n → effortOfMemo levels ≡ t
+pub memo-effort : (levels n t : ℕ) → 0 < n → effort_of_memo levels ≡ t
     → effort levels (length {A = ℕ} (replicate n 0)) < t
-unfolding effort effortOfMemo
+unfolding effort effort_of_memo
 memo-effort levels n t h e = rw (length-replicate {0} {A = ℕ} n 0) (by n h)
   where
     by : (n : ℕ) → 0 < n → effort levels n < t
@@ -113,25 +113,25 @@ module _ (records pool s tape : List ℕ) (rows levels : ℕ) (object : RecordNu
   pub visit-small : base_of records b ≤ 8_388_608
   visit-small = base-small records pool u.walk.checked rows tape b u.walk.few u.row
 
-  module _ (e : Entry) (q : recordOf e ≡ recordIn records object.0) where
+  module _ (e : Entry) (q : record_of e ≡ record_in records object.0) where
     pub object-name : e.a + e.b ≤ length pool
     object-name = rw (← q) at (name-there records pool u.walk.checked object.0 1 u.kind (omega arith) refl)
 
-    first_kind : 0 < e.e → kind_at (imageFrom records pool) e.e ≡ 2
+    first_kind : 0 < e.e → kind_at (image_from records pool) e.e ≡ 2
     unfolding shape_of
     first_kind = rw (← q) at (link-kind records pool u.walk.checked object.0 1 4 2 u.kind (link-there records pool u.walk.checked object.0 1 u.kind (omega arith) 4 (2 ∷ []) (lit< tt) refl))
 
     module _ (r : Bool)
-        (er : r ≡ typeSuits (name_of pool (recordOf e)) (typeOn s b.type_start b.type_end)) where
+        (er : r ≡ type_suits (name_of pool (record_of e)) (type_on s b.type_start b.type_end)) where
       block-is :
-          cond r (judgeAttributes (attributesIn (treeAt (imageFrom records pool) e.e)) b.place
-          (membersOn s rows tape b))
-          (fails 21 object.0 b.place) ≡ blockUnder (imageFrom records pool) s rows tape object.0 b
-      unfolding judgeValue judge
+          cond r (judge_attributes (attributes_in (tree_at (image_from records pool) e.e)) b.place
+          (members_on s rows tape b))
+          (fails 21 object.0 b.place) ≡ block_under (image_from records pool) s rows tape object.0 b
+      unfolding judge_value judge
       block-is = rw (object-tree records pool u.walk.checked object.0 u.kind, ← q, er)
 
-      pub type-differs : not r ≡ true → (v : Verdict) → verdictIn v ≡ fails 21 object.0 b.place
-          → verdictIn v ≡ blockUnder (imageFrom records pool) s rows tape object.0 b
+      pub type-differs : not r ≡ true → (v : Verdict) → verdict_in v ≡ fails 21 object.0 b.place
+          → verdict_in v ≡ block_under (image_from records pool) s rows tape object.0 b
       type-differs h v ev = ev ∙ (rw (not-true r h) at block-is)
 
       pub attributes-start : not r ≡ false → (memo : List ℕ) → MemoGood records pool s tape rows memo → (v : Visit)
@@ -157,8 +157,8 @@ module _ (records pool s tape : List ℕ) (rows levels object : ℕ) (b : Block)
   pub visit-near : v.base ≤ 8_388_608
   visit-near = i.visit.small
 
-  none-admits : n ≡ 0 → BlockAdmitted (imageFrom records pool) s rows tape b n
-  unfolding judgeAttributes treeAt
+  none-admits : n ≡ 0 → BlockAdmitted (image_from records pool) s rows tape b n
+  unfolding judge_attributes tree_at
   none-admits z = rw z
 
   number-there : (n ≡ 0 → ⊥) → Lies records n
@@ -166,17 +166,17 @@ module _ (records pool s tape : List ℕ) (rows levels object : ℕ) (b : Block)
 
   -- no attribute is left, or the memo knows that those left admit the block
   left-admits : (t : Bool) → eqb n 0 ≡ t → (t || (v.again && marked memo (v.base + n))) ≡ true
-      → BlockAdmitted (imageFrom records pool) s rows tape b n
+      → BlockAdmitted (image_from records pool) s rows tape b n
   left-admits true e h = none-admits (eqb-true n 0 e)
   left-admits false e h =
       let z = eqb-false n 0 e in
       memo-admits records pool good s tape rows b i.under.row v i.visit memo i.known n (omega arith) (number-there z) (and_left v.again (marked memo (v.base + n)) h) (and_right v.again (marked memo (v.base + n)) h)
 
-  module _ (r : Bool) (er : r ≡ admittedIn memo v n) (h : not r ≡ false) where
-    first-admits : BlockAdmitted (imageFrom records pool) s rows tape b first
+  module _ (r : Bool) (er : r ≡ admitted_in memo v n) (h : not r ≡ false) where
+    first-admits : BlockAdmitted (image_from records pool) s rows tape b first
     first-admits = sym i.is ∙ left-admits (eqb n 0) refl (sym er ∙ not-false r h)
 
-    pub attributes-end : valid ≡ blockUnder (imageFrom records pool) s rows tape object b
+    pub attributes-end : valid ≡ block_under (image_from records pool) s rows tape object b
     attributes-end = sym first-admits ∙ i.whole
 
     pub attributes-chain : ChainGood records first
@@ -187,23 +187,23 @@ module _ (records pool s tape : List ℕ) (rows levels object : ℕ) (b : Block)
     attributes-known after m = memo-marked records pool good s tape rows b i.under.row v i.visit memo i.known first i.chain first-admits after m
 
   pub levels-some : 1 ≤ levels
-  levels-some = (within-less (datumOn s rows tape b) levels i.under.within).0
+  levels-some = (within-less (datum_on s rows tape b) levels i.under.within).0
 
   pub levels-fall : (size whole t : ℕ) → effort levels whole ≡ t → effort (levels - 1) size < t
   unfolding effort
   levels-fall size whole t h = let l = levels-some in let m = room_most size in omega arith
 
   -- a walk that is given up has no memo
-  pub memo-fall : (left : ℕ) (r : Bool) → r ≡ mayVisit (length memo) left → not r ≡ true → (size t : ℕ)
-      → length start ≡ size → effort levels size ≡ t → effortOfMemo levels < t
-  unfolding effort effortOfMemo mayVisit
+  pub memo-fall : (left : ℕ) (r : Bool) → r ≡ may_visit (length memo) left → not r ≡ true → (size t : ℕ)
+      → length start ≡ size → effort levels size ≡ t → effort_of_memo levels < t
+  unfolding effort effort_of_memo may_visit
   memo-fall left r er h size t es et =
       let z = spent (length memo) left (sym er ∙ not-true r h) in
       let q : size ≡ 0 = sym es ∙ sym i.same ∙ z in
       let f : 3 * levels + 2 ≡ t = rw q at et in
       omega arith
     where
-      spent : (n k : ℕ) → mayVisit n k ≡ false → n ≡ 0
+      spent : (n k : ℕ) → may_visit n k ≡ false → n ≡ 0
       spent n k h = by (eqb k 0) h
         where
           by : (t : Bool) → cond t (not (eqb n 0)) true ≡ false → n ≡ 0
@@ -211,11 +211,11 @@ module _ (records pool s tape : List ℕ) (rows levels object : ℕ) (b : Block)
           by false y = absurd (false≢true (sym y))
 
   -- at an attribute
-  module _ (r : Bool) (er : r ≡ admittedIn memo v n) (h : not r ≡ true) where
+  module _ (r : Bool) (er : r ≡ admitted_in memo v n) (h : not r ≡ true) where
     z : n ≡ 0 → ⊥
     z y = let l = left-some memo v n r er h in omega arith
 
-    here-kind : kind_at (imageFrom records pool) n ≡ 2
+    here-kind : kind_at (image_from records pool) n ≡ 2
     here-kind = i.kind (left-some memo v n r er h)
 
     pub attribute-lies : Lies records n
@@ -223,22 +223,22 @@ module _ (records pool s tape : List ℕ) (rows levels object : ℕ) (b : Block)
 
     -- one that fails is told
     first-fails : (x : Verdict) (f : Failure) → x ≡ Fails f
-        → verdictIn x
-        ≡ judgeFirst (attributesIn (treeAt (imageFrom records pool) n)) b.place (membersOn s rows tape b)
-        → verdictIn (Fails f) ≡ blockUnder (imageFrom records pool) s rows tape object b
-    unfolding judgeAttributes
+        → verdict_in x
+        ≡ judge_first (attributes_in (tree_at (image_from records pool) n)) b.place (members_on s rows tape b)
+        → verdict_in (Fails f) ≡ block_under (image_from records pool) s rows tape object b
+    unfolding judge_attributes
     first-fails v f ev ef =
         let t = attribute-tree records pool good n here-kind in
-        ap verdictIn (sym ev) ∙ fails-first _ _ (rw t at ef) ∙ (rw t at i.is) ∙ i.whole
+        ap verdict_in (sym ev) ∙ fails-first _ _ (rw t at ef) ∙ (rw t at i.is) ∙ i.whole
       where
-        fails-first : (x y : Verdicts.Verdict) → verdictIn v ≡ x → verdictIn v ≡ thenJudge x y
+        fails-first : (x y : Verdicts.Verdict) → verdict_in v ≡ x → verdict_in v ≡ then_judge x y
         fails-first x y h = rw (← h, ev)
 
-    module _ (a : Entry) (qa : recordOf a ≡ recordIn records n) where
+    module _ (a : Entry) (qa : record_of a ≡ record_in records n) where
       pub attribute-at : AttributeAt records pool n a
       attribute-at = record { kind = here-kind; is = qa }
 
-      next-link : 0 < a.d → LinkRight (imageFrom records pool) n (2 ∷ []) a.d
+      next-link : 0 < a.d → LinkRight (image_from records pool) n (2 ∷ []) a.d
       unfolding shape_of
       next-link = rw (← qa) at (link-there records pool good n 2 here-kind (omega arith) 3 (2 ∷ []) (lit< tt) refl)
 
@@ -250,14 +250,14 @@ module _ (records pool s tape : List ℕ) (rows levels object : ℕ) (b : Block)
           (λ k. let y : a.d ≡ 0 = omega arith in rw y (omega arith))
           (λ k. let x = (next-link k).above in rw (ne_eqb a.d 0 (λ y. omega arith)) (omega arith)))
 
-      module _ (step : AttributeAnswer) (ar : AttributeAnswerIs (imageFrom records pool) s rows tape n b step)
+      module _ (step : AttributeAnswer) (ar : AttributeAnswerIs (image_from records pool) s rows tape n b step)
           (behind : List ℕ) (g : MemoGood records pool s tape rows behind) (lb : length behind ≡ length memo) where
         -- one that holds leads to the next
-        first_holds : valid ≡ judgeFirst (attributesIn (treeAt (imageFrom records pool) n)) b.place
-            (membersOn s rows tape b) → (after : List ℕ) → MemoGood records pool s tape rows after
+        first_holds : valid ≡ judge_first (attributes_in (tree_at (image_from records pool) n)) b.place
+            (members_on s rows tape b) → (after : List ℕ) → MemoGood records pool s tape rows after
             → length after ≡ length behind
             → InAttributes records pool s tape rows levels object b v start after first a.d
-        unfolding judgeAttributes
+        unfolding judge_attributes
         first_holds ef after k l =
             let t = attribute-tree records pool good n here-kind in
             record {
@@ -266,37 +266,37 @@ module _ (records pool s tape : List ℕ) (rows levels object : ℕ) (b : Block)
               known = k;
               same = l ∙ lb ∙ i.same;
               chain = i.chain;
-              kind = λ h. by_kind (kind_at (imageFrom records pool) a.d) 2 [] (next-link h).kind (λ y. y) (λ y. absurd (false≢true y));
+              kind = λ h. by_kind (kind_at (image_from records pool) a.d) 2 [] (next-link h).kind (λ y. y) (λ y. absurd (false≢true y));
               is = valid-first _ _ (rw (t, ← qa) at ef) ∙ (rw (t, ← qa) at i.is);
               whole = i.whole;
             }
           where
-            valid-first : (x y : Verdicts.Verdict) → valid ≡ x → y ≡ thenJudge x y
+            valid-first : (x y : Verdicts.Verdict) → valid ≡ x → y ≡ then_judge x y
             valid-first x y h = rw (← h)
 
         pub told-valid : (x : Verdict) → step ≡ Told x → x ≡ Valid
             → InAttributes records pool s tape rows levels object b v start behind first a.d
-        told-valid x h k = first_holds (ap verdictIn (sym k) ∙ (rw h at ar.is)) behind g refl
+        told-valid x h k = first_holds (ap verdict_in (sym k) ∙ (rw h at ar.is)) behind g refl
 
         pub told-fails : (x : Verdict) (f : Failure) → step ≡ Told x → x ≡ Fails f
-            → verdictIn (Fails f) ≡ blockUnder (imageFrom records pool) s rows tape object b
+            → verdict_in (Fails f) ≡ block_under (image_from records pool) s rows tape object b
         told-fails x f h k = first-fails x f k (rw h at ar.is)
 
         module _ (inner : RecordNumber) (part : Block) (y : step ≡ Nested inner part) where
-          leads : Leads (imageFrom records pool) s rows tape (λ l. MembersWithin (membersOn s rows tape b) l)
+          leads : Leads (image_from records pool) s rows tape (λ l. MembersWithin (members_on s rows tape b) l)
               (Nested inner part)
           leads = rw y at ar.leads
 
           pub nested-under : Under records pool s tape rows (levels - 1) inner.0 part
-          nested-under = record { walk = i.under.walk; kind = leads.0; good = leads.1; row = leads.2; within = leads.3 (levels - 1) (within-less (datumOn s rows tape b) levels i.under.within).1 }
+          nested-under = record { walk = i.under.walk; kind = leads.0; good = leads.1; row = leads.2; within = leads.3 (levels - 1) (within-less (datum_on s rows tape b) levels i.under.within).1 }
 
           module _ (x : Verdict)
-              (ex : verdictIn x ≡ blockUnder (imageFrom records pool) s rows tape inner.0 part) where
+              (ex : verdict_in x ≡ block_under (image_from records pool) s rows tape inner.0 part) where
             pub nested-valid : x ≡ Valid → (after : List ℕ) → MemoGood records pool s tape rows after
                 → length after ≡ length behind
                 → InAttributes records pool s tape rows levels object b v start after first a.d
-            nested-valid k = first_holds (ap verdictIn (sym k) ∙ ex ∙ (rw y at ar.is))
+            nested-valid k = first_holds (ap verdict_in (sym k) ∙ ex ∙ (rw y at ar.is))
 
             pub nested-fails : (f : Failure) → x ≡ Fails f
-                → verdictIn (Fails f) ≡ blockUnder (imageFrom records pool) s rows tape object b
+                → verdict_in (Fails f) ≡ block_under (image_from records pool) s rows tape object b
             nested-fails f k = first-fails x f k (ex ∙ (rw y at ar.is))

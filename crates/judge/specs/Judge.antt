@@ -2,37 +2,37 @@
 -- object of the table". Assumes nothing.
 use Rattle.std.proofs.Math.Option.{Option, none, some}
 use Rattle.std.specs.Prelude.{List, ℕ}
-use Rattle.refusals.specs.Limits.{levelLimit}
+use Rattle.refusals.specs.Limits.{level_limit}
 use Rattle.refusals.specs.Refusals.{refusal}
 use Rattle.refusals.specs.Reading.{Reading}
-use Rattle.refusals.specs.Outcomes.{Outcome, refused, gave, orFault, afterReading}
+use Rattle.refusals.specs.Outcomes.{Outcome, refused, gave, or_fault, after_reading}
 use Rattle.refusals.specs.declared.Refusal.{Refusal}
 use Rattle.refusals.specs.declared.Cause.TheVariants.{NotAnObject}
 use Rattle.meaning.specs.Constraints.{Object}
 use Rattle.meaning.specs.Data.{Datum}
 use Rattle.meaning.specs.Verdicts.{Verdict}
-use Rattle.meaning.specs.Moving.{movedVerdict}
+use Rattle.meaning.specs.Moving.{moved_verdict}
 use Rattle.meaning.specs.Judging.{judge}
-use Rattle.dadl.specs.Data.{datumOf}
+use Rattle.dadl.specs.Data.{datum_of}
 use Rattle.table.specs.Records.{image_of}
-use Rattle.table.specs.Check.{tableFault}
-use Rattle.table.specs.Trees.{objectAt}
+use Rattle.table.specs.Check.{table_fault}
+use Rattle.table.specs.Trees.{object_at}
 
 -- a data text by an object
-abbrev pub judgeDatum : Object → Reading Datum → Outcome Refusal Verdict
-judgeDatum o r = afterReading r (λ d. gave (judge o d))
+abbrev pub judge_datum : Object → Reading Datum → Outcome Refusal Verdict
+judge_datum o r = after_reading r (λ d. gave (judge o d))
 
-abbrev pub judgeText : Object → List ℕ → Outcome Refusal Verdict
-judgeText o text = judgeDatum o (datumOf levelLimit text)
+abbrev pub judge_text : Object → List ℕ → Outcome Refusal Verdict
+judge_text o text = judge_datum o (datum_of level_limit text)
 
-abbrev pub underRoot : ℕ → List ℕ → Option Object → Outcome Refusal Verdict
-underRoot root text none = refused (refusal NotAnObject root)
-underRoot root text (some o) = judgeText o text
+abbrev pub under_root : ℕ → List ℕ → Option Object → Outcome Refusal Verdict
+under_root root text none = refused (refusal NotAnObject root)
+under_root root text (some o) = judge_text o text
 
-unfoldable pub judgeAnswer : List ℕ → ℕ → List ℕ → Outcome Refusal Verdict
-judgeAnswer table root text = orFault (tableFault table) (underRoot root text (objectAt (image_of table) root))
+unfoldable pub judge_answer : List ℕ → ℕ → List ℕ → Outcome Refusal Verdict
+judge_answer table root text = or_fault (table_fault table) (under_root root text (object_at (image_of table) root))
 
 -- the same answer, its record's number moved
-abbrev pub movedAnswer : ℕ → Outcome Refusal Verdict → Outcome Refusal Verdict
-movedAnswer s (refused r) = refused r
-movedAnswer s (gave v) = gave (movedVerdict s v)
+abbrev pub moved_answer : ℕ → Outcome Refusal Verdict → Outcome Refusal Verdict
+moved_answer s (refused r) = refused r
+moved_answer s (gave v) = gave (moved_verdict s v)

@@ -3,16 +3,16 @@ mod walk;
 
 ghost use Rattle.std.specs.Prelude.{◌≡◌, ◌≤◌, length};
 ghost use Rattle.std.proofs.Math.Option.{none};
-ghost use Rattle.dadl.specs.contracts.Answers.{TapeRoom};
+ghost use Rattle.dadl.specs.Clauses.Answers.{TapeRoom};
 ghost use Rattle.table.specs.Records.{image_of};
-ghost use Rattle.table.specs.Check.{kind_at, tableFault};
-ghost use Rattle.table.specs.Trees.{objectAt};
+ghost use Rattle.table.specs.Check.{kind_at, table_fault};
+ghost use Rattle.table.specs.Trees.{object_at};
 ghost use Rattle.refusals.specs.Outcomes.{gave};
-ghost use Rattle.judge.specs.Judge.{underRoot, judgeAnswer};
-ghost use Rattle.judge_admission.specs.contracts.Items.{imageFrom, TableGood};
-ghost use Rattle.judge_attributes.specs.contracts.Answers.{verdictIn};
-ghost use Rattle.judge.specs.contracts.Answers.{answer_of};
-ghost use Rattle.judge.specs.contracts.Walk.{shortText};
+ghost use Rattle.judge.specs.Judge.{under_root, judge_answer};
+ghost use Rattle.judge_admission.specs.Clauses.Items.{image_from, TableGood};
+ghost use Rattle.judge_attributes.specs.Clauses.Answers.{verdict_in};
+ghost use Rattle.judge.specs.Clauses.Answers.{answer_of};
+ghost use Rattle.judge.specs.Clauses.Walk.{short_text};
 
 use crate::walk::judge_block;
 use dadl::rows::{MEMBER_SIZE, ROW_SIZE};
@@ -52,7 +52,7 @@ pub enum JudgeResult {
 
 // A verdict, as an answer.
 fn answer(v: Verdict) -> JudgeResult
-    ensures { answer_of result ≡ gave (verdictIn v) }
+    ensures { answer_of result ≡ gave (verdict_in v) }
 {
     match v {
         Verdict::Valid => JudgeResult::Valid,
@@ -76,11 +76,11 @@ fn judge_on(
     tape: &mut [u16],
 ) -> JudgeResult
     requires table_good { TableGood records.now pool.now }
-    requires root_value { kind_at (imageFrom records.now pool.now) root.0 ≡ 1 }
+    requires root_value { kind_at (image_from records.now pool.now) root.0 ≡ 1 }
     requires tape_room { TapeRoom text.now tape.old }
     ensures { answer_of result
-        ≡ underRoot root.0 text.now
-        (objectAt (imageFrom records.now pool.now) root.0) }
+        ≡ under_root root.0 text.now
+        (object_at (image_from records.now pool.now) root.0) }
 {
     match read_data(text, LEVEL_LIMIT, tape) {
         DataRead::Refused(why) => {
@@ -122,11 +122,11 @@ fn judge_on(
 // The same with a small tape, for a short text.
 fn judge_short(records: &[u8], pool: &[u8], root: RecordNumber, text: &[u8]) -> JudgeResult
     requires table_good { TableGood records.now pool.now }
-    requires root_value { kind_at (imageFrom records.now pool.now) root.0 ≡ 1 }
-    requires text_len_bound { length text.now ≤ shortText }
+    requires root_value { kind_at (image_from records.now pool.now) root.0 ≡ 1 }
+    requires text_len_bound { length text.now ≤ short_text }
     ensures { answer_of result
-        ≡ underRoot root.0 text.now
-        (objectAt (imageFrom records.now pool.now) root.0) }
+        ≡ under_root root.0 text.now
+        (object_at (image_from records.now pool.now) root.0) }
 {
     let mut tape = [0u16; SHORT_TAPE];
     judge_on(records, pool, root, text, &mut tape)
@@ -135,10 +135,10 @@ fn judge_short(records: &[u8], pool: &[u8], root: RecordNumber, text: &[u8]) -> 
 // The same with the tape of the longest text.
 fn judge_long(records: &[u8], pool: &[u8], root: RecordNumber, text: &[u8]) -> JudgeResult
     requires table_good { TableGood records.now pool.now }
-    requires root_value { kind_at (imageFrom records.now pool.now) root.0 ≡ 1 }
+    requires root_value { kind_at (image_from records.now pool.now) root.0 ≡ 1 }
     ensures { answer_of result
-        ≡ underRoot root.0 text.now
-        (objectAt (imageFrom records.now pool.now) root.0) }
+        ≡ under_root root.0 text.now
+        (object_at (image_from records.now pool.now) root.0) }
 {
     let mut tape = [0u16; LONG_TAPE];
     judge_on(records, pool, root, text, &mut tape)
@@ -146,9 +146,9 @@ fn judge_long(records: &[u8], pool: &[u8], root: RecordNumber, text: &[u8]) -> J
 
 // A data text by the object with a number, in a table that passes the check.
 fn judge_checked(table: &[u8], root: RecordNumber, text: &[u8]) -> JudgeResult
-    requires { tableFault table.now ≡ none }
+    requires { table_fault table.now ≡ none }
     ensures { answer_of result
-        ≡ underRoot root.0 text.now (objectAt (image_of table.now) root.0) }
+        ≡ under_root root.0 text.now (object_at (image_of table.now) root.0) }
 {
     let frame = frame_of(table);
     if kind_at(table, frame, root) != OBJECT_KIND {
@@ -169,7 +169,7 @@ fn judge_checked(table: &[u8], root: RecordNumber, text: &[u8]) -> JudgeResult
 // A data text by the object of a table with a number: the table is checked first, then the root, then the text is read,
 // and then judged.
 pub fn judge(table: &[u8], root: u32, text: &[u8]) -> JudgeResult
-    ensures { answer_of result ≡ judgeAnswer table.now root text.now }
+    ensures { answer_of result ≡ judge_answer table.now root text.now }
 {
     match check(table) {
         CheckAnswer::Refused(why) => JudgeResult::Refused(why),

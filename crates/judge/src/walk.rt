@@ -1,13 +1,13 @@
 // The walk: a block by an object, and the blocks inside it by the objects of its attributes.
 ghost use Rattle.std.specs.Prelude.{◌≡◌, ◌+◌, ◌≤◌, length};
-ghost use Rattle.meaning.specs.Judging.{typeSuits};
-ghost use Rattle.table.specs.contracts.Answers.{recordOf};
-ghost use Rattle.judge_admission.specs.contracts.Items.{name_of, imageFrom};
-ghost use Rattle.judge_attributes.specs.contracts.Answers.{verdictIn};
-ghost use Rattle.judge_tape.specs.contracts.Rows.{typeOn, BlockGood};
-ghost use Rattle.judge.specs.contracts.Walk.{Under};
-ghost use Rattle.judge_attributes.specs.contracts.Attributes.{blockUnder};
-ghost use Rattle.judge_tape.specs.contracts.Memo.{MemoGood};
+ghost use Rattle.meaning.specs.Judging.{type_suits};
+ghost use Rattle.table.specs.Clauses.Answers.{record_of};
+ghost use Rattle.judge_admission.specs.Clauses.Items.{name_of, image_from};
+ghost use Rattle.judge_attributes.specs.Clauses.Answers.{verdict_in};
+ghost use Rattle.judge_tape.specs.Clauses.Rows.{type_on, BlockGood};
+ghost use Rattle.judge.specs.Clauses.Walk.{Under};
+ghost use Rattle.judge_attributes.specs.Clauses.Attributes.{block_under};
+ghost use Rattle.judge_tape.specs.Clauses.Memo.{MemoGood};
 
 use dadl::rows::MEMBER_SIZE;
 use judge_admission::{entry_at, name_of};
@@ -29,8 +29,8 @@ fn type_suits(pool: &[u8], s: &[u8], rows: usize, e: Entry, block: Block) -> boo
     requires b_in_bounds { e.a + e.b ≤ length pool.now }
     requires block_good { BlockGood (length s.now) rows block }
     ensures { result
-        ≡ typeSuits (name_of pool.now (recordOf e))
-        (typeOn s.now block.type_start block.type_end) }
+        ≡ type_suits (name_of pool.now (record_of e))
+        (type_on s.now block.type_start block.type_end) }
 {
     let start = block.type_start;
     let end = block.type_end;
@@ -58,8 +58,8 @@ pub fn judge_block(
 ) -> Verdict
     requires under { Under records.now pool.now s.now tape.now rows levels object.0 block }
     requires memo_good { MemoGood records.now pool.now s.now tape.now rows memo.old }
-    ensures result_value { verdictIn result
-        ≡ blockUnder (imageFrom records.now pool.now) s.now rows tape.now
+    ensures result_value { verdict_in result
+        ≡ block_under (image_from records.now pool.now) s.now rows tape.now
         object.0 block }
     ensures memo_good_2 { MemoGood records.now pool.now s.now tape.now rows
         memo.new }
@@ -135,8 +135,8 @@ fn judge_with_memo(
     block: Block,
 ) -> Verdict
     requires { Under records.now pool.now s.now tape.now rows levels object.0 block }
-    ensures { verdictIn result
-        ≡ blockUnder (imageFrom records.now pool.now) s.now rows tape.now
+    ensures { verdict_in result
+        ≡ block_under (image_from records.now pool.now) s.now rows tape.now
         object.0 block }
 {
     let mut memo = [0u8; MEMO_ROOM];

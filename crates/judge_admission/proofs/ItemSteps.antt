@@ -12,13 +12,13 @@ use lib.Seq.{get_or-take, get_or-drop}
 use borrow.Author.Tests.{eq-eqb, ne_eqb, lt-leb, le-leb}
 use Rattle.lexis.specs.Runs.{same}
 use Rattle.values.proofs.Common.{by_order}
-use Rattle.values.specs.Integers.{integerOf}
-use Rattle.values.specs.Dates.{dateOf}
-use Rattle.values.specs.Times.{timeOf}
-use Rattle.values.specs.Durations.{durationOf}
-use Rattle.values.specs.Patterns.{fitsDate, fitsTime, fitsDuration}
-use Rattle.values.specs.Words.{booleanOf}
-use Rattle.values.specs.contracts.Answers.{booleanAnswer, integerAnswer, dateAnswer, timeAnswer, durationAnswer}
+use Rattle.values.specs.Integers.{integer_of}
+use Rattle.values.specs.Dates.{date_of}
+use Rattle.values.specs.Times.{time_of}
+use Rattle.values.specs.Durations.{duration_of}
+use Rattle.values.specs.Patterns.{fits_date, fits_time, fits_duration}
+use Rattle.values.specs.Words.{boolean_of}
+use Rattle.values.specs.Clauses.Answers.{boolean_answer, integer_answer, date_answer, time_answer, duration_answer}
 use Rattle.values.specs.declared.integers.Number.{Number}
 use Rattle.values.specs.declared.integers.Number.TheVariants as number
 use Rattle.values.specs.declared.dates.Day.{Day}
@@ -29,34 +29,34 @@ use Rattle.values.specs.declared.durations.Duration.{Duration}
 use Rattle.values.specs.declared.durations.Duration.TheVariants as duration
 use Rattle.values.specs.declared.words.Boolean.{Boolean}
 use Rattle.values.specs.declared.words.Boolean.TheVariants as boolean
-use Rattle.meaning.specs.Constraints.{RangeSort, integers, dates, SingleSort, booleans, datePattern, timePattern, durationPattern, Range, single, ranges}
+use Rattle.meaning.specs.Constraints.{RangeSort, integers, dates, SingleSort, booleans, date_pattern, time_pattern, duration_pattern, Range, single, ranges}
 use Rattle.meaning.specs.Findings.{Finding, unsuited, refuted, admitted, found, try}
-use Rattle.meaning.specs.Sorts.{in_range, in_some, singleRow, rangeRow, textKind}
-use Rattle.meaning.specs.Admission.{is_some, wordUnder, stringUnder}
-use Rattle.table.specs.Records.{recordSize, decode, field, recordIn}
-use Rattle.table.specs.Rows.{Shape, tableHeader, object, attribute, text, range, shape_of, kind_of, isKnown, isListed}
+use Rattle.meaning.specs.Sorts.{in_range, in_some, single_row, range_row, text_kind}
+use Rattle.meaning.specs.Admission.{is_some, word_under, string_under}
+use Rattle.table.specs.Records.{record_size, decode, field, record_in}
+use Rattle.table.specs.Rows.{Shape, table_header, object, attribute, text, range, shape_of, kind_of, is_known, is_listed}
 use Rattle.table.specs.Rows
 use Rattle.table.proofs.UseLaws.{kind-shape}
-use Rattle.table.specs.contracts.Answers.{recordOf}
+use Rattle.table.specs.Clauses.Answers.{record_of}
 use Rattle.table.specs.declared.records.Entry.{Entry}
-use Rattle.judge_admission.specs.contracts.Items.{name_of, NamedRecord, recordItems, rangeSort, recordRange, rangeIn, textIn, rangesFrom, textsFrom, leafOfShape, recordLeaf, Lies, OfKind, Chained, Spelled, ItemsGood, itemOfShape}
-use Rattle.judge_admission.specs.contracts.Answers.{findingUnder, isAdmitted, itemAdmits}
+use Rattle.judge_admission.specs.Clauses.Items.{name_of, NamedRecord, record_items, range_sort, record_range, range_in, text_in, ranges_from, texts_from, leaf_of_shape, record_leaf, Lies, OfKind, Chained, Spelled, ItemsGood, item_of_shape}
+use Rattle.judge_admission.specs.Clauses.Answers.{finding_under, is_admitted, item_admits}
 
 -- an end of an item
-pub end-signed : (signed : Bool) (x r : ℕ) → signed ≡ true → r ≡ (rangeRow integers).end x
-    → r ≡ (rangeRow (rangeSort signed)).end x
+pub end-signed : (signed : Bool) (x r : ℕ) → signed ≡ true → r ≡ (range_row integers).end x
+    → r ≡ (range_row (range_sort signed)).end x
 end-signed signed x r h e = rw h e
 
-pub end-plain : (signed : Bool) (x : ℕ) → signed ≡ false → x ≡ (rangeRow (rangeSort signed)).end x
+pub end-plain : (signed : Bool) (x : ℕ) → signed ≡ false → x ≡ (range_row (range_sort signed)).end x
 end-plain signed x h = rw h
 
 -- a value between the ends of an item
-module _ (sort : RangeSort) (e : Entry) (v low : ℕ) (el : low ≡ (rangeRow sort).end e.a) where
-  pub range-below : v < low → false ≡ in_range v (recordRange sort 0 (recordOf e))
+module _ (sort : RangeSort) (e : Entry) (v low : ℕ) (el : low ≡ (range_row sort).end e.a) where
+  pub range-below : v < low → false ≡ in_range v (record_range sort 0 (record_of e))
   range-below h = rw (← el, lt-leb low v h)
 
-  pub range-above : (high : ℕ) → low ≤ v → high ≡ (rangeRow sort).end e.b
-      → leb v high ≡ in_range v (recordRange sort 0 (recordOf e))
+  pub range-above : (high : ℕ) → low ≤ v → high ≡ (range_row sort).end e.b
+      → leb v high ≡ in_range v (record_range sort 0 (record_of e))
   range-above high h eh = rw (← el, ← eh, le-leb low v h)
 
 -- what a walk over items still has to do
@@ -69,17 +69,17 @@ pub record InItems (records : List ℕ) (kind : ℕ) (has : List ℕ → Bool) (
   pub enough : 0 < n → length records ≤ n + fuel
   pub low : 0 < n → first ≤ n
   pub here : 0 < n → OfKind records kind n
-  pub is : has (recordItems records fuel n) ≡ has (recordItems records (length records) first)
+  pub is : has (record_items records fuel n) ≡ has (record_items records (length records) first)
 
 -- the items of a walk that is over, and of one that is not
-pub items-none : (records : List ℕ) (fuel : ℕ) → recordItems records fuel 0 ≡ []
-unfolding recordItems
+pub items-none : (records : List ℕ) (fuel : ℕ) → record_items records fuel 0 ≡ []
+unfolding record_items
 items-none records zero = refl
 items-none records (suc fuel) = refl
 
 pub items-some : (records : List ℕ) (fuel n : ℕ) → (n ≡ 0 → ⊥)
-    → recordItems records (suc fuel) n ≡ n ∷ recordItems records fuel (field (recordIn records n) 4)
-unfolding recordItems
+    → record_items records (suc fuel) n ≡ n ∷ record_items records fuel (field (record_in records n) 4)
+unfolding record_items
 items-some records fuel n h = rw (ne_eqb n 0 h)
 
 module _ {records : List ℕ} {kind : ℕ} {has : List ℕ → Bool} {first : ℕ} where
@@ -87,8 +87,8 @@ module _ {records : List ℕ} {kind : ℕ} {has : List ℕ → Bool} {first : �
   items-start c = record { fuel = length records; enough = λ h. omega arith; low = λ h. omega arith; here = c.here; is = refl }
 
   module _ {n : ℕ} (i : InItems records kind has first n) where
-    pub items-end : n ≡ 0 → has [] ≡ has (recordItems records (length records) first)
-    items-end h = ap has (sym (items-none records i.fuel)) ∙ ap (λ k. has (recordItems records i.fuel k)) (sym h) ∙ i.is
+    pub items-end : n ≡ 0 → has [] ≡ has (record_items records (length records) first)
+    items-end h = ap has (sym (items-none records i.fuel)) ∙ ap (λ k. has (record_items records i.fuel k)) (sym h) ∙ i.is
 
     module _ (h : n ≡ 0 → ⊥) where
       pub items-lies : Lies records n
@@ -96,19 +96,19 @@ module _ {records : List ℕ} {kind : ℕ} {has : List ℕ → Bool} {first : �
 
       -- the first of the items that are left
       pub items-now : (fuel : ℕ) × (length records ≤ suc n + fuel)
-          × (has (n ∷ recordItems records fuel (field (recordIn records n) 4))
-          ≡ has (recordItems records (length records) first))
+          × (has (n ∷ record_items records fuel (field (record_in records n) 4))
+          ≡ has (record_items records (length records) first))
       items-now = by i.fuel (i.enough (omega arith)) i.is
         where
           by : (fuel : ℕ) → length records ≤ n + fuel
-              → has (recordItems records fuel n) ≡ has (recordItems records (length records) first)
+              → has (record_items records fuel n) ≡ has (record_items records (length records) first)
               → (fuel : ℕ) × (length records ≤ suc n + fuel)
-              × (has (n ∷ recordItems records fuel (field (recordIn records n) 4))
-              ≡ has (recordItems records (length records) first))
+              × (has (n ∷ record_items records fuel (field (record_in records n) 4))
+              ≡ has (record_items records (length records) first))
           by zero l e = absurd (let k = items-lies in omega arith)
           by (suc fuel) l e = (fuel, omega arith, ap has (sym (items-some records fuel n h)) ∙ e)
 
-      module _ (c : Chained records kind first) {next : ℕ} (e : next ≡ field (recordIn records n) 4) where
+      module _ (c : Chained records kind first) {next : ℕ} (e : next ≡ field (record_in records n) 4) where
         up : 0 < next → (n < next) × OfKind records kind next
         up = rw (← e) at (c.up n (i.low (omega arith)) (i.here (omega arith)))
 
@@ -128,79 +128,79 @@ module _ {records : List ℕ} {kind : ℕ} {has : List ℕ → Bool} {first : �
               enough = λ z. let u = up z in let k = w.1 in omega arith;
               low = λ z. let u = up z in let k = i.low (omega arith) in omega arith;
               here = λ z. (up z).1;
-              is = ap (λ k. has (recordItems records w.0 k)) e ∙ sym (f (recordItems records w.0 (field (recordIn records n) 4))) ∙ w.2;
+              is = ap (λ k. has (record_items records w.0 k)) e ∙ sym (f (record_items records w.0 (field (record_in records n) 4))) ∙ w.2;
             }
 
 -- a value in some of the ranges with these numbers
-unfoldable pub inRanges : RangeSort → List ℕ → ℕ → List ℕ → Bool
-inRanges sort records v ns = in_some v (map (rangeIn sort records) ns)
+unfoldable pub in_ranges : RangeSort → List ℕ → ℕ → List ℕ → Bool
+in_ranges sort records v ns = in_some v (map (range_in sort records) ns)
 
 abbrev pub InRanges : List ℕ → RangeSort → ℕ → ℕ → ℕ → Type 0
-InRanges records sort v first n = InItems records (rangeRow sort).kind (inRanges sort records v) first n
+InRanges records sort v first n = InItems records (range_row sort).kind (in_ranges sort records v) first n
 
 module _ (records : List ℕ) (sort : RangeSort) (v first n : ℕ) (i : InRanges records sort v first n) where
-  pub ranges-end : n ≡ 0 → false ≡ in_some v (rangesFrom sort records first)
-  unfolding inRanges in_some
+  pub ranges-end : n ≡ 0 → false ≡ in_some v (ranges_from sort records first)
+  unfolding in_ranges in_some
   ranges-end h = items-end i h
 
-  module _ (h : n ≡ 0 → ⊥) (e : Entry) (q : recordOf e ≡ recordIn records n) (r : Bool)
-      (t : r ≡ in_range v (recordRange sort 0 (recordOf e))) where
-    is-test : r ≡ in_range v (rangeIn sort records n)
-    is-test = t ∙ ap (λ x. in_range v (recordRange sort 0 x)) q
+  module _ (h : n ≡ 0 → ⊥) (e : Entry) (q : record_of e ≡ record_in records n) (r : Bool)
+      (t : r ≡ in_range v (record_range sort 0 (record_of e))) where
+    is-test : r ≡ in_range v (range_in sort records n)
+    is-test = t ∙ ap (λ x. in_range v (record_range sort 0 x)) q
 
-    pub ranges-found : r ≡ true → true ≡ in_some v (rangesFrom sort records first)
-    unfolding inRanges in_some
+    pub ranges-found : r ≡ true → true ≡ in_some v (ranges_from sort records first)
+    unfolding in_ranges in_some
     ranges-found y =
         let w = items-now i h in
-        ap (λ b. b || inRanges sort records v (recordItems records w.0 (field (recordIn records n) 4))) (sym y ∙ is-test) ∙ w.2
+        ap (λ b. b || in_ranges sort records v (record_items records w.0 (field (record_in records n) 4))) (sym y ∙ is-test) ∙ w.2
 
-    pub ranges-next : Chained records (rangeRow sort).kind first → r ≡ false → InRanges records sort v first e.e
-    unfolding inRanges in_some
-    ranges-next c y = items-next i h c (ap (λ x. field x 4) q) (λ ns. ap (λ b. b || inRanges sort records v ns) (sym is-test ∙ y))
+    pub ranges-next : Chained records (range_row sort).kind first → r ≡ false → InRanges records sort v first e.e
+    unfolding in_ranges in_some
+    ranges-next c y = items-next i h c (ap (λ x. field x 4) q) (λ ns. ap (λ b. b || in_ranges sort records v ns) (sym is-test ∙ y))
 
-    pub ranges-less : Chained records (rangeRow sort).kind first → left records e.e < left records n
+    pub ranges-less : Chained records (range_row sort).kind first → left records e.e < left records n
     ranges-less c = items-less i h c (ap (λ x. field x 4) q)
 
 -- a value that is some of the texts with these numbers
-unfoldable pub inTexts : List ℕ → List ℕ → List ℕ → List ℕ → Bool
-inTexts records pool w ns = is_some w (map (textIn records pool) ns)
+unfoldable pub in_texts : List ℕ → List ℕ → List ℕ → List ℕ → Bool
+in_texts records pool w ns = is_some w (map (text_in records pool) ns)
 
 abbrev pub InTexts : List ℕ → List ℕ → List ℕ → ℕ → ℕ → Type 0
-InTexts records pool w first n = InItems records textKind (inTexts records pool w) first n
+InTexts records pool w first n = InItems records text_kind (in_texts records pool w) first n
 
 module _ (records pool w : List ℕ) (first n : ℕ) (i : InTexts records pool w first n) where
-  pub texts-end : n ≡ 0 → false ≡ is_some w (textsFrom records pool first)
-  unfolding inTexts is_some
+  pub texts-end : n ≡ 0 → false ≡ is_some w (texts_from records pool first)
+  unfolding in_texts is_some
   texts-end h = items-end i h
 
-  module _ (h : n ≡ 0 → ⊥) (e : Entry) (q : recordOf e ≡ recordIn records n) where
+  module _ (h : n ≡ 0 → ⊥) (e : Entry) (q : record_of e ≡ record_in records n) where
     pub text-inside : Spelled records pool first → e.a + e.b ≤ length pool
     text-inside p = rw (← q) at (p.inside n (i.low (omega arith)) (i.here (omega arith)))
 
-    module _ (name : List ℕ) (en : name ≡ name_of pool (recordOf e)) (r : Bool) (t : r ≡ same w name) where
-      is-text : r ≡ same w (textIn records pool n).text
+    module _ (name : List ℕ) (en : name ≡ name_of pool (record_of e)) (r : Bool) (t : r ≡ same w name) where
+      is-text : r ≡ same w (text_in records pool n).text
       is-text = t ∙ ap (same w) (en ∙ ap (name_of pool) q)
 
-      pub texts-found : r ≡ true → true ≡ is_some w (textsFrom records pool first)
-      unfolding inTexts is_some
+      pub texts-found : r ≡ true → true ≡ is_some w (texts_from records pool first)
+      unfolding in_texts is_some
       texts-found y =
           let k = items-now i h in
-          ap (λ b. b || inTexts records pool w (recordItems records k.0 (field (recordIn records n) 4))) (sym y ∙ is-text) ∙ k.2
+          ap (λ b. b || in_texts records pool w (record_items records k.0 (field (record_in records n) 4))) (sym y ∙ is-text) ∙ k.2
 
-      pub texts-next : Chained records textKind first → r ≡ false → InTexts records pool w first e.e
-      unfolding inTexts is_some
-      texts-next c y = items-next i h c (ap (λ x. field x 4) q) (λ ns. ap (λ b. b || inTexts records pool w ns) (sym is-text ∙ y))
+      pub texts-next : Chained records text_kind first → r ≡ false → InTexts records pool w first e.e
+      unfolding in_texts is_some
+      texts-next c y = items-next i h c (ap (λ x. field x 4) q) (λ ns. ap (λ b. b || in_texts records pool w ns) (sym is-text ∙ y))
 
-    pub texts-less : Chained records textKind first → left records e.e < left records n
+    pub texts-less : Chained records text_kind first → left records e.e < left records n
     texts-less c = items-less i h c (ap (λ x. field x 4) q)
 
 -- a record, as it is read
-pub entry_read : (records : List ℕ) (n at : ℕ) (e : Entry) → at ≡ recordSize * n
-    → recordOf e ≡ decode (take recordSize (drop at records)) → recordOf e ≡ recordIn records n
+pub entry_read : (records : List ℕ) (n at : ℕ) (e : Entry) → at ≡ record_size * n
+    → record_of e ≡ decode (take record_size (drop at records)) → record_of e ≡ record_in records n
 entry_read records n at e h q = rw h at q
 
 -- the part of the pool that a name is
-pub name-part : (pool : List ℕ) (e : Entry) → take (e.a + e.b - e.a) (drop e.a pool) ≡ name_of pool (recordOf e)
+pub name-part : (pool : List ℕ) (e : Entry) → take (e.a + e.b - e.a) (drop e.a pool) ≡ name_of pool (record_of e)
 name-part pool e = rw add-sub_cancel_left
 
 -- a value that reads as nothing of its kind, and one that is tried
@@ -212,89 +212,89 @@ module _ {A E : Type 0} (answer : E → Option A) (a : E) (o : Option A) (test :
   try-some e v f h n g = g ∙ ap (λ x. try x test) (sym n ∙ ap answer (sym h) ∙ q)
 
 -- a word under Booleans
-module _ (w : List ℕ) (flag : ℕ) (a : Boolean) (q : booleanAnswer a ≡ booleanOf w) where
-  pub boolean-none : a ≡ boolean.Nothing → unsuited ≡ wordUnder (single booleans 0 flag) w
-  unfolding wordUnder
-  boolean-none h = try-none booleanAnswer a _ _ q boolean.Nothing h refl
+module _ (w : List ℕ) (flag : ℕ) (a : Boolean) (q : boolean_answer a ≡ boolean_of w) where
+  pub boolean-none : a ≡ boolean.Nothing → unsuited ≡ word_under (single booleans 0 flag) w
+  unfolding word_under
+  boolean-none h = try-none boolean_answer a _ _ q boolean.Nothing h refl
 
   module _ (v : ℕ) (h : a ≡ boolean.Value v) where
-    pub boolean-both : flag ≡ 3 → admitted ≡ wordUnder (single booleans 0 flag) w
-    unfolding wordUnder
-    boolean-both z = try-some booleanAnswer a _ _ q (boolean.Value v) v admitted h refl (rw (z, or-true))
+    pub boolean-both : flag ≡ 3 → admitted ≡ word_under (single booleans 0 flag) w
+    unfolding word_under
+    boolean-both z = try-some boolean_answer a _ _ q (boolean.Value v) v admitted h refl (rw (z, or-true))
 
-    pub boolean-one : (f : Finding) → (flag ≡ 3 → ⊥) → f ≡ found (eqb flag v) → f ≡ wordUnder (single booleans 0 flag) w
-    unfolding wordUnder
-    boolean-one f z g = try-some booleanAnswer a _ _ q (boolean.Value v) v f h refl (rw (ne_eqb flag 3 z, or-false) g)
+    pub boolean-one : (f : Finding) → (flag ≡ 3 → ⊥) → f ≡ found (eqb flag v) → f ≡ word_under (single booleans 0 flag) w
+    unfolding word_under
+    boolean-one f z g = try-some boolean_answer a _ _ q (boolean.Value v) v f h refl (rw (ne_eqb flag 3 z, or-false) g)
 
 -- a word under integers
-module _ (w records : List ℕ) (first : ℕ) (a : Number) (q : integerAnswer a ≡ integerOf w) where
-  pub integer-none : a ≡ number.Nothing → unsuited ≡ wordUnder (ranges integers (rangesFrom integers records first)) w
-  unfolding wordUnder
-  integer-none h = try-none integerAnswer a _ _ q number.Nothing h refl
+module _ (w records : List ℕ) (first : ℕ) (a : Number) (q : integer_answer a ≡ integer_of w) where
+  pub integer-none : a ≡ number.Nothing → unsuited ≡ word_under (ranges integers (ranges_from integers records first)) w
+  unfolding word_under
+  integer-none h = try-none integer_answer a _ _ q number.Nothing h refl
 
   pub integer-some : (v : ℕ) (r : Bool) (f : Finding) → a ≡ number.Value v
-      → r ≡ in_some v (rangesFrom integers records first) → f ≡ found r
-      → f ≡ wordUnder (ranges integers (rangesFrom integers records first)) w
-  unfolding wordUnder
-  integer-some v r f h e g = try-some integerAnswer a _ _ q (number.Value v) v f h refl (g ∙ ap found e)
+      → r ≡ in_some v (ranges_from integers records first) → f ≡ found r
+      → f ≡ word_under (ranges integers (ranges_from integers records first)) w
+  unfolding word_under
+  integer-some v r f h e g = try-some integer_answer a _ _ q (number.Value v) v f h refl (g ∙ ap found e)
 
 -- a word under a date pattern and under date intervals
-module _ (w : List ℕ) (a : Day) (q : dateAnswer a ≡ dateOf w) where
-  pub date-none : (flag : ℕ) → a ≡ day.Nothing → unsuited ≡ wordUnder (single datePattern 0 flag) w
-  unfolding wordUnder
-  date-none flag h = try-none dateAnswer a _ _ q day.Nothing h refl
+module _ (w : List ℕ) (a : Day) (q : date_answer a ≡ date_of w) where
+  pub date-none : (flag : ℕ) → a ≡ day.Nothing → unsuited ≡ word_under (single date_pattern 0 flag) w
+  unfolding word_under
+  date-none flag h = try-none date_answer a _ _ q day.Nothing h refl
 
-  pub dates-none : (l : List Range) → a ≡ day.Nothing → unsuited ≡ wordUnder (ranges dates l) w
-  unfolding wordUnder
-  dates-none l h = try-none dateAnswer a _ _ q day.Nothing h refl
+  pub dates-none : (l : List Range) → a ≡ day.Nothing → unsuited ≡ word_under (ranges dates l) w
+  unfolding word_under
+  dates-none l h = try-none date_answer a _ _ q day.Nothing h refl
 
   module _ (parts d : ℕ) (h : a ≡ day.Value parts d) where
-    pub date-fits : (flag : ℕ) (r : Bool) (f : Finding) → r ≡ fitsDate flag parts → f ≡ found r
-        → f ≡ wordUnder (single datePattern 0 flag) w
-    unfolding wordUnder
-    date-fits flag r f e g = try-some dateAnswer a _ _ q (day.Value parts d) (record { parts = parts; day = d }) f h refl (g ∙ ap found e)
+    pub date-fits : (flag : ℕ) (r : Bool) (f : Finding) → r ≡ fits_date flag parts → f ≡ found r
+        → f ≡ word_under (single date_pattern 0 flag) w
+    unfolding word_under
+    date-fits flag r f e g = try-some date_answer a _ _ q (day.Value parts d) (record { parts = parts; day = d }) f h refl (g ∙ ap found e)
 
     module _ (records : List ℕ) (first : ℕ) where
-      pub date-part : (parts ≡ 3 → ⊥) → refuted ≡ wordUnder (ranges dates (rangesFrom dates records first)) w
-      unfolding wordUnder
-      date-part z = try-some dateAnswer a _ _ q (day.Value parts d) (record { parts = parts; day = d }) refuted h refl (rw (ne_eqb parts 3 z))
+      pub date-part : (parts ≡ 3 → ⊥) → refuted ≡ word_under (ranges dates (ranges_from dates records first)) w
+      unfolding word_under
+      date-part z = try-some date_answer a _ _ q (day.Value parts d) (record { parts = parts; day = d }) refuted h refl (rw (ne_eqb parts 3 z))
 
-      pub date-some : (r : Bool) (f : Finding) → parts ≡ 3 → r ≡ in_some d (rangesFrom dates records first) → f ≡ found r
-          → f ≡ wordUnder (ranges dates (rangesFrom dates records first)) w
-      unfolding wordUnder
-      date-some r f z e g = try-some dateAnswer a _ _ q (day.Value parts d) (record { parts = parts; day = d }) f h refl (rw (eq-eqb parts 3 z) (g ∙ ap found e))
+      pub date-some : (r : Bool) (f : Finding) → parts ≡ 3 → r ≡ in_some d (ranges_from dates records first) → f ≡ found r
+          → f ≡ word_under (ranges dates (ranges_from dates records first)) w
+      unfolding word_under
+      date-some r f z e g = try-some date_answer a _ _ q (day.Value parts d) (record { parts = parts; day = d }) f h refl (rw (eq-eqb parts 3 z) (g ∙ ap found e))
 
 -- a word under a time pattern
-module _ (w : List ℕ) (flag : ℕ) (a : Parts) (q : timeAnswer a ≡ timeOf w) where
-  pub time-none : a ≡ parts.Nothing → unsuited ≡ wordUnder (single timePattern 0 flag) w
-  unfolding wordUnder
-  time-none h = try-none timeAnswer a _ _ q parts.Nothing h refl
+module _ (w : List ℕ) (flag : ℕ) (a : Parts) (q : time_answer a ≡ time_of w) where
+  pub time-none : a ≡ parts.Nothing → unsuited ≡ word_under (single time_pattern 0 flag) w
+  unfolding word_under
+  time-none h = try-none time_answer a _ _ q parts.Nothing h refl
 
-  pub time-fits : (n : ℕ) (r : Bool) (f : Finding) → a ≡ parts.Value n → r ≡ fitsTime flag n → f ≡ found r
-      → f ≡ wordUnder (single timePattern 0 flag) w
-  unfolding wordUnder
-  time-fits n r f h e g = try-some timeAnswer a _ _ q (parts.Value n) n f h refl (g ∙ ap found e)
+  pub time-fits : (n : ℕ) (r : Bool) (f : Finding) → a ≡ parts.Value n → r ≡ fits_time flag n → f ≡ found r
+      → f ≡ word_under (single time_pattern 0 flag) w
+  unfolding word_under
+  time-fits n r f h e g = try-some time_answer a _ _ q (parts.Value n) n f h refl (g ∙ ap found e)
 
 -- a word under a Duration pattern
-module _ (w : List ℕ) (flag : ℕ) (a : Duration) (q : durationAnswer a ≡ durationOf w) where
-  pub duration-none : a ≡ duration.Nothing → unsuited ≡ wordUnder (single durationPattern 0 flag) w
-  unfolding wordUnder
-  duration-none h = try-none durationAnswer a _ _ q duration.Nothing h refl
+module _ (w : List ℕ) (flag : ℕ) (a : Duration) (q : duration_answer a ≡ duration_of w) where
+  pub duration-none : a ≡ duration.Nothing → unsuited ≡ word_under (single duration_pattern 0 flag) w
+  unfolding word_under
+  duration-none h = try-none duration_answer a _ _ q duration.Nothing h refl
 
-  pub duration-fits : (n : ℕ) (r : Bool) (f : Finding) → a ≡ duration.Value n → r ≡ fitsDuration flag n → f ≡ found r
-      → f ≡ wordUnder (single durationPattern 0 flag) w
-  unfolding wordUnder
-  duration-fits n r f h e g = try-some durationAnswer a _ _ q (duration.Value n) n f h refl (g ∙ ap found e)
+  pub duration-fits : (n : ℕ) (r : Bool) (f : Finding) → a ≡ duration.Value n → r ≡ fits_duration flag n → f ≡ found r
+      → f ≡ word_under (single duration_pattern 0 flag) w
+  unfolding word_under
+  duration-fits n r f h e g = try-some duration_answer a _ _ q (duration.Value n) n f h refl (g ∙ ap found e)
 
 -- a string under the leaf of another shape than a string's, and a word under what is no leaf's
 module _ (records pool w : List ℕ) (n : ℕ) where
-  string-other : (k : ℕ) → (k ≡ textKind → ⊥) → unsuited ≡ findingUnder (leafOfShape records pool n (shape_of k)) true w
-  unfolding stringUnder
+  string-other : (k : ℕ) → (k ≡ text_kind → ⊥) → unsuited ≡ finding_under (leaf_of_shape records pool n (shape_of k)) true w
+  unfolding string_under
   string-other k h = by (shape_of k) (kind-shape k)
     where
-      by : (s : Shape) → (isKnown s ≡ true → k ≡ kind_of s)
-          → unsuited ≡ findingUnder (leafOfShape records pool n s) true w
-      by tableHeader e = refl
+      by : (s : Shape) → (is_known s ≡ true → k ≡ kind_of s)
+          → unsuited ≡ finding_under (leaf_of_shape records pool n s) true w
+      by table_header e = refl
       by object e = refl
       by attribute e = refl
       by text e = absurd (h (e refl))
@@ -302,139 +302,139 @@ module _ (records pool w : List ℕ) (n : ℕ) where
       by (range sort) e = refl
 
   word_none : (k : ℕ) → (k ≡ 3 → ⊥) → (k ≡ 4 → ⊥) → (k ≡ 5 → ⊥) → (k ≡ 6 → ⊥) → (k ≡ 7 → ⊥) → (k ≡ 8 → ⊥)
-      → (k ≡ 9 → ⊥) → unsuited ≡ findingUnder (leafOfShape records pool n (shape_of k)) false w
+      → (k ≡ 9 → ⊥) → unsuited ≡ finding_under (leaf_of_shape records pool n (shape_of k)) false w
   word_none k h3 h4 h5 h6 h7 h8 h9 = by (shape_of k) (kind-shape k)
     where
-      by : (s : Shape) → (isKnown s ≡ true → k ≡ kind_of s)
-          → unsuited ≡ findingUnder (leafOfShape records pool n s) false w
-      by tableHeader e = refl
+      by : (s : Shape) → (is_known s ≡ true → k ≡ kind_of s)
+          → unsuited ≡ finding_under (leaf_of_shape records pool n s) false w
+      by table_header e = refl
       by object e = refl
       by attribute e = refl
       by text e = absurd (h5 (e refl))
       by (Rows.single booleans) e = absurd (h3 (e refl))
-      by (Rows.single datePattern) e = absurd (h6 (e refl))
-      by (Rows.single timePattern) e = absurd (h8 (e refl))
-      by (Rows.single durationPattern) e = absurd (h9 (e refl))
+      by (Rows.single date_pattern) e = absurd (h6 (e refl))
+      by (Rows.single time_pattern) e = absurd (h8 (e refl))
+      by (Rows.single duration_pattern) e = absurd (h9 (e refl))
       by (range integers) e = absurd (h4 (e refl))
       by (range dates) e = absurd (h7 (e refl))
 
 -- what each kind answers, its entry read
-module _ (records pool w : List ℕ) (first : ℕ) (e : Entry) (q : recordOf e ≡ recordIn records first) (s : Bool) where
+module _ (records pool w : List ℕ) (first : ℕ) (e : Entry) (q : record_of e ≡ record_in records first) (s : Bool) where
   -- the leaf is that of the entry's shape
   shape-read : (x : Shape) (f : Finding) → shape_of e.kind ≡ x
-      → f ≡ findingUnder (leafOfShape records pool first x) s w
-      → f ≡ findingUnder (recordLeaf records pool first) s w
-  shape-read x f h g = g ∙ ap (λ y. findingUnder (leafOfShape records pool first y) s w) (sym h ∙ ap (λ r. shape_of r.kind) q)
+      → f ≡ finding_under (leaf_of_shape records pool first x) s w
+      → f ≡ finding_under (record_leaf records pool first) s w
+  shape-read x f h g = g ∙ ap (λ y. finding_under (leaf_of_shape records pool first y) s w) (sym h ∙ ap (λ r. shape_of r.kind) q)
 
   -- a leaf of one record, by the flag that was read
   single-read : (sort : SingleSort) (f : Finding) → shape_of e.kind ≡ Rows.single sort → s ≡ false
-      → f ≡ wordUnder (single sort 0 e.flag) w → f ≡ findingUnder (recordLeaf records pool first) s w
-  unfolding wordUnder
-  single-read sort f h y g = shape-read (Rows.single sort) f h (rw y (g ∙ ap (λ r. (singleRow sort).under r.flag w) q))
+      → f ≡ word_under (single sort 0 e.flag) w → f ≡ finding_under (record_leaf records pool first) s w
+  unfolding word_under
+  single-read sort f h y g = shape-read (Rows.single sort) f h (rw y (g ∙ ap (λ r. (single_row sort).under r.flag w) q))
 
   module _ (y : s ≡ true) where
-    pub string-not : (e.kind ≡ 5 → ⊥) → unsuited ≡ findingUnder (recordLeaf records pool first) s w
+    pub string-not : (e.kind ≡ 5 → ⊥) → unsuited ≡ finding_under (record_leaf records pool first) s w
     string-not h = shape-read (shape_of e.kind) unsuited refl (rw y (string-other records pool w first e.kind h))
 
-    pub string-kind : (r : Bool) (f : Finding) → e.kind ≡ 5 → r ≡ is_some w (textsFrom records pool first) → f ≡ found r
-        → f ≡ findingUnder (recordLeaf records pool first) s w
-    unfolding shape_of stringUnder
+    pub string-kind : (r : Bool) (f : Finding) → e.kind ≡ 5 → r ≡ is_some w (texts_from records pool first) → f ≡ found r
+        → f ≡ finding_under (record_leaf records pool first) s w
+    unfolding shape_of string_under
     string-kind r f h z g = shape-read text f (ap shape_of h) (rw y (g ∙ ap found z))
 
   module _ (y : s ≡ false) where
     pub word-not : (e.kind ≡ 3 → ⊥) → (e.kind ≡ 4 → ⊥) → (e.kind ≡ 5 → ⊥) → (e.kind ≡ 6 → ⊥) → (e.kind ≡ 7 → ⊥)
-        → (e.kind ≡ 8 → ⊥) → (e.kind ≡ 9 → ⊥) → unsuited ≡ findingUnder (recordLeaf records pool first) s w
+        → (e.kind ≡ 8 → ⊥) → (e.kind ≡ 9 → ⊥) → unsuited ≡ finding_under (record_leaf records pool first) s w
     word-not h3 h4 h5 h6 h7 h8 h9 = shape-read (shape_of e.kind) unsuited refl (rw y (word_none records pool w first e.kind h3 h4 h5 h6 h7 h8 h9))
 
-    pub word-string : e.kind ≡ 5 → unsuited ≡ findingUnder (recordLeaf records pool first) s w
-    unfolding shape_of wordUnder
+    pub word-string : e.kind ≡ 5 → unsuited ≡ finding_under (record_leaf records pool first) s w
+    unfolding shape_of word_under
     word-string h = shape-read text unsuited (ap shape_of h) (rw y refl)
 
     pub word-integer : (f : Finding) → e.kind ≡ 4
-        → f ≡ wordUnder (ranges integers (rangesFrom integers records first)) w
-        → f ≡ findingUnder (recordLeaf records pool first) s w
+        → f ≡ word_under (ranges integers (ranges_from integers records first)) w
+        → f ≡ finding_under (record_leaf records pool first) s w
     unfolding shape_of
     word-integer f h g = shape-read (range integers) f (ap shape_of h) (rw y g)
 
-    pub word-date : (f : Finding) → e.kind ≡ 7 → f ≡ wordUnder (ranges dates (rangesFrom dates records first)) w
-        → f ≡ findingUnder (recordLeaf records pool first) s w
+    pub word-date : (f : Finding) → e.kind ≡ 7 → f ≡ word_under (ranges dates (ranges_from dates records first)) w
+        → f ≡ finding_under (record_leaf records pool first) s w
     unfolding shape_of
     word-date f h g = shape-read (range dates) f (ap shape_of h) (rw y g)
 
-    pub word-boolean : (f : Finding) → e.kind ≡ 3 → f ≡ wordUnder (single booleans 0 e.flag) w
-        → f ≡ findingUnder (recordLeaf records pool first) s w
+    pub word-boolean : (f : Finding) → e.kind ≡ 3 → f ≡ word_under (single booleans 0 e.flag) w
+        → f ≡ finding_under (record_leaf records pool first) s w
     unfolding shape_of
     word-boolean f h g = single-read booleans f (ap shape_of h) y g
 
-    pub word-date-pattern : (f : Finding) → e.kind ≡ 6 → f ≡ wordUnder (single datePattern 0 e.flag) w
-        → f ≡ findingUnder (recordLeaf records pool first) s w
+    pub word-date-pattern : (f : Finding) → e.kind ≡ 6 → f ≡ word_under (single date_pattern 0 e.flag) w
+        → f ≡ finding_under (record_leaf records pool first) s w
     unfolding shape_of
-    word-date-pattern f h g = single-read datePattern f (ap shape_of h) y g
+    word-date-pattern f h g = single-read date_pattern f (ap shape_of h) y g
 
-    pub word-time-pattern : (f : Finding) → e.kind ≡ 8 → f ≡ wordUnder (single timePattern 0 e.flag) w
-        → f ≡ findingUnder (recordLeaf records pool first) s w
+    pub word-time-pattern : (f : Finding) → e.kind ≡ 8 → f ≡ word_under (single time_pattern 0 e.flag) w
+        → f ≡ finding_under (record_leaf records pool first) s w
     unfolding shape_of
-    word-time-pattern f h g = single-read timePattern f (ap shape_of h) y g
+    word-time-pattern f h g = single-read time_pattern f (ap shape_of h) y g
 
-    pub word-duration-pattern : (f : Finding) → e.kind ≡ 9 → f ≡ wordUnder (single durationPattern 0 e.flag) w
-        → f ≡ findingUnder (recordLeaf records pool first) s w
+    pub word-duration-pattern : (f : Finding) → e.kind ≡ 9 → f ≡ word_under (single duration_pattern 0 e.flag) w
+        → f ≡ finding_under (record_leaf records pool first) s w
     unfolding shape_of
-    word-duration-pattern f h g = single-read durationPattern f (ap shape_of h) y g
+    word-duration-pattern f h g = single-read duration_pattern f (ap shape_of h) y g
 
 -- an item alone
-found_back : (b : Bool) → isAdmitted (found b) ≡ b
+found_back : (b : Bool) → is_admitted (found b) ≡ b
 found_back true = refl
 found_back false = refl
 
 module _ (w : List ℕ) (e : Entry) where
-  pub integer-alone-none : (a : Number) → integerAnswer a ≡ integerOf w → a ≡ number.Nothing
-      → false ≡ isAdmitted (wordUnder (ranges integers (recordRange integers 0 (recordOf e) ∷ [])) w)
-  unfolding wordUnder
-  integer-alone-none a q h = ap isAdmitted (try-none integerAnswer a _ _ q number.Nothing h refl)
+  pub integer-alone-none : (a : Number) → integer_answer a ≡ integer_of w → a ≡ number.Nothing
+      → false ≡ is_admitted (word_under (ranges integers (record_range integers 0 (record_of e) ∷ [])) w)
+  unfolding word_under
+  integer-alone-none a q h = ap is_admitted (try-none integer_answer a _ _ q number.Nothing h refl)
 
-  pub integer-alone : (a : Number) → integerAnswer a ≡ integerOf w → (v : ℕ) (r : Bool) → a ≡ number.Value v
-      → r ≡ in_range v (recordRange integers 0 (recordOf e))
-      → r ≡ isAdmitted (wordUnder (ranges integers (recordRange integers 0 (recordOf e) ∷ [])) w)
-  unfolding wordUnder in_some
-  integer-alone a q v r h t = sym (found_back r) ∙ ap isAdmitted (try-some integerAnswer a _ _ q (number.Value v) v (found r) h refl (rw or-false (ap found t)))
+  pub integer-alone : (a : Number) → integer_answer a ≡ integer_of w → (v : ℕ) (r : Bool) → a ≡ number.Value v
+      → r ≡ in_range v (record_range integers 0 (record_of e))
+      → r ≡ is_admitted (word_under (ranges integers (record_range integers 0 (record_of e) ∷ [])) w)
+  unfolding word_under in_some
+  integer-alone a q v r h t = sym (found_back r) ∙ ap is_admitted (try-some integer_answer a _ _ q (number.Value v) v (found r) h refl (rw or-false (ap found t)))
 
-  pub date-alone-none : (a : Day) → dateAnswer a ≡ dateOf w → a ≡ day.Nothing
-      → false ≡ isAdmitted (wordUnder (ranges dates (recordRange dates 0 (recordOf e) ∷ [])) w)
-  unfolding wordUnder
-  date-alone-none a q h = ap isAdmitted (try-none dateAnswer a _ _ q day.Nothing h refl)
+  pub date-alone-none : (a : Day) → date_answer a ≡ date_of w → a ≡ day.Nothing
+      → false ≡ is_admitted (word_under (ranges dates (record_range dates 0 (record_of e) ∷ [])) w)
+  unfolding word_under
+  date-alone-none a q h = ap is_admitted (try-none date_answer a _ _ q day.Nothing h refl)
 
-  module _ (a : Day) (q : dateAnswer a ≡ dateOf w) (parts d : ℕ) (h : a ≡ day.Value parts d) where
+  module _ (a : Day) (q : date_answer a ≡ date_of w) (parts d : ℕ) (h : a ≡ day.Value parts d) where
     pub date-alone-part : (parts ≡ 3 → ⊥)
-        → false ≡ isAdmitted (wordUnder (ranges dates (recordRange dates 0 (recordOf e) ∷ [])) w)
-    unfolding wordUnder
-    date-alone-part z = ap isAdmitted (try-some dateAnswer a _ _ q (day.Value parts d) (record { parts = parts; day = d }) refuted h refl (rw (ne_eqb parts 3 z)))
+        → false ≡ is_admitted (word_under (ranges dates (record_range dates 0 (record_of e) ∷ [])) w)
+    unfolding word_under
+    date-alone-part z = ap is_admitted (try-some date_answer a _ _ q (day.Value parts d) (record { parts = parts; day = d }) refuted h refl (rw (ne_eqb parts 3 z)))
 
-    pub date-alone : (r : Bool) → parts ≡ 3 → r ≡ in_range d (recordRange dates 0 (recordOf e))
-        → r ≡ isAdmitted (wordUnder (ranges dates (recordRange dates 0 (recordOf e) ∷ [])) w)
-    unfolding wordUnder in_some
-    date-alone r z t = sym (found_back r) ∙ ap isAdmitted (try-some dateAnswer a _ _ q (day.Value parts d) (record { parts = parts; day = d }) (found r) h refl (rw (eq-eqb parts 3 z) (rw or-false (ap found t))))
+    pub date-alone : (r : Bool) → parts ≡ 3 → r ≡ in_range d (record_range dates 0 (record_of e))
+        → r ≡ is_admitted (word_under (ranges dates (record_range dates 0 (record_of e) ∷ [])) w)
+    unfolding word_under in_some
+    date-alone r z t = sym (found_back r) ∙ ap is_admitted (try-some date_answer a _ _ q (day.Value parts d) (record { parts = parts; day = d }) (found r) h refl (rw (eq-eqb parts 3 z) (rw or-false (ap found t))))
 
   module _ (pool : List ℕ) (s : Bool) where
-    pub alone-named : NamedRecord pool (recordOf e) → e.kind ≡ 5 → e.a + e.b ≤ length pool
+    pub alone-named : NamedRecord pool (record_of e) → e.kind ≡ 5 → e.a + e.b ≤ length pool
     alone-named n k = n.inside k
 
     -- the item is that of the entry's shape
     shape-alone : (x : Shape) (b r : Bool) → shape_of e.kind ≡ x → s ≡ b
-        → r ≡ isAdmitted (findingUnder (itemOfShape pool (recordOf e) x) b w) → r ≡ itemAdmits pool (recordOf e) s w
-    shape-alone x b r h y g = g ∙ ap₂ (λ z c. isAdmitted (findingUnder (itemOfShape pool (recordOf e) z) c w)) (sym h) (sym y)
+        → r ≡ is_admitted (finding_under (item_of_shape pool (record_of e) x) b w) → r ≡ item_admits pool (record_of e) s w
+    shape-alone x b r h y g = g ∙ ap₂ (λ z c. is_admitted (finding_under (item_of_shape pool (record_of e) z) c w)) (sym h) (sym y)
 
-    pub string-alone : s ≡ true → e.kind ≡ 5 → (name : List ℕ) (r : Bool) → name ≡ name_of pool (recordOf e)
-        → r ≡ same w name → r ≡ itemAdmits pool (recordOf e) s w
-    unfolding shape_of stringUnder is_some
-    string-alone y k name r en t = shape-alone text true r (ap shape_of k) y (sym (found_back r) ∙ rw or-false (ap (λ b. isAdmitted (found b)) (t ∙ ap (same w) en)))
+    pub string-alone : s ≡ true → e.kind ≡ 5 → (name : List ℕ) (r : Bool) → name ≡ name_of pool (record_of e)
+        → r ≡ same w name → r ≡ item_admits pool (record_of e) s w
+    unfolding shape_of string_under is_some
+    string-alone y k name r en t = shape-alone text true r (ap shape_of k) y (sym (found_back r) ∙ rw or-false (ap (λ b. is_admitted (found b)) (t ∙ ap (same w) en)))
 
-    pub string-alone-not : s ≡ true → (e.kind ≡ 5 → ⊥) → false ≡ itemAdmits pool (recordOf e) s w
-    unfolding stringUnder
+    pub string-alone-not : s ≡ true → (e.kind ≡ 5 → ⊥) → false ≡ item_admits pool (record_of e) s w
+    unfolding string_under
     string-alone-not y k = shape-alone (shape_of e.kind) true false refl y (by (shape_of e.kind) (kind-shape e.kind))
       where
-        by : (x : Shape) → (isKnown x ≡ true → e.kind ≡ kind_of x)
-            → false ≡ isAdmitted (findingUnder (itemOfShape pool (recordOf e) x) true w)
-        by tableHeader h = refl
+        by : (x : Shape) → (is_known x ≡ true → e.kind ≡ kind_of x)
+            → false ≡ is_admitted (finding_under (item_of_shape pool (record_of e) x) true w)
+        by table_header h = refl
         by object h = refl
         by attribute h = refl
         by text h = absurd (k (h refl))
@@ -442,24 +442,24 @@ module _ (w : List ℕ) (e : Entry) where
         by (range sort) h = refl
 
     pub word-alone-integer : s ≡ false → e.kind ≡ 4 → (r : Bool)
-        → r ≡ isAdmitted (wordUnder (ranges integers (recordRange integers 0 (recordOf e) ∷ [])) w)
-        → r ≡ itemAdmits pool (recordOf e) s w
+        → r ≡ is_admitted (word_under (ranges integers (record_range integers 0 (record_of e) ∷ [])) w)
+        → r ≡ item_admits pool (record_of e) s w
     unfolding shape_of
     word-alone-integer y k r t = shape-alone (range integers) false r (ap shape_of k) y t
 
     pub word-alone-date : s ≡ false → e.kind ≡ 7 → (r : Bool)
-        → r ≡ isAdmitted (wordUnder (ranges dates (recordRange dates 0 (recordOf e) ∷ [])) w)
-        → r ≡ itemAdmits pool (recordOf e) s w
+        → r ≡ is_admitted (word_under (ranges dates (record_range dates 0 (record_of e) ∷ [])) w)
+        → r ≡ item_admits pool (record_of e) s w
     unfolding shape_of
     word-alone-date y k r t = shape-alone (range dates) false r (ap shape_of k) y t
 
-    pub word-alone-not : s ≡ false → (e.kind ≡ 4 → ⊥) → (e.kind ≡ 7 → ⊥) → false ≡ itemAdmits pool (recordOf e) s w
-    unfolding wordUnder
+    pub word-alone-not : s ≡ false → (e.kind ≡ 4 → ⊥) → (e.kind ≡ 7 → ⊥) → false ≡ item_admits pool (record_of e) s w
+    unfolding word_under
     word-alone-not y f g = shape-alone (shape_of e.kind) false false refl y (by (shape_of e.kind) (kind-shape e.kind))
       where
-        by : (x : Shape) → (isKnown x ≡ true → e.kind ≡ kind_of x)
-            → false ≡ isAdmitted (findingUnder (itemOfShape pool (recordOf e) x) false w)
-        by tableHeader h = refl
+        by : (x : Shape) → (is_known x ≡ true → e.kind ≡ kind_of x)
+            → false ≡ is_admitted (finding_under (item_of_shape pool (record_of e) x) false w)
+        by table_header h = refl
         by object h = refl
         by attribute h = refl
         by text h = refl
@@ -470,15 +470,15 @@ module _ (w : List ℕ) (e : Entry) where
 pub ruleset alone-steps = (integer-alone-none, integer-alone, date-alone-none, date-alone-part, date-alone, string-alone, string-alone-not, word-alone-integer, word-alone-date, word-alone-not)
 
 -- the kind of a record, as it is read
-pub kind-read-at : (records : List ℕ) (n at : ℕ) → at ≡ recordSize * n → recordSize * n + recordSize ≤ length records
-    → get_or records (at + 2) 0 ≡ (recordIn records n).kind
+pub kind-read-at : (records : List ℕ) (n at : ℕ) → at ≡ record_size * n → record_size * n + record_size ≤ length records
+    → get_or records (at + 2) 0 ≡ (record_in records n).kind
 unfolding decode
-kind-read-at records n at h l = ap (λ k. get_or records (k + 2) 0) h ∙ sym (get_or-take recordSize (drop (recordSize * n) records) 2 0 (omega arith) ∙ get_or-drop (recordSize * n) records 2 0)
+kind-read-at records n at h l = ap (λ k. get_or records (k + 2) 0) h ∙ sym (get_or-take record_size (drop (record_size * n) records) 2 0 (omega arith) ∙ get_or-drop (record_size * n) records 2 0)
 
 -- what the walks over items ask
 module _ (records pool : List ℕ) (first : ℕ) (e : Entry) (i : ItemsGood records pool first)
-    (q : recordOf e ≡ recordIn records first) where
-  chained-by : (k : ℕ) → isListed (shape_of k) ≡ true → e.kind ≡ k → Chained records k first
+    (q : record_of e ≡ record_in records first) where
+  chained-by : (k : ℕ) → is_listed (shape_of k) ≡ true → e.kind ≡ k → Chained records k first
   chained-by k a h = i.chained k a (ap (λ r. r.kind) (sym q) ∙ h)
 
   pub chained-integers : e.kind ≡ 4 → Chained records 4 first

@@ -1,13 +1,13 @@
 // Admission: how a value stands to the items of a leaf.
 ghost use Rattle.std.specs.Prelude.{◌≡◌, [], ◌∷◌, ◌+◌, ◌*◌, ◌≤◌, length};
-ghost use Rattle.meaning.specs.Constraints.{booleans, integers, datePattern, dates, timePattern, durationPattern, single, ranges};
+ghost use Rattle.meaning.specs.Constraints.{booleans, integers, date_pattern, dates, time_pattern, duration_pattern, single, ranges};
 ghost use Rattle.meaning.specs.Findings.{found};
-ghost use Rattle.meaning.specs.Sorts.{in_range, in_some, rangeRow};
-ghost use Rattle.meaning.specs.Admission.{is_some, wordUnder};
-ghost use Rattle.table.specs.Records.{recordSize, recordIn};
-ghost use Rattle.table.specs.contracts.Answers.{recordOf};
-ghost use Rattle.judge_admission.specs.contracts.Items.{name_of, rangeSort, recordRange, rangesFrom, textsFrom, recordLeaf, Chained, Spelled, ItemsGood, NamedRecord};
-ghost use Rattle.judge_admission.specs.contracts.Answers.{findingOf, findingUnder, isAdmitted, itemAdmits};
+ghost use Rattle.meaning.specs.Sorts.{in_range, in_some, range_row};
+ghost use Rattle.meaning.specs.Admission.{is_some, word_under};
+ghost use Rattle.table.specs.Records.{record_size, record_in};
+ghost use Rattle.table.specs.Clauses.Answers.{record_of};
+ghost use Rattle.judge_admission.specs.Clauses.Items.{name_of, range_sort, record_range, ranges_from, texts_from, record_leaf, Chained, Spelled, ItemsGood, NamedRecord};
+ghost use Rattle.judge_admission.specs.Clauses.Answers.{finding_of, finding_under, is_admitted, item_admits};
 
 use lexis::runs::same_bytes;
 use table::layout::{KIND_AT, STRING_KIND};
@@ -29,16 +29,16 @@ pub enum Admission {
 
 // The record with a number, of the bytes of records.
 pub fn entry_at(records: &[u8], n: RecordNumber) -> Entry
-    requires { recordSize * n.0 + recordSize ≤ length records.now }
-    ensures { recordOf result ≡ recordIn records.now n.0 }
+    requires { record_size * n.0 + record_size ≤ length records.now }
+    ensures { record_of result ≡ record_in records.now n.0 }
 {
     read(records, n.start())
 }
 
 // The kind of the record with a number.
 pub fn kind_of(records: &[u8], n: RecordNumber) -> u8
-    requires { recordSize * n.0 + recordSize ≤ length records.now }
-    ensures { result ≡ (recordIn records.now n.0).kind }
+    requires { record_size * n.0 + record_size ≤ length records.now }
+    ensures { result ≡ (record_in records.now n.0).kind }
 {
     let at = n.start() + KIND_AT;
     records[at]
@@ -46,7 +46,7 @@ pub fn kind_of(records: &[u8], n: RecordNumber) -> u8
 
 // A value that was tried is admitted or is not.
 fn tried(good: bool) -> Admission
-    ensures { findingOf result ≡ found good }
+    ensures { finding_of result ≡ found good }
 {
     if good {
         return Admission::Admitted;
@@ -56,7 +56,7 @@ fn tried(good: bool) -> Admission
 
 // An end of an item: of an integer's, as its distance from the lowest integer.
 fn end_of(signed: bool, x: u32) -> u32
-    ensures { result ≡ (rangeRow (rangeSort signed)).end x }
+    ensures { result ≡ (range_row (range_sort signed)).end x }
 {
     if signed {
         return twos_complement(x);
@@ -66,7 +66,7 @@ fn end_of(signed: bool, x: u32) -> u32
 
 // The value lies between the ends of an item.
 fn in_range(signed: bool, e: Entry, value: u32) -> bool
-    ensures { result ≡ in_range value (recordRange (rangeSort signed) 0 (recordOf e)) }
+    ensures { result ≡ in_range value (record_range (range_sort signed) 0 (record_of e)) }
 {
     if value < end_of(signed, e.a) {
         return false;
@@ -76,8 +76,8 @@ fn in_range(signed: bool, e: Entry, value: u32) -> bool
 
 // The value lies in some item of those from a record on, from link to link.
 fn in_some(records: &[u8], first: RecordNumber, signed: bool, value: u32) -> bool
-    requires { Chained records.now (rangeRow (rangeSort signed)).kind first.0 }
-    ensures { result ≡ in_some value (rangesFrom (rangeSort signed) records.now first.0) }
+    requires { Chained records.now (range_row (range_sort signed)).kind first.0 }
+    ensures { result ≡ in_some value (ranges_from (range_sort signed) records.now first.0) }
 {
     let mut n = first.0;
     while n != 0 {
@@ -93,7 +93,7 @@ fn in_some(records: &[u8], first: RecordNumber, signed: bool, value: u32) -> boo
 // The part of the pool that a record's place and length name.
 pub fn name_of<'a>(pool: &'a [u8], e: Entry) -> &'a [u8]
     requires { e.a + e.b ≤ length pool.now }
-    ensures { result.now ≡ name_of pool.now (recordOf e) }
+    ensures { result.now ≡ name_of pool.now (record_of e) }
 {
     let start = e.a as usize;
     let end = start + (e.b as usize);
@@ -105,7 +105,7 @@ fn is_some(records: &[u8], pool: &[u8], first: RecordNumber, value: &[u8]) -> bo
     requires chained { Chained records.now 5 first.0 }
     requires spelled { Spelled records.now pool.now first.0 }
     ensures { result
-        ≡ is_some value.now (textsFrom records.now pool.now first.0) }
+        ≡ is_some value.now (texts_from records.now pool.now first.0) }
 {
     let mut n = first.0;
     while n != 0 {
@@ -120,7 +120,7 @@ fn is_some(records: &[u8], pool: &[u8], first: RecordNumber, value: &[u8]) -> bo
 
 // A word under Booleans.
 fn boolean_under(flag: u8, value: &[u8]) -> Admission
-    ensures { findingOf result ≡ wordUnder (single booleans 0 flag) value.now }
+    ensures { finding_of result ≡ word_under (single booleans 0 flag) value.now }
 {
     match boolean_of(value) {
         Boolean::Value(v) => {
@@ -136,8 +136,8 @@ fn boolean_under(flag: u8, value: &[u8]) -> Admission
 // A word under integers.
 fn integer_under(records: &[u8], first: RecordNumber, value: &[u8]) -> Admission
     requires { Chained records.now 4 first.0 }
-    ensures { findingOf result
-        ≡ wordUnder (ranges integers (rangesFrom integers records.now first.0)) value.now }
+    ensures { finding_of result
+        ≡ word_under (ranges integers (ranges_from integers records.now first.0)) value.now }
 {
     match integer_of(value) {
         Number::Value(v) => tried(in_some(records, first, true, v)),
@@ -147,7 +147,7 @@ fn integer_under(records: &[u8], first: RecordNumber, value: &[u8]) -> Admission
 
 // A word under a date pattern.
 fn date_pattern_under(flag: u8, value: &[u8]) -> Admission
-    ensures { findingOf result ≡ wordUnder (single datePattern 0 flag) value.now }
+    ensures { finding_of result ≡ word_under (single date_pattern 0 flag) value.now }
 {
     match date_of(value) {
         Day::Value { parts, day: _ } => tried(fits_date(flag, parts)),
@@ -158,8 +158,8 @@ fn date_pattern_under(flag: u8, value: &[u8]) -> Admission
 // A word under date intervals, which admit full dates only.
 fn date_under(records: &[u8], first: RecordNumber, value: &[u8]) -> Admission
     requires { Chained records.now 7 first.0 }
-    ensures { findingOf result
-        ≡ wordUnder (ranges dates (rangesFrom dates records.now first.0)) value.now }
+    ensures { finding_of result
+        ≡ word_under (ranges dates (ranges_from dates records.now first.0)) value.now }
 {
     match date_of(value) {
         Day::Value { parts, day } => {
@@ -174,7 +174,7 @@ fn date_under(records: &[u8], first: RecordNumber, value: &[u8]) -> Admission
 
 // A word under a time pattern.
 fn time_pattern_under(flag: u8, value: &[u8]) -> Admission
-    ensures { findingOf result ≡ wordUnder (single timePattern 0 flag) value.now }
+    ensures { finding_of result ≡ word_under (single time_pattern 0 flag) value.now }
 {
     match time_of(value) {
         Parts::Value(parts) => tried(fits_time(flag, parts)),
@@ -184,7 +184,7 @@ fn time_pattern_under(flag: u8, value: &[u8]) -> Admission
 
 // A word under a Duration pattern.
 fn duration_pattern_under(flag: u8, value: &[u8]) -> Admission
-    ensures { findingOf result ≡ wordUnder (single durationPattern 0 flag) value.now }
+    ensures { finding_of result ≡ word_under (single duration_pattern 0 flag) value.now }
 {
     match duration_of(value) {
         Duration::Value(filled) => tried(fits_duration(flag, filled)),
@@ -195,7 +195,7 @@ fn duration_pattern_under(flag: u8, value: &[u8]) -> Admission
 // A word lies between the ends of an item of integers.
 fn integer_in(e: Entry, value: &[u8]) -> bool
     ensures { result
-        ≡ isAdmitted (wordUnder (ranges integers (recordRange integers 0 (recordOf e) ∷ [])) value.now) }
+        ≡ is_admitted (word_under (ranges integers (record_range integers 0 (record_of e) ∷ [])) value.now) }
 {
     match integer_of(value) {
         Number::Value(v) => in_range(true, e, v),
@@ -206,7 +206,7 @@ fn integer_in(e: Entry, value: &[u8]) -> bool
 // A word is a full date between the ends of an item of dates.
 fn date_in(e: Entry, value: &[u8]) -> bool
     ensures { result
-        ≡ isAdmitted (wordUnder (ranges dates (recordRange dates 0 (recordOf e) ∷ [])) value.now) }
+        ≡ is_admitted (word_under (ranges dates (record_range dates 0 (record_of e) ∷ [])) value.now) }
 {
     match date_of(value) {
         Day::Value { parts, day } => {
@@ -221,8 +221,8 @@ fn date_in(e: Entry, value: &[u8]) -> bool
 
 // An item of a list admits a value by itself.
 pub fn item_admits(pool: &[u8], e: Entry, value: &[u8], is_string: bool) -> bool
-    requires { NamedRecord pool.now (recordOf e) }
-    ensures { result ≡ itemAdmits pool.now (recordOf e) is_string value.now }
+    requires { NamedRecord pool.now (record_of e) }
+    ensures { result ≡ item_admits pool.now (record_of e) is_string value.now }
 {
     let kind = e.kind;
     if is_string {
@@ -249,8 +249,8 @@ pub fn admit(
     is_string: bool,
 ) -> Admission
     requires { ItemsGood records.now pool.now first.0 }
-    ensures { findingOf result
-        ≡ findingUnder (recordLeaf records.now pool.now first.0) is_string
+    ensures { finding_of result
+        ≡ finding_under (record_leaf records.now pool.now first.0) is_string
         value.now }
 {
     let e = entry_at(records, first);

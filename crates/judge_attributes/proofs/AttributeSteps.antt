@@ -15,23 +15,23 @@ use Rattle.meaning.specs.Constraints.{Leaf, leaf}
 use Rattle.meaning.specs.Data.{Members, member, Content, string, word}
 use Rattle.meaning.specs.Data
 use Rattle.meaning.specs.Verdicts.{Verdict, valid, fails}
-use Rattle.meaning.specs.Admission.{leafNumber}
-use Rattle.meaning.specs.Judging.{place_of, verdictOf, memberOf, judgeMember, judgeLeaf, judgeContent, judgeValue}
-use Rattle.dadl.specs.contracts.Tape.{isBlock, isString, rowNumber}
-use Rattle.dadl.specs.contracts.Rows.{row_at, TapeGood}
-use Rattle.table.specs.Records.{Image, field, recordIn}
-use Rattle.table.specs.Rows.{shape_of, objectKind, items}
+use Rattle.meaning.specs.Admission.{leaf_number}
+use Rattle.meaning.specs.Judging.{place_of, verdict_of, member_of, judge_member, judge_leaf, judge_content, judge_value}
+use Rattle.dadl.specs.Clauses.Tape.{is_block, is_string, row_number}
+use Rattle.dadl.specs.Clauses.Rows.{row_at, TapeGood}
+use Rattle.table.specs.Records.{Image, field, record_in}
+use Rattle.table.specs.Rows.{shape_of, object_kind, items}
 use Rattle.table.specs.Check.{kind_at}
-use Rattle.table.specs.Trees.{attributesIn, valueIn, treeAt}
-use Rattle.table.specs.contracts.Answers.{recordOf}
+use Rattle.table.specs.Trees.{attributes_in, value_in, tree_at}
+use Rattle.table.specs.Clauses.Answers.{record_of}
 use Rattle.table.specs.declared.records.Entry.{Entry}
 use Rattle.table.specs.declared.records.RecordNumber.{RecordNumber}
-use Rattle.judge_admission.specs.contracts.Items.{name_of, recordLeaf, Lies, ItemsGood, imageFrom}
-use Rattle.judge_admission.specs.contracts.Answers.{findingOf, findingUnder}
-use Rattle.judge_attributes.specs.contracts.Answers.{leafVerdict, verdictIn}
-use Rattle.judge_tape.specs.contracts.Rows.{contentOn, membersOn, datumOn, foundRow, memberRow, Begins, LeafRow, blockOn, MembersWithin, ContentWithin, Walk}
-use Rattle.judge_attributes.specs.contracts.Attributes.{judgeFirst, ValueLink, AttributeAt, Leads, ValueIs, AttributeAnswerIs}
-use Rattle.judge_tape.specs.contracts.Memo.{KnownIs}
+use Rattle.judge_admission.specs.Clauses.Items.{name_of, record_leaf, Lies, ItemsGood, image_from}
+use Rattle.judge_admission.specs.Clauses.Answers.{finding_of, finding_under}
+use Rattle.judge_attributes.specs.Clauses.Answers.{leaf_verdict, verdict_in}
+use Rattle.judge_tape.specs.Clauses.Rows.{content_on, members_on, datum_on, found_row, member_row, Begins, LeafRow, block_on, MembersWithin, ContentWithin, Walk}
+use Rattle.judge_attributes.specs.Clauses.Attributes.{judge_first, ValueLink, AttributeAt, Leads, ValueIs, AttributeAnswerIs}
+use Rattle.judge_tape.specs.Clauses.Memo.{KnownIs}
 use Rattle.judge_admission.specs.declared.Admission.{Admission}
 use Rattle.judge_tape.specs.declared.members.Found.{Found}
 use Rattle.judge_tape.specs.declared.members.Found.TheVariants.{At, Nothing}
@@ -40,19 +40,19 @@ use Rattle.judge_attributes.specs.declared.Verdict as declared
 use Rattle.judge_attributes.specs.declared.Verdict.TheVariants as verdict
 use Rattle.judge_attributes.specs.declared.AttributeAnswer.{AttributeAnswer}
 use Rattle.judge_attributes.specs.declared.AttributeAnswer.TheVariants.{Told, Nested}
-use Rattle.judge_tape.proofs.MemberSteps.{foundOn, FoundIs, member-holds}
+use Rattle.judge_tape.proofs.MemberSteps.{found_on, FoundIs, member-holds}
 use Rattle.judge_admission.proofs.TableLaws.{by_kind, number-lies, kind-there, link-there, name-there, items-there, object-tree, attribute-tree, leaf-there}
 
 -- what an admission tells
 module _ (a : Admission) (first place : ℕ) where
-  pub told-by : (b : Admission) (v : Verdict) → a ≡ b → v ≡ verdictOf first place (findingOf b)
-      → v ≡ verdictOf first place (findingOf a)
+  pub told-by : (b : Admission) (v : Verdict) → a ≡ b → v ≡ verdict_of first place (finding_of b)
+      → v ≡ verdict_of first place (finding_of a)
   told-by b v h e = rw h e
 
 -- a block, as it is read
-pub block_read : (tape : List ℕ) (n place start end inside : ℕ) → place ≡ rowNumber (row_at tape n) 3
-    → start ≡ rowNumber (row_at tape n) 4 → end ≡ rowNumber (row_at tape n) 5 → inside ≡ rowNumber (row_at tape n) 7
-    → record { place = place; type_start = start; type_end = end; first = n + 1; inside = inside } ≡ blockOn tape n
+pub block_read : (tape : List ℕ) (n place start end inside : ℕ) → place ≡ row_number (row_at tape n) 3
+    → start ≡ row_number (row_at tape n) 4 → end ≡ row_number (row_at tape n) 5 → inside ≡ row_number (row_at tape n) 7
+    → record { place = place; type_start = start; type_end = end; first = n + 1; inside = inside } ≡ block_on tape n
 block_read tape n place start end inside p a e i = λ j. record { place = p j; type_start = a j; type_end = e j; first = n + 1; inside = i j }
 
 -- a number that is not 0
@@ -66,131 +66,131 @@ first-lies records pool first i h = (h, i.there)
 
 -- a row whose value is known to be admitted
 pub value-known : (records pool s tape : List ℕ) (row first : ℕ) (r : Bool) → KnownIs records pool s tape row first r
-    → r ≡ true → valid ≡ leafVerdict records pool s first (row_at tape row)
-value-known records pool s tape row first r k h = ap (verdictOf first (rowNumber (row_at tape row) 3)) (sym (k.admits h))
+    → r ≡ true → valid ≡ leaf_verdict records pool s first (row_at tape row)
+value-known records pool s tape row first r k h = ap (verdict_of first (row_number (row_at tape row) 3)) (sym (k.admits h))
 
 -- the value of a row that holds a string or a word
 module _ (s : List ℕ) (rows : ℕ) (tape : List ℕ) (n start end : ℕ) (g : TapeGood (length s) rows tape)
-    (l : LeafRow rows tape n) (es : start ≡ rowNumber (row_at tape n) 6) (ee : end ≡ rowNumber (row_at tape n) 7) where
+    (l : LeafRow rows tape n) (es : start ≡ row_number (row_at tape n) 6) (ee : end ≡ row_number (row_at tape n) 7) where
   pub value-told : (records pool : List ℕ) (first holds place : ℕ) (a : Admission) (v : Verdict)
-      → holds ≡ rowNumber (row_at tape n) 0
-      → findingOf a ≡ findingUnder (recordLeaf records pool first) (eqb holds 1) (take (end - start) (drop start s))
-      → place ≡ rowNumber (row_at tape n) 3 → v ≡ verdictOf first place (findingOf a)
-      → v ≡ leafVerdict records pool s first (row_at tape n)
+      → holds ≡ row_number (row_at tape n) 0
+      → finding_of a ≡ finding_under (record_leaf records pool first) (eqb holds 1) (take (end - start) (drop start s))
+      → place ≡ row_number (row_at tape n) 3 → v ≡ verdict_of first place (finding_of a)
+      → v ≡ leaf_verdict records pool s first (row_at tape n)
   value-told records pool first holds place a v eh ea ep ev =
       let row = row_at tape n in
-      ev ∙ ap (verdictOf first place) ea ∙ λ j. verdictOf first (ep j) (findingUnder (recordLeaf records pool first) (eqb (eh j) 1) (part s (es j) (ee j)))
+      ev ∙ ap (verdict_of first place) ea ∙ λ j. verdict_of first (ep j) (finding_under (record_leaf records pool first) (eqb (eh j) 1) (part s (es j) (ee j)))
 
 -- what a row holds: a block, or a string or a word
 module _ (s : List ℕ) (rows : ℕ) (tape : List ℕ) (n : ℕ) where
-  pub content-block : rowNumber (row_at tape n) 0 ≡ 0
-      → contentOn s rows tape n ≡ Data.block (datumOn s rows tape (blockOn tape n))
+  pub content-block : row_number (row_at tape n) 0 ≡ 0
+      → content_on s rows tape n ≡ Data.block (datum_on s rows tape (block_on tape n))
   content-block h = rw h
 
   -- a leaf under an object
-  leaf-under-object : (number·object : ℕ) (inside : Data.Datum → Verdict) → (rowNumber (row_at tape n) 0 ≡ 0 → ⊥)
-      → judgeContent number·object inside (contentOn s rows tape n)
-      ≡ fails 20 number·object (rowNumber (row_at tape n) 3)
+  leaf-under-object : (number·object : ℕ) (inside : Data.Datum → Verdict) → (row_number (row_at tape n) 0 ≡ 0 → ⊥)
+      → judge_content number·object inside (content_on s rows tape n)
+      ≡ fails 20 number·object (row_number (row_at tape n) 3)
   leaf-under-object m inside h =
-      rw (ne_eqb (rowNumber (row_at tape n) 0) 0 h)
-      (by_cond (λ c. judgeContent m inside c ≡ fails 20 m (rowNumber (row_at tape n) 3)) (eqb (rowNumber (row_at tape n) 0) isString) (λ _. refl) (λ _. refl))
+      rw (ne_eqb (row_number (row_at tape n) 0) 0 h)
+      (by_cond (λ c. judge_content m inside c ≡ fails 20 m (row_number (row_at tape n) 3)) (eqb (row_number (row_at tape n) 0) is_string) (λ _. refl) (λ _. refl))
 
   -- a leaf under items
-  leaf-under-items : (records pool : List ℕ) (l : Leaf) (first : ℕ) → leafNumber l ≡ first
-      → recordLeaf records pool first ≡ some l → (rowNumber (row_at tape n) 0 ≡ 0 → ⊥)
-      → judgeLeaf l (contentOn s rows tape n) ≡ leafVerdict records pool s first (row_at tape n)
+  leaf-under-items : (records pool : List ℕ) (l : Leaf) (first : ℕ) → leaf_number l ≡ first
+      → record_leaf records pool first ≡ some l → (row_number (row_at tape n) 0 ≡ 0 → ⊥)
+      → judge_leaf l (content_on s rows tape n) ≡ leaf_verdict records pool s first (row_at tape n)
   leaf-under-items records pool l first el ef h =
       let row = row_at tape n in
-      let w = part s (rowNumber row 6) (rowNumber row 7) in
-      rw (ne_eqb (rowNumber row 0) 0 h, ef, ← el) (by (eqb (rowNumber row 0) isString))
+      let w = part s (row_number row 6) (row_number row 7) in
+      rw (ne_eqb (row_number row 0) 0 h, ef, ← el) (by (eqb (row_number row 0) is_string))
     where
       by : (b : Bool)
-          → judgeLeaf l
-          (cond b (string (rowNumber (row_at tape n) 3)
-          (part s (rowNumber (row_at tape n) 6) (rowNumber (row_at tape n) 7)))
-          (word (rowNumber (row_at tape n) 3) (part s (rowNumber (row_at tape n) 6) (rowNumber (row_at tape n) 7))))
-          ≡ verdictOf (leafNumber l) (rowNumber (row_at tape n) 3)
-          (findingUnder (some l) b (part s (rowNumber (row_at tape n) 6) (rowNumber (row_at tape n) 7)))
+          → judge_leaf l
+          (cond b (string (row_number (row_at tape n) 3)
+          (part s (row_number (row_at tape n) 6) (row_number (row_at tape n) 7)))
+          (word (row_number (row_at tape n) 3) (part s (row_number (row_at tape n) 6) (row_number (row_at tape n) 7))))
+          ≡ verdict_of (leaf_number l) (row_number (row_at tape n) 3)
+          (finding_under (some l) b (part s (row_number (row_at tape n) 6) (row_number (row_at tape n) 7)))
       by true = refl
       by false = refl
 
 -- a member's value, by the object or the items with a number
 module _ (records pool s tape : List ℕ) (rows : ℕ) (value : RecordNumber) (row : ℕ)
     (w : Walk records pool s tape rows) where
-  pub value-any : value.0 ≡ 0 → ValueIs (imageFrom records pool) s rows tape value.0 row (Told verdict.Valid)
-  unfolding treeAt judgeValue
+  pub value-any : value.0 ≡ 0 → ValueIs (image_from records pool) s rows tape value.0 row (Told verdict.Valid)
+  unfolding tree_at judge_value
   value-any h = record { is = rw h; leads = tt }
 
-  module _ (l : ValueLink (imageFrom records pool) value.0) (h : value.0 ≡ 0 → ⊥) where
+  module _ (l : ValueLink (image_from records pool) value.0) (h : value.0 ≡ 0 → ⊥) where
     -- its kind is an object's or an item's
-    kind-some : (k : ℕ) → kind_at (imageFrom records pool) value.0 ≡ k → 1 ≤ k
+    kind-some : (k : ℕ) → kind_at (image_from records pool) value.0 ≡ k → 1 ≤ k
     kind-some zero e = absurd (let f = l.kind (omega arith) in false≢true (rw e at f))
     kind-some (suc k) e = omega arith
 
     pub value-lies : Lies records value.0
-    value-lies = number-lies records pool w.checked value.0 (kind_at (imageFrom records pool) value.0) refl (kind-some (kind_at (imageFrom records pool) value.0) refl)
+    value-lies = number-lies records pool w.checked value.0 (kind_at (image_from records pool) value.0) refl (kind-some (kind_at (image_from records pool) value.0) refl)
 
-    module _ (kind : ℕ) (q : kind ≡ (recordIn records value.0).kind) where
-      kind-read : kind_at (imageFrom records pool) value.0 ≡ kind
-      kind-read = sym (kind-there records pool w.checked value.0 (kind_at (imageFrom records pool) value.0) refl (kind-some (kind_at (imageFrom records pool) value.0) refl)) ∙ sym q
+    module _ (kind : ℕ) (q : kind ≡ (record_in records value.0).kind) where
+      kind-read : kind_at (image_from records pool) value.0 ≡ kind
+      kind-read = sym (kind-there records pool w.checked value.0 (kind_at (image_from records pool) value.0) refl (kind-some (kind_at (image_from records pool) value.0) refl)) ∙ sym q
 
-      items-kind : (kind ≡ 1 → ⊥) → among (kind_at (imageFrom records pool) value.0) items ≡ true
-      items-kind z = by_kind (kind_at (imageFrom records pool) value.0) 1 items (l.kind (omega arith)) (λ f. absurd (z (sym kind-read ∙ f))) (λ f. f)
+      items-kind : (kind ≡ 1 → ⊥) → among (kind_at (image_from records pool) value.0) items ≡ true
+      items-kind z = by_kind (kind_at (image_from records pool) value.0) 1 items (l.kind (omega arith)) (λ f. absurd (z (sym kind-read ∙ f))) (λ f. f)
 
-      module _ (z : row < rows) (holds : ℕ) (eh : holds ≡ rowNumber (row_at tape row) 0) where
+      module _ (z : row < rows) (holds : ℕ) (eh : holds ≡ row_number (row_at tape row) 0) where
         -- a block under an object is still to be judged
-        pub value-nested : kind ≡ 1 → holds ≡ 0 → (b : Block) → b ≡ blockOn tape row
-            → ValueIs (imageFrom records pool) s rows tape value.0 row (Nested value b)
+        pub value-nested : kind ≡ 1 → holds ≡ 0 → (b : Block) → b ≡ block_on tape row
+            → ValueIs (image_from records pool) s rows tape value.0 row (Nested value b)
         unfolding ContentWithin
         value-nested ek ez b eb =
             let c = content-block s rows tape row (sym eh ∙ ez) in
             let g = w.good.rows row z in
-            let d : datumOn s rows tape (blockOn tape row) ≡ datumOn s rows tape b = ap (datumOn s rows tape) (sym eb) in
+            let d : datum_on s rows tape (block_on tape row) ≡ datum_on s rows tape b = ap (datum_on s rows tape) (sym eb) in
             record {
-              is = ap (λ x. judgeValue (valueIn (treeAt (imageFrom records pool) value.0)) x) (ap Data.block (sym d) ∙ sym c);
+              is = ap (λ x. judge_value (value_in (tree_at (image_from records pool) value.0)) x) (ap Data.block (sym d) ∙ sym c);
               leads = (
                 kind-read ∙ ek,
-                rw eb (record { order = g.typeStart; ahead = g.typeEnd; begins = record { there = λ k. g.inside (sym eh ∙ ez) k } }),
+                rw eb (record { order = g.type_start; ahead = g.type_end; begins = record { there = λ k. g.inside (sym eh ∙ ez) k } }),
                 rw eb (record { there = omega arith; holds = λ _. let r : row + 1 - 1 ≡ row = omega arith in rw r (sym eh ∙ ez); is = λ _. let r : row + 1 - 1 ≡ row = omega arith in rw r }),
                 λ levels k. subst (λ x. ContentWithin x levels) (c ∙ ap Data.block d) k,
               );
             }
 
-        module _ (v : declared.Verdict) (place : ℕ) (er : verdictIn v ≡ fails 20 value.0 place)
-            (ep : place ≡ rowNumber (row_at tape row) 3) where
+        module _ (v : declared.Verdict) (place : ℕ) (er : verdict_in v ≡ fails 20 value.0 place)
+            (ep : place ≡ row_number (row_at tape row) 3) where
           told-20 : fails 20 value.0
-              (rowNumber (row_at tape row) 3) ≡ judgeValue (valueIn (treeAt (imageFrom records pool) value.0))
-              (contentOn s rows tape row) → ValueIs (imageFrom records pool) s rows tape value.0 row (Told v)
+              (row_number (row_at tape row) 3) ≡ judge_value (value_in (tree_at (image_from records pool) value.0))
+              (content_on s rows tape row) → ValueIs (image_from records pool) s rows tape value.0 row (Told v)
           told-20 f = record { is = er ∙ ap (fails 20 value.0) ep ∙ f; leads = tt }
 
           -- a leaf under an object
           pub value-leaf : kind ≡ 1 → (holds ≡ 0 → ⊥)
-              → ValueIs (imageFrom records pool) s rows tape value.0 row (Told v)
-          unfolding judgeValue
+              → ValueIs (image_from records pool) s rows tape value.0 row (Told v)
+          unfolding judge_value
           value-leaf ek ez =
               told-20 (rw (object-tree records pool w.checked value.0 (kind-read ∙ ek))
               (sym (leaf-under-object s rows tape row value.0 _ (λ f. ez (eh ∙ f)))))
 
           -- a block under items
           pub value-block : (kind ≡ 1 → ⊥) → holds ≡ 0
-              → ValueIs (imageFrom records pool) s rows tape value.0 row (Told v)
-          unfolding judgeValue
+              → ValueIs (image_from records pool) s rows tape value.0 row (Told v)
+          unfolding judge_value
           value-block ek ez =
               let i = leaf-there records pool w.checked value.0 (items-kind ek) in
               told-20 (rw (i.tree, content-block s rows tape row (sym eh ∙ ez), i.number))
 
         module _ (ek : kind ≡ 1 → ⊥) (ez : holds ≡ 0 → ⊥) where
           pub value-items : ItemsGood records pool value.0
-          value-items = items-there records pool w.checked value.0 (kind_at (imageFrom records pool) value.0) refl (kind-some (kind_at (imageFrom records pool) value.0) refl)
+          value-items = items-there records pool w.checked value.0 (kind_at (image_from records pool) value.0) refl (kind-some (kind_at (image_from records pool) value.0) refl)
 
           pub value_row : LeafRow rows tape row
           value_row = record { there = z; leaf = omega arith }
 
           -- a leaf under items
           pub value-judged : (v : declared.Verdict)
-              → verdictIn v ≡ leafVerdict records pool s value.0 (row_at tape row)
-              → ValueIs (imageFrom records pool) s rows tape value.0 row (Told v)
-          unfolding judgeValue
+              → verdict_in v ≡ leaf_verdict records pool s value.0 (row_at tape row)
+              → ValueIs (image_from records pool) s rows tape value.0 row (Told v)
+          unfolding judge_value
           value-judged v ev =
               let i = leaf-there records pool w.checked value.0 (items-kind ek) in
               record {
@@ -199,23 +199,23 @@ module _ (records pool s tape : List ℕ) (rows : ℕ) (value : RecordNumber) (r
               }
 
 -- a member that is found is no deeper than the members
-pub member-within : (w : List ℕ) (ms : Members) (c : Content) (levels : ℕ) → memberOf w ms ≡ some c
+pub member-within : (w : List ℕ) (ms : Members) (c : Content) (levels : ℕ) → member_of w ms ≡ some c
     → MembersWithin ms levels → ContentWithin c levels
-unfolding memberOf MembersWithin
+unfolding member_of MembersWithin
 member-within w Data.no_more c levels e h = absurd (let z : ◌≡◌ {A = ℕ} 0 1 = cc in omega arith)
 member-within w (member x d more) c levels e h = by (same w x) e (λ g. member-within w more c levels g h.1)
   where
-    by : (b : Bool) → cond b (some d) (memberOf w more) ≡ some c → (memberOf w more ≡ some c → ContentWithin c levels)
+    by : (b : Bool) → cond b (some d) (member_of w more) ≡ some c → (member_of w more ≡ some c → ContentWithin c levels)
         → ContentWithin c levels
     by true g k = let f : d ≡ c = cc in subst (λ y. ContentWithin y levels) f h.0
     by false g k = k g
 
 -- the place of what a row holds
 content-place : (s : List ℕ) (rows : ℕ) (tape : List ℕ) (n : ℕ)
-    → place_of (contentOn s rows tape n) ≡ rowNumber (row_at tape n) 3
+    → place_of (content_on s rows tape n) ≡ row_number (row_at tape n) 3
 content-place s rows tape n =
-    let P : Content → Type 0 = λ c. place_of c ≡ rowNumber (row_at tape n) 3 in
-    either P (eqb (rowNumber (row_at tape n) 0) isBlock) refl (either P (eqb (rowNumber (row_at tape n) 0) isString) refl refl)
+    let P : Content → Type 0 = λ c. place_of c ≡ row_number (row_at tape n) 3 in
+    either P (eqb (row_number (row_at tape n) 0) is_block) refl (either P (eqb (row_number (row_at tape n) 0) is_string) refl refl)
 
 -- the block that a step leads into is within what holds it
 leads-map : (m : Image) (s : List ℕ) (rows : ℕ) (tape : List ℕ) (P Q : ℕ → Type 0)
@@ -229,52 +229,52 @@ module _ (records pool s tape : List ℕ) (rows : ℕ) (n : RecordNumber) (e : E
   pub attribute-name : e.a + e.b ≤ length pool
   attribute-name = rw (← a.is) at (name-there records pool w.checked n.0 2 a.kind (omega arith) refl)
 
-  pub attribute-link : ValueLink (imageFrom records pool) e.c
+  pub attribute-link : ValueLink (image_from records pool) e.c
   unfolding shape_of
   attribute-link =
-      let k : 0 < field (recordIn records n.0) 2 → among (kind_at (imageFrom records pool) (field (recordIn records n.0) 2)) (objectKind ∷ items) ≡ true =
-      λ h. (link-there records pool w.checked n.0 2 a.kind (omega arith) 2 (objectKind ∷ items) (lit< tt) refl h).kind in
+      let k : 0 < field (record_in records n.0) 2 → among (kind_at (image_from records pool) (field (record_in records n.0) 2)) (object_kind ∷ items) ≡ true =
+      λ h. (link-there records pool w.checked n.0 2 a.kind (omega arith) 2 (object_kind ∷ items) (lit< tt) refl h).kind in
       record { kind = rw (← a.is) at k }
 
-  module _ (name : List ℕ) (en : name ≡ name_of pool (recordOf e)) (r : Found)
+  module _ (name : List ℕ) (en : name ≡ name_of pool (record_of e)) (r : Found)
       (begins : Begins rows b.first b.inside)
-      (er : foundRow r ≡ memberRow s tape rows b.first b.inside name) where
-    f : FoundIs s rows tape (membersOn s rows tape b) name (foundRow r)
+      (er : found_row r ≡ member_row s tape rows b.first b.inside name) where
+    f : FoundIs s rows tape (members_on s rows tape b) name (found_row r)
     f = rw er (member-holds s rows tape name w.good b.first b.inside begins)
 
-    first-is : judgeMember (record { number = n.0; existence = e.flag; name = name_of pool (recordOf e) }) b.place
-        (foundOn s rows tape (foundRow r))
-        (λ x. judgeValue (valueIn (treeAt (imageFrom records pool) e.c)) x)
-        ≡ judgeFirst (attributesIn (treeAt (imageFrom records pool) n.0))
-        b.place (membersOn s rows tape b)
+    first-is : judge_member (record { number = n.0; existence = e.flag; name = name_of pool (record_of e) }) b.place
+        (found_on s rows tape (found_row r))
+        (λ x. judge_value (value_in (tree_at (image_from records pool) e.c)) x)
+        ≡ judge_first (attributes_in (tree_at (image_from records pool) n.0))
+        b.place (members_on s rows tape b)
     first-is = rw (attribute-tree records pool w.checked n.0 a.kind, ← a.is, f.is, en)
 
     module _ (h : r ≡ Nothing) where
-      pub member-missing : (v : declared.Verdict) → verdictIn v ≡ fails 22 n.0 b.place → e.flag ≡ 2
-          → AttributeAnswerIs (imageFrom records pool) s rows tape n.0 b (Told v)
+      pub member-missing : (v : declared.Verdict) → verdict_in v ≡ fails 22 n.0 b.place → e.flag ≡ 2
+          → AttributeAnswerIs (image_from records pool) s rows tape n.0 b (Told v)
       member-missing v ev z = record { is = ev ∙ (rw (h, z) at first-is); leads = tt }
 
       pub member-absent : (e.flag ≡ 2 → ⊥)
-          → AttributeAnswerIs (imageFrom records pool) s rows tape n.0 b (Told verdict.Valid)
+          → AttributeAnswerIs (image_from records pool) s rows tape n.0 b (Told verdict.Valid)
       member-absent z = record { is = rw (h, ne_eqb e.flag 2 z) at first-is; leads = tt }
 
     module _ (row : ℕ) (h : r ≡ At row) where
       pub member-row : row < rows
       member-row = rw h at f.there
 
-      pub member-present : (v : declared.Verdict) (place : ℕ) → verdictIn v ≡ fails 23 n.0 place
-          → place ≡ rowNumber (row_at tape row) 3 → e.flag ≡ 0
-          → AttributeAnswerIs (imageFrom records pool) s rows tape n.0 b (Told v)
+      pub member-present : (v : declared.Verdict) (place : ℕ) → verdict_in v ≡ fails 23 n.0 place
+          → place ≡ row_number (row_at tape row) 3 → e.flag ≡ 0
+          → AttributeAnswerIs (image_from records pool) s rows tape n.0 b (Told v)
       member-present v place ev ep z =
-          let k : fails 23 n.0 (place_of (contentOn s rows tape row)) ≡ judgeFirst (attributesIn (treeAt (imageFrom records pool) n.0)) b.place (membersOn s rows tape b) = rw (h, z) at first-is in
+          let k : fails 23 n.0 (place_of (content_on s rows tape row)) ≡ judge_first (attributes_in (tree_at (image_from records pool) n.0)) b.place (members_on s rows tape b) = rw (h, z) at first-is in
           record { is = ev ∙ ap (fails 23 n.0) (ep ∙ sym (content-place s rows tape row)) ∙ k; leads = tt }
 
-      pub member-judged : (v : AttributeAnswer) → ValueIs (imageFrom records pool) s rows tape e.c row v
-          → (e.flag ≡ 0 → ⊥) → AttributeAnswerIs (imageFrom records pool) s rows tape n.0 b v
+      pub member-judged : (v : AttributeAnswer) → ValueIs (image_from records pool) s rows tape e.c row v
+          → (e.flag ≡ 0 → ⊥) → AttributeAnswerIs (image_from records pool) s rows tape n.0 b v
       member-judged v i z =
-          let k : some (contentOn s rows tape row) ≡ memberOf name (membersOn s rows tape b) = rw h at f.is in
+          let k : some (content_on s rows tape row) ≡ member_of name (members_on s rows tape b) = rw h at f.is in
           record {
             is = i.is ∙ (rw (h, ne_eqb e.flag 0 z) at first-is);
-            leads = leads-map (imageFrom records pool) s rows tape (λ levels. ContentWithin (contentOn s rows tape row) levels) (λ levels. MembersWithin (membersOn s rows tape b) levels)
-                (λ levels q. member-within name (membersOn s rows tape b) (contentOn s rows tape row) levels (sym k) q) v i.leads;
+            leads = leads-map (image_from records pool) s rows tape (λ levels. ContentWithin (content_on s rows tape row) levels) (λ levels. MembersWithin (members_on s rows tape b) levels)
+                (λ levels q. member-within name (members_on s rows tape b) (content_on s rows tape row) levels (sym k) q) v i.leads;
           }

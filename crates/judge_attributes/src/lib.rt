@@ -1,15 +1,15 @@
 // Attributes: what an attribute tells of a block without judging a block inside it.
 ghost use Rattle.std.specs.Prelude.{◌≡◌, ◌+◌, ◌*◌, ◌≤◌, ◌<◌, length};
 ghost use Rattle.meaning.specs.Verdicts as definitions;
-ghost use Rattle.meaning.specs.Judging.{verdictOf};
-ghost use Rattle.dadl.specs.contracts.Tape.{rowSize};
-ghost use Rattle.dadl.specs.contracts.Rows.{row_at, TapeGood};
-ghost use Rattle.judge_admission.specs.contracts.Items.{imageFrom, ItemsGood};
-ghost use Rattle.judge_admission.specs.contracts.Answers.{findingOf};
-ghost use Rattle.judge_attributes.specs.contracts.Answers.{verdictIn, leafVerdict};
-ghost use Rattle.judge_tape.specs.contracts.Rows.{LeafRow, blockOn, Walk, Begins};
-ghost use Rattle.judge_attributes.specs.contracts.Attributes.{ValueLink, ValueIs, AttributeAt, AttributeAnswerIs};
-ghost use Rattle.judge_tape.specs.contracts.Memo.{MemoGood};
+ghost use Rattle.meaning.specs.Judging.{verdict_of};
+ghost use Rattle.dadl.specs.Clauses.Tape.{row_size};
+ghost use Rattle.dadl.specs.Clauses.Rows.{row_at, TapeGood};
+ghost use Rattle.judge_admission.specs.Clauses.Items.{image_from, ItemsGood};
+ghost use Rattle.judge_admission.specs.Clauses.Answers.{finding_of};
+ghost use Rattle.judge_attributes.specs.Clauses.Answers.{verdict_in, leaf_verdict};
+ghost use Rattle.judge_tape.specs.Clauses.Rows.{LeafRow, block_on, Walk, Begins};
+ghost use Rattle.judge_attributes.specs.Clauses.Attributes.{ValueLink, ValueIs, AttributeAt, AttributeAnswerIs};
+ghost use Rattle.judge_tape.specs.Clauses.Memo.{MemoGood};
 
 use judge_admission::{Admission, admit, kind_of, name_of};
 use judge_tape::members::{Block, Found, find_member, number};
@@ -51,7 +51,7 @@ pub enum AttributeAnswer {
 
 // The verdict of a failure.
 pub fn fails(reason: u8, record: RecordNumber, place: usize) -> Verdict
-    ensures { verdictIn result ≡ definitions.fails reason «record».0 place }
+    ensures { verdict_in result ≡ definitions.fails reason «record».0 place }
 {
     Verdict::Fails(Failure {
         reason,
@@ -62,7 +62,7 @@ pub fn fails(reason: u8, record: RecordNumber, place: usize) -> Verdict
 
 // What an admission tells, at the first item's record.
 fn told(a: Admission, first: RecordNumber, place: usize) -> Verdict
-    ensures { verdictIn result ≡ verdictOf first.0 place (findingOf a) }
+    ensures { verdict_in result ≡ verdict_of first.0 place (finding_of a) }
 {
     match a {
         Admission::Unsuited => fails(UNSUITED, first, place),
@@ -84,8 +84,8 @@ fn judge_items(
     requires items_good { ItemsGood records.now pool.now first.0 }
     requires tape_good { TapeGood (length s.now) rows tape.now }
     requires leaf_row { LeafRow rows tape.now row }
-    ensures { verdictIn result
-        ≡ leafVerdict records.now pool.now s.now first.0
+    ensures { verdict_in result
+        ≡ leaf_verdict records.now pool.now s.now first.0
         (row_at tape.now row) }
 {
     let start = number(tape, row, 6);
@@ -113,8 +113,8 @@ fn judge_leaf(
     requires memo_good { MemoGood records.now pool.now s.now tape.now rows memo.old }
     ensures memo_good_2 { MemoGood records.now pool.now s.now tape.now rows
         memo.new }
-    ensures result_value { verdictIn result
-        ≡ leafVerdict records.now pool.now s.now first.0
+    ensures result_value { verdict_in result
+        ≡ leaf_verdict records.now pool.now s.now first.0
         (row_at tape.now row) }
 {
     if is_known(records, pool, s, tape, rows, memo, first, row) {
@@ -125,8 +125,8 @@ fn judge_leaf(
 
 // The block of a row.
 fn block_at(tape: &[u16], row: usize) -> Block
-    requires { rowSize * row + rowSize ≤ length tape.now }
-    ensures { result ≡ blockOn tape.now row }
+    requires { row_size * row + row_size ≤ length tape.now }
+    ensures { result ≡ block_on tape.now row }
 {
     Block {
         place: number(tape, row, 3),
@@ -149,12 +149,12 @@ fn judge_value(
     row: usize,
 ) -> AttributeAnswer
     requires walk { Walk records.now pool.now s.now tape.now rows }
-    requires value_link { ValueLink (imageFrom records.now pool.now) value.0 }
+    requires value_link { ValueLink (image_from records.now pool.now) value.0 }
     requires row_lt_rows { row < rows }
     requires memo_good { MemoGood records.now pool.now s.now tape.now rows memo.old }
     ensures memo_good_2 { MemoGood records.now pool.now s.now tape.now rows
         memo.new }
-    ensures value_is { ValueIs (imageFrom records.now pool.now) s.now rows
+    ensures value_is { ValueIs (image_from records.now pool.now) s.now rows
         tape.now value.0 row result }
 {
     if value.0 == 0 {
@@ -198,7 +198,7 @@ pub fn judge_attribute(
     requires memo_good { MemoGood records.now pool.now s.now tape.now rows memo.old }
     ensures memo_good_2 { MemoGood records.now pool.now s.now tape.now rows
         memo.new }
-    ensures attribute_answer_is { AttributeAnswerIs (imageFrom records.now pool.now) s.now rows
+    ensures attribute_answer_is { AttributeAnswerIs (image_from records.now pool.now) s.now rows
         tape.now n.0 block result }
 {
     let flag = e.flag;

@@ -10,17 +10,17 @@ use lib.ListN.{length, get_or, replicate}
 use Rattle.meaning.specs.Constraints.{AttributeHead, Attributes, attribute, Value}
 use Rattle.meaning.specs.Data.{Members}
 use Rattle.meaning.specs.Verdicts.{Verdict, valid, fails}
-use Rattle.meaning.specs.Judging.{thenJudge, memberOf, judgeMember, judgeAttributes, judgeValue}
+use Rattle.meaning.specs.Judging.{then_judge, member_of, judge_member, judge_attributes, judge_value}
 use Rattle.lexis.specs.Runs.{part}
-use Rattle.dadl.specs.contracts.Tape.{isString, rowNumber, HoldsBlock, HoldsLeaf}
-use Rattle.dadl.specs.contracts.Rows.{row_at}
-use Rattle.table.specs.Records.{field, recordIn}
+use Rattle.dadl.specs.Clauses.Tape.{is_string, row_number, HoldsBlock, HoldsLeaf}
+use Rattle.dadl.specs.Clauses.Rows.{row_at}
+use Rattle.table.specs.Records.{field, record_in}
 use Rattle.table.specs.Rows.{shape_of}
 use Rattle.table.specs.Check.{kind_at}
 use Rattle.table.proofs.UseLaws.{LinkRight}
-use Rattle.judge_admission.specs.contracts.Items.{Lies, imageFrom, TableGood}
-use Rattle.judge_tape.specs.contracts.Rows.{blockOn, OfRow}
-use Rattle.judge_tape.specs.contracts.Memo.{marked, NoBit, Marks, recordCount, base_of, VisitOf, OnChain, here, later, ChainGood, Marking, before, new, ChainMarked, BlockAdmitted, RowAdmits, OfItems, old, item, ItemsMarked, MemoGood}
+use Rattle.judge_admission.specs.Clauses.Items.{Lies, image_from, TableGood}
+use Rattle.judge_tape.specs.Clauses.Rows.{block_on, OfRow}
+use Rattle.judge_tape.specs.Clauses.Memo.{marked, NoBit, Marks, record_count, base_of, VisitOf, OnChain, here, later, ChainGood, Marking, before, new, ChainMarked, BlockAdmitted, RowAdmits, OfItems, old, item, ItemsMarked, MemoGood}
 use Rattle.judge_tape.specs.declared.members.Block.{Block}
 use Rattle.judge_tape.specs.declared.memo.Visit.{Visit}
 use Rattle.judge_tape.proofs.MemoSteps.{no-bit}
@@ -53,8 +53,8 @@ memo-blank n = record { none = none-marked n }
 pub memo-start : (records pool s tape : List ℕ) (rows : ℕ) (memo : List ℕ) → NoBit memo
     → MemoGood records pool s tape rows memo
 memo-start records pool s tape rows memo b = record {
-  admits = λ row k q h l t. absurd (false≢true (sym (b.none ((row + 1) * recordCount records + k)) ∙ t));
-  leaves = λ row k q h l t. absurd (false≢true (sym (b.none ((row + 1) * recordCount records + k)) ∙ t));
+  admits = λ row k q h l t. absurd (false≢true (sym (b.none ((row + 1) * record_count records + k)) ∙ t));
+  leaves = λ row k q h l t. absurd (false≢true (sym (b.none ((row + 1) * record_count records + k)) ∙ t));
 }
 
 pub memo-zeros : (records pool s tape : List ℕ) (rows n : ℕ) → MemoGood records pool s tape rows (replicate n 0)
@@ -63,16 +63,16 @@ memo-zeros records pool s tape rows n = memo-start records pool s tape rows (rep
 -- a visit marks no pair
 module _ (records pool s tape : List ℕ) (rows : ℕ) (memo after : List ℕ)
     (g : MemoGood records pool s tape rows memo) where
-  visited-at : (first : ℕ) → Marks memo (first * recordCount records) after → MemoGood records pool s tape rows after
+  visited-at : (first : ℕ) → Marks memo (first * record_count records) after → MemoGood records pool s tape rows after
   visited-at first m = record {
-    admits = λ row n q h l t. g.admits row n q h l (sym (m.other ((row + 1) * recordCount records + n) (other row n h l)) ∙ t);
-    leaves = λ row n q h l t. g.leaves row n q h l (sym (m.other ((row + 1) * recordCount records + n) (other row n h l)) ∙ t);
+    admits = λ row n q h l t. g.admits row n q h l (sym (m.other ((row + 1) * record_count records + n) (other row n h l)) ∙ t);
+    leaves = λ row n q h l t. g.leaves row n q h l (sym (m.other ((row + 1) * record_count records + n) (other row n h l)) ∙ t);
   }
     where
-      other : (row n : ℕ) → 0 < n → n < recordCount records
-          → (row + 1) * recordCount records + n ≡ first * recordCount records → ⊥
+      other : (row n : ℕ) → 0 < n → n < record_count records
+          → (row + 1) * record_count records + n ≡ first * record_count records → ⊥
       other row n h l e =
-          let c = recordCount records in
+          let c = record_count records in
           let f : (row + 1) * c + n ≡ first * c + 0 = omega arith in
           let z = pair-attribute c (row + 1) first n 0 (pair-block c (row + 1) first n 0 l (omega arith) f) f in
           omega arith
@@ -80,41 +80,41 @@ module _ (records pool s tape : List ℕ) (rows : ℕ) (memo after : List ℕ)
   pub memo-visited : (b : Block) → Marks memo (base_of records b) after → MemoGood records pool s tape rows after
   memo-visited b m = visited-at b.first m
 
-  pub memo-entered : (row base : ℕ) → base ≡ (row + 1) * recordCount records → Marks memo base after
+  pub memo-entered : (row base : ℕ) → base ≡ (row + 1) * record_count records → Marks memo base after
       → MemoGood records pool s tape rows after
   memo-entered row base e m = visited-at (row + 1) (rw e at m)
 
   -- the items of a row are marked
-  pub memo-listed : (row base : ℕ) → base ≡ (row + 1) * recordCount records → HoldsLeaf (row_at tape row)
-      → (w : List ℕ) (t : Bool) → w ≡ part s (rowNumber (row_at tape row) 6) (rowNumber (row_at tape row) 7)
-      → t ≡ eqb (rowNumber (row_at tape row) 0) isString
+  pub memo-listed : (row base : ℕ) → base ≡ (row + 1) * record_count records → HoldsLeaf (row_at tape row)
+      → (w : List ℕ) (t : Bool) → w ≡ part s (row_number (row_at tape row) 6) (row_number (row_at tape row) 7)
+      → t ≡ eqb (row_number (row_at tape row) 0) is_string
       → ItemsMarked records pool memo base t w after → MemoGood records pool s tape rows after
   memo-listed row base eb leaf w t ew et m = record {
-    admits = λ r n q h l x. block r n q h l x (m.each ((r + 1) * recordCount records + n) x);
-    leaves = λ r n q h l x. of-leaf r n q h l x (m.each ((r + 1) * recordCount records + n) x);
+    admits = λ r n q h l x. block r n q h l x (m.each ((r + 1) * record_count records + n) x);
+    leaves = λ r n q h l x. of-leaf r n q h l x (m.each ((r + 1) * record_count records + n) x);
   }
     where
-      same_row : (r n k : ℕ) → n < recordCount records → k < recordCount records
-          → (r + 1) * recordCount records + n ≡ base + k → (r ≡ row) × (n ≡ k)
+      same_row : (r n k : ℕ) → n < record_count records → k < record_count records
+          → (r + 1) * record_count records + n ≡ base + k → (r ≡ row) × (n ≡ k)
       same_row r n k ln lk e =
-          let c = recordCount records in
+          let c = record_count records in
           let f : (r + 1) * c + n ≡ (row + 1) * c + k = rw eb at e in
           let p = pair-block c (r + 1) (row + 1) n k ln lk f in
           (omega arith, pair-attribute c (r + 1) (row + 1) n k p f)
 
-      block : (r n : ℕ) → HoldsBlock (row_at tape r) → 0 < n → n < recordCount records
-          → marked after ((r + 1) * recordCount records + n) ≡ true
-          → OfItems (recordCount records) memo base ((r + 1) * recordCount records + n)
-          → BlockAdmitted (imageFrom records pool) s rows tape (blockOn tape r) n
+      block : (r n : ℕ) → HoldsBlock (row_at tape r) → 0 < n → n < record_count records
+          → marked after ((r + 1) * record_count records + n) ≡ true
+          → OfItems (record_count records) memo base ((r + 1) * record_count records + n)
+          → BlockAdmitted (image_from records pool) s rows tape (block_on tape r) n
       block r n q h l x (old y) = g.admits r n q h l y
       block r n q h l x (item k lk e) =
           let z = same_row r n k l lk e in
           let u : HoldsBlock (row_at tape row) = rw z.0 at q in
           absurd (omega arith)
 
-      of-leaf : (r n : ℕ) → HoldsLeaf (row_at tape r) → 0 < n → n < recordCount records
-          → marked after ((r + 1) * recordCount records + n) ≡ true
-          → OfItems (recordCount records) memo base ((r + 1) * recordCount records + n)
+      of-leaf : (r n : ℕ) → HoldsLeaf (row_at tape r) → 0 < n → n < record_count records
+          → marked after ((r + 1) * record_count records + n) ≡ true
+          → OfItems (record_count records) memo base ((r + 1) * record_count records + n)
           → RowAdmits records pool s tape r n
       of-leaf r n q h l x (old y) = g.leaves r n q h l y
       of-leaf r n q h l x (item k lk e) =
@@ -125,11 +125,11 @@ module _ (records pool s tape : List ℕ) (rows : ℕ) (memo after : List ℕ)
 
 -- attributes that admit a block: those behind the first do
 rest-valid : (a : AttributeHead) (v : Value) (more : Attributes) (place : ℕ) (ms : Members)
-    → judgeAttributes (attribute a v more) place ms ≡ valid → judgeAttributes more place ms ≡ valid
-unfolding judgeAttributes
-rest-valid a v more place ms h = second (judgeMember a place (memberOf a.name ms) (λ x. judgeValue v x)) (judgeAttributes more place ms) h
+    → judge_attributes (attribute a v more) place ms ≡ valid → judge_attributes more place ms ≡ valid
+unfolding judge_attributes
+rest-valid a v more place ms h = second (judge_member a place (member_of a.name ms) (λ x. judge_value v x)) (judge_attributes more place ms) h
   where
-    second : (x y : Verdict) → thenJudge x y ≡ valid → y ≡ valid
+    second : (x y : Verdict) → then_judge x y ≡ valid → y ≡ valid
     second valid y h = h
     second (fails r i p) y h = absurd (let z : ◌≡◌ {A = ℕ} 0 1 = cc in omega arith)
 
@@ -141,7 +141,7 @@ module _ (records pool : List ℕ) (t : TableGood records pool) where
       let l = records-long records pool t in
       let w = (checked records pool t).few in
       let r = o.there in
-      let c : recordCount records ≤ 2_048 = omega arith in
+      let c : record_count records ≤ 2_048 = omega arith in
       let d : b.first ≤ 4_096 = omega arith in
       mul-le-mul d c
 
@@ -149,73 +149,73 @@ module _ (records pool : List ℕ) (t : TableGood records pool) where
   records-few = let l = records-long records pool t in let w = (checked records pool t).few in omega arith
 
   -- an attribute leads to none or up to another
-  next-there : (n : ℕ) → kind_at (imageFrom records pool) n ≡ 2 → 0 < field (recordIn records n) 3
-      → LinkRight (imageFrom records pool) n (2 ∷ []) (field (recordIn records n) 3)
+  next-there : (n : ℕ) → kind_at (image_from records pool) n ≡ 2 → 0 < field (record_in records n) 3
+      → LinkRight (image_from records pool) n (2 ∷ []) (field (record_in records n) 3)
   unfolding shape_of
   next-there n k = link-there records pool t n 2 k (omega arith) 3 (2 ∷ []) (lit< tt) refl
 
-  next-kind : (n : ℕ) → kind_at (imageFrom records pool) n ≡ 2 → 0 < field (recordIn records n) 3
-      → kind_at (imageFrom records pool) (field (recordIn records n) 3) ≡ 2
-  next-kind n k h = by_kind (kind_at (imageFrom records pool) (field (recordIn records n) 3)) 2 [] (next-there n k h).kind (λ y. y) (λ y. absurd (false≢true y))
+  next-kind : (n : ℕ) → kind_at (image_from records pool) n ≡ 2 → 0 < field (record_in records n) 3
+      → kind_at (image_from records pool) (field (record_in records n) 3) ≡ 2
+  next-kind n k h = by_kind (kind_at (image_from records pool) (field (record_in records n) 3)) 2 [] (next-there n k h).kind (λ y. y) (λ y. absurd (false≢true y))
 
-  chain-kind : (k n : ℕ) → (0 < n → kind_at (imageFrom records pool) n ≡ 2) → OnChain records k n
-      → kind_at (imageFrom records pool) k ≡ 2
+  chain-kind : (k n : ℕ) → (0 < n → kind_at (image_from records pool) n ≡ 2) → OnChain records k n
+      → kind_at (image_from records pool) k ≡ 2
   chain-kind k n f (here h) = f h
-  chain-kind k _ f (later n h o) = chain-kind k (field (recordIn records n) 3) (next-kind n (f h)) o
+  chain-kind k _ f (later n h o) = chain-kind k (field (record_in records n) 3) (next-kind n (f h)) o
 
-  pub chain-sound : (n : ℕ) → (0 < n → kind_at (imageFrom records pool) n ≡ 2) → ChainGood records n
+  pub chain-sound : (n : ℕ) → (0 < n → kind_at (image_from records pool) n ≡ 2) → ChainGood records n
   chain-sound n f = record {
     lies = λ k o. number-lies records pool t k 2 (chain-kind k n f o) (omega arith);
     up = λ k o h. (next-there k (chain-kind k n f o) h).above;
   }
 
-  pub number-below : (n : ℕ) → Lies records n → n < recordCount records
+  pub number-below : (n : ℕ) → Lies records n → n < record_count records
   number-below n l = omega arith
 
   module _ (s tape : List ℕ) (rows : ℕ) (b : Block) where
     -- where the attributes from n on admit the block, those from the next on do
-    rest-admits : (n : ℕ) → kind_at (imageFrom records pool) n ≡ 2
-        → BlockAdmitted (imageFrom records pool) s rows tape b n
-        → BlockAdmitted (imageFrom records pool) s rows tape b (field (recordIn records n) 3)
+    rest-admits : (n : ℕ) → kind_at (image_from records pool) n ≡ 2
+        → BlockAdmitted (image_from records pool) s rows tape b n
+        → BlockAdmitted (image_from records pool) s rows tape b (field (record_in records n) 3)
     rest-admits n k a = rest-valid _ _ _ _ _ (rw (attribute-tree records pool t n k) at a)
 
-    chain-admits : (k n : ℕ) → (0 < n → kind_at (imageFrom records pool) n ≡ 2) → OnChain records k n
-        → BlockAdmitted (imageFrom records pool) s rows tape b n
-        → BlockAdmitted (imageFrom records pool) s rows tape b k
+    chain-admits : (k n : ℕ) → (0 < n → kind_at (image_from records pool) n ≡ 2) → OnChain records k n
+        → BlockAdmitted (image_from records pool) s rows tape b n
+        → BlockAdmitted (image_from records pool) s rows tape b k
     chain-admits k n f (here h) a = a
-    chain-admits k _ f (later n h o) a = chain-admits k (field (recordIn records n) 3) (next-kind n (f h)) o (rest-admits n (f h) a)
+    chain-admits k _ f (later n h o) a = chain-admits k (field (record_in records n) 3) (next-kind n (f h)) o (rest-admits n (f h) a)
 
     module _ (o : OfRow rows tape b) (v : Visit) (w : VisitOf records b v) (memo : List ℕ)
         (g : MemoGood records pool s tape rows memo) where
       -- a marked attribute of a block that is visited again
       pub memo-admits : (n : ℕ) → 0 < n → Lies records n → v.again ≡ true → marked memo (v.base + n) ≡ true
-          → BlockAdmitted (imageFrom records pool) s rows tape b n
+          → BlockAdmitted (image_from records pool) s rows tape b n
       memo-admits n h l a m =
           let z = w.again a in
           let r : b.first - 1 + 1 ≡ b.first = omega arith in
-          let e : marked memo ((b.first - 1 + 1) * recordCount records + n) ≡ true = rw (r, ← w.base) m in
-          subst (λ x. BlockAdmitted (imageFrom records pool) s rows tape x n) (sym (o.is z)) (g.admits (b.first - 1) n (o.holds z) h (number-below n l) e)
+          let e : marked memo ((b.first - 1 + 1) * record_count records + n) ≡ true = rw (r, ← w.base) m in
+          subst (λ x. BlockAdmitted (image_from records pool) s rows tape x n) (sym (o.is z)) (g.admits (b.first - 1) n (o.holds z) h (number-below n l) e)
 
       -- a chain of attributes that admit the block may be marked
-      pub memo-marked : (first : ℕ) → (0 < first → kind_at (imageFrom records pool) first ≡ 2)
-          → BlockAdmitted (imageFrom records pool) s rows tape b first → (after : List ℕ)
+      pub memo-marked : (first : ℕ) → (0 < first → kind_at (image_from records pool) first ≡ 2)
+          → BlockAdmitted (image_from records pool) s rows tape b first → (after : List ℕ)
           → ChainMarked records memo v.base first after → MemoGood records pool s tape rows after
       memo-marked first f a after m = record {
-        admits = λ row n z h l t. by row n z h l (m.each ((row + 1) * recordCount records + n) t);
-        leaves = λ row n z h l t. leaf row n z h l (m.each ((row + 1) * recordCount records + n) t);
+        admits = λ row n z h l t. by row n z h l (m.each ((row + 1) * record_count records + n) t);
+        leaves = λ row n z h l t. leaf row n z h l (m.each ((row + 1) * record_count records + n) t);
       }
         where
-          same_row : (row n k : ℕ) → n < recordCount records → OnChain records k first
-              → (row + 1) * recordCount records + n ≡ v.base + k → (row + 1 ≡ b.first) × (n ≡ k)
+          same_row : (row n k : ℕ) → n < record_count records → OnChain records k first
+              → (row + 1) * record_count records + n ≡ v.base + k → (row + 1 ≡ b.first) × (n ≡ k)
           same_row row n k l q e =
-              let c = recordCount records in
+              let c = record_count records in
               let y = number-below k (number-lies records pool t k 2 (chain-kind k first f q) (omega arith)) in
               let d : (row + 1) * c + n ≡ b.first * c + k = rw w.base at e in
               let p = pair-block c (row + 1) b.first n k l y d in
               (p, pair-attribute c (row + 1) b.first n k p d)
 
-          leaf : (row n : ℕ) → HoldsLeaf (row_at tape row) → 0 < n → n < recordCount records
-              → Marking records memo v.base first ((row + 1) * recordCount records + n)
+          leaf : (row n : ℕ) → HoldsLeaf (row_at tape row) → 0 < n → n < record_count records
+              → Marking records memo v.base first ((row + 1) * record_count records + n)
               → RowAdmits records pool s tape row n
           leaf row n z h l (before q) = g.leaves row n z h l q
           leaf row n z h l (new k q e) =
@@ -224,14 +224,14 @@ module _ (records pool : List ℕ) (t : TableGood records pool) where
               let u : HoldsBlock (row_at tape row) = rw r at (o.holds (omega arith)) in
               absurd (omega arith)
 
-          by : (row n : ℕ) → HoldsBlock (row_at tape row) → 0 < n → n < recordCount records
-              → Marking records memo v.base first ((row + 1) * recordCount records + n)
-              → BlockAdmitted (imageFrom records pool) s rows tape (blockOn tape row) n
+          by : (row n : ℕ) → HoldsBlock (row_at tape row) → 0 < n → n < record_count records
+              → Marking records memo v.base first ((row + 1) * record_count records + n)
+              → BlockAdmitted (image_from records pool) s rows tape (block_on tape row) n
           by row n z h l (before q) = g.admits row n z h l q
           by row n z h l (new k q e) =
               let p = (same_row row n k l q e).0 in
               let i = (same_row row n k l q e).1 in
               let r : b.first - 1 ≡ row = omega arith in
-              let x : b ≡ blockOn tape row = rw r at (o.is (omega arith)) in
+              let x : b ≡ block_on tape row = rw r at (o.is (omega arith)) in
               let u = chain-admits k first f q a in
-              subst (λ j. BlockAdmitted (imageFrom records pool) s rows tape (blockOn tape row) j) (sym i) (subst (λ z. BlockAdmitted (imageFrom records pool) s rows tape z k) x u)
+              subst (λ j. BlockAdmitted (image_from records pool) s rows tape (block_on tape row) j) (sym i) (subst (λ z. BlockAdmitted (image_from records pool) s rows tape z k) x u)

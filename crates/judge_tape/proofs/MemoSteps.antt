@@ -10,11 +10,11 @@ use lib.Seq.{set_out, get_or-set_same, get_or-set_other}
 use borrow.Author.Tests.{eqb-true, eqb-false, ne_eqb, ltb-true, not-true, not-false}
 use Rattle.lexis.proofs.Cases.{and_left, and_right}
 use Rattle.values.proofs.Common.{all_below, below, by_order}
-use Rattle.table.specs.Records.{field, recordIn}
-use Rattle.table.specs.contracts.Answers.{recordOf}
+use Rattle.table.specs.Records.{field, record_in}
+use Rattle.table.specs.Clauses.Answers.{record_of}
 use Rattle.table.specs.declared.records.Entry.{Entry}
-use Rattle.judge_admission.specs.contracts.Items.{Lies}
-use Rattle.judge_tape.specs.contracts.Memo.{bit_of, withBit, marked, markBit, Marks, recordCount, base_of, VisitOf, seenBefore, admittedIn, markAlong, markChain, OnChain, here, later, ChainGood, Marking, before, new, ChainMarked}
+use Rattle.judge_admission.specs.Clauses.Items.{Lies}
+use Rattle.judge_tape.specs.Clauses.Memo.{bit_of, with_bit, marked, mark_bit, Marks, record_count, base_of, VisitOf, seen_before, admitted_in, mark_along, mark_chain, OnChain, here, later, ChainGood, Marking, before, new, ChainMarked}
 use Rattle.judge_tape.specs.declared.members.Block.{Block}
 use Rattle.judge_tape.specs.declared.memo.Visit.{Visit}
 use Rattle.judge_admission.proofs.ItemSteps.{left}
@@ -24,7 +24,7 @@ abbrev bit-fits : ℕ → ℕ → Bool
 bit-fits b k = bit_of b k || ltb (b + 2 ^ k) 256
 
 abbrev bit-alone : ℕ → ℕ → Bool
-bit-alone b k = bit_of (withBit b k) k && all_below 8 (λ j. eqb j k || beq (bit_of (withBit b k) j) (bit_of b j))
+bit-alone b k = bit_of (with_bit b k) k && all_below 8 (λ j. eqb j k || beq (bit_of (with_bit b k) j) (bit_of b j))
 
 bytes-right : all_below 256 (λ b. all_below 8 (λ k. bit-fits b k && bit-alone b k)) ≡ true
 bytes-right = refl
@@ -49,20 +49,20 @@ module _ (b k : ℕ) (l : b < 256) (m : k < 8) where
   bit_added : bit_of b k ≡ false → b + 1 * 2 ^ k % 2 ^ 8 < 256
   bit_added h = rw (power-fits k m) (ltb-true (b + 2 ^ k) 256 (or-second (bit_of b k) (ltb (b + 2 ^ k) 256) (and_left (bit-fits b k) (bit-alone b k) byte-right) h))
 
-  bit-set : bit_of (withBit b k) k ≡ true
-  bit-set = and_left (bit_of (withBit b k) k) _ (and_right (bit-fits b k) (bit-alone b k) byte-right)
+  bit-set : bit_of (with_bit b k) k ≡ true
+  bit-set = and_left (bit_of (with_bit b k) k) _ (and_right (bit-fits b k) (bit-alone b k) byte-right)
 
-  bit-other : (j : ℕ) → j < 8 → (j ≡ k → ⊥) → bit_of (withBit b k) j ≡ bit_of b j
+  bit-other : (j : ℕ) → j < 8 → (j ≡ k → ⊥) → bit_of (with_bit b k) j ≡ bit_of b j
   bit-other j n h =
-      let t = below 8 (λ j. eqb j k || beq (bit_of (withBit b k) j) (bit_of b j)) (and_right (bit_of (withBit b k) k) _ (and_right (bit-fits b k) (bit-alone b k) byte-right)) j n in
-      beq-true (bit_of (withBit b k) j) (bit_of b j) (or-second (eqb j k) _ t (ne_eqb j k h))
+      let t = below 8 (λ j. eqb j k || beq (bit_of (with_bit b k) j) (bit_of b j)) (and_right (bit_of (with_bit b k) k) _ (and_right (bit-fits b k) (bit-alone b k) byte-right)) j n in
+      beq-true (bit_of (with_bit b k) j) (bit_of b j) (or-second (eqb j k) _ t (ne_eqb j k h))
 
 -- a byte with a bit set
 module _ (b k : ℕ) (m : k < 8) (t : Bool) (e : t ≡ bit_of b k) where
-  pub bit-there : t ≡ true → b ≡ withBit b k
+  pub bit-there : t ≡ true → b ≡ with_bit b k
   bit-there h = rw (sym e ∙ h)
 
-  pub bit_not : t ≡ false → b + 1 * 2 ^ k % 2 ^ 8 ≡ withBit b k
+  pub bit_not : t ≡ false → b + 1 * 2 ^ k % 2 ^ 8 ≡ with_bit b k
   bit_not h = rw (power-fits k m, sym e ∙ h)
 
   pub bit-room : b < 256 → t ≡ false → b + 1 * 2 ^ k % 2 ^ 8 < 256
@@ -82,7 +82,7 @@ marked-outside memo i h = rw (get_or-eq_default memo 0 {n = i / 8} h) (sym (no-b
 
 -- a bit that is set, and one behind the end
 pub mark-inside : (memo : List ℕ) (i b r : ℕ) → b ≡ get_or memo (i / 8) 0 → b < 256 → i / 8 < length memo
-    → r ≡ withBit b (i % 8) → Marks memo i (set memo (i / 8) r)
+    → r ≡ with_bit b (i % 8) → Marks memo i (set memo (i / 8) r)
 unfolding marked
 mark-inside memo i b r eb lb li er = record {
   set = λ h. rw (get_or-set_same memo (i / 8) r 0 li, er) (bit-set b (i % 8) lb (omega arith));
@@ -99,25 +99,25 @@ mark-inside memo i b r eb lb li er = record {
 pub mark-outside : (memo : List ℕ) (i : ℕ) → length memo ≤ i / 8 → Marks memo i memo
 mark-outside memo i h = record { set = λ k. absurd (omega arith); other = λ j n. refl }
 
-pub bit-inside : (memo : List ℕ) (i b r : ℕ) → b ≡ get_or memo (i / 8) 0 → r ≡ withBit b (i % 8)
-    → set memo (i / 8) r ≡ markBit memo i
-unfolding markBit
+pub bit-inside : (memo : List ℕ) (i b r : ℕ) → b ≡ get_or memo (i / 8) 0 → r ≡ with_bit b (i % 8)
+    → set memo (i / 8) r ≡ mark_bit memo i
+unfolding mark_bit
 bit-inside memo i b r eb er = rw (er, eb)
 
-pub bit-outside : (memo : List ℕ) (i : ℕ) → length memo ≤ i / 8 → memo ≡ markBit memo i
-unfolding markBit
+pub bit-outside : (memo : List ℕ) (i : ℕ) → length memo ≤ i / 8 → memo ≡ mark_bit memo i
+unfolding mark_bit
 bit-outside memo i h = sym (set_out memo (i / 8) _ h)
 
 -- a visit
-pub base-fits : (records : List ℕ) (b : Block) (count : ℕ) → count ≡ recordCount records → base_of records b ≤ 8_388_608
+pub base-fits : (records : List ℕ) (b : Block) (count : ℕ) → count ≡ record_count records → base_of records b ≤ 8_388_608
     → b.first * count < 2 ^ 64
 base-fits records b count e h = rw e (omega arith)
 
-pub seen-outermost : (records memo : List ℕ) (b : Block) → b.first ≡ 0 → false ≡ seenBefore records memo b
-unfolding seenBefore
+pub seen-outermost : (records memo : List ℕ) (b : Block) → b.first ≡ 0 → false ≡ seen_before records memo b
+unfolding seen_before
 seen-outermost records memo b z = rw z
 
-module _ (records : List ℕ) (b : Block) (count base : ℕ) (ec : count ≡ recordCount records)
+module _ (records : List ℕ) (b : Block) (count base : ℕ) (ec : count ≡ record_count records)
     (eb : base ≡ b.first * count) (small : base_of records b ≤ 8_388_608) where
   base-is : base ≡ base_of records b
   base-is = eb ∙ ap (λ c. b.first * c) ec
@@ -132,12 +132,12 @@ module _ (records : List ℕ) (b : Block) (count base : ℕ) (ec : count ≡ rec
   visit-row seen z = record { base = base-is; small = base-near; again = λ h. omega arith }
 
   pub seen-row : (memo : List ℕ) (p : ℕ) → p ≡ base + 0 → (seen : Bool) → seen ≡ marked memo p → (b.first ≡ 0 → ⊥)
-      → seen ≡ seenBefore records memo b
-  unfolding seenBefore
+      → seen ≡ seen_before records memo b
+  unfolding seen_before
   seen-row memo p e seen h z = let q = base-is in let f : p ≡ base_of records b = omega arith in rw (ne_eqb b.first 0 z, ← f) h
 
-  pub visit-bit : (p : ℕ) → p ≡ base + 0 → (memo after : List ℕ) → after ≡ markBit memo p
-      → after ≡ markBit memo (base_of records b)
+  pub visit-bit : (p : ℕ) → p ≡ base + 0 → (memo after : List ℕ) → after ≡ mark_bit memo p
+      → after ≡ mark_bit memo (base_of records b)
   visit-bit p e memo after m = let q = base-is in let f : p ≡ base_of records b = omega arith in rw f at m
 
   pub visit-marks : (p : ℕ) → p ≡ base + 0 → (memo after : List ℕ) → Marks memo p after
@@ -146,15 +146,15 @@ module _ (records : List ℕ) (b : Block) (count base : ℕ) (ec : count ≡ rec
 
 -- the test of an attribute
 module _ (memo : List ℕ) (v : Visit) (n : ℕ) where
-  pub none_left : n ≡ 0 → true ≡ admittedIn memo v n
+  pub none_left : n ≡ 0 → true ≡ admitted_in memo v n
   none_left h = rw h
 
   module _ (z : n ≡ 0 → ⊥) where
     pub visit-again : v.again ≡ true → (p : ℕ) → p ≡ v.base + n → (r : Bool) → r ≡ marked memo p
-        → r ≡ admittedIn memo v n
+        → r ≡ admitted_in memo v n
     visit-again a p q r e = rw (ne_eqb n 0 z, a, ← q) e
 
-    pub visit-first : v.again ≡ false → false ≡ admittedIn memo v n
+    pub visit-first : v.again ≡ false → false ≡ admitted_in memo v n
     visit-first a = rw (ne_eqb n 0 z, a)
 
 -- marking a chain: at attribute n of those from `first` on, with fuel for those that are left
@@ -165,14 +165,14 @@ pub record InChain (records start : List ℕ) (v : Visit) (first : ℕ) (memo : 
   pub inside : (k : ℕ) → OnChain records k n → OnChain records k first
   pub marked : ChainMarked records start v.base first memo
   pub fuel : ℕ
-  pub enough : 0 < n → recordCount records ≤ n + fuel
-  pub is : markAlong records v fuel n memo ≡ markChain records v first start
+  pub enough : 0 < n → record_count records ≤ n + fuel
+  pub is : mark_along records v fuel n memo ≡ mark_chain records v first start
 
 pub chain-none : (records memo : List ℕ) (base first : ℕ) → ChainMarked records memo base first memo
 chain-none records memo base first = record { each = λ j h. before h }
 
 pub chain_first : (records memo : List ℕ) (v : Visit) (first : ℕ) → not v.again ≡ true
-    → memo ≡ markChain records v first memo
+    → memo ≡ mark_chain records v first memo
 chain_first records memo v first h = rw (not-true v.again h)
 
 pub chain-start : (records memo : List ℕ) (v : Visit) (first : ℕ) → ChainGood records first → v.base ≤ 8_388_608
@@ -183,33 +183,33 @@ chain-start records memo v first g s h = record {
   same = refl;
   inside = λ k h. h;
   marked = chain-none records memo v.base first;
-  fuel = recordCount records;
+  fuel = record_count records;
   enough = λ z. omega arith;
   is = rw (not-false v.again h);
 }
 
 -- an attribute that is not marked is no 0
-pub left-some : (memo : List ℕ) (v : Visit) (n : ℕ) (r : Bool) → r ≡ admittedIn memo v n → not r ≡ true → 0 < n
+pub left-some : (memo : List ℕ) (v : Visit) (n : ℕ) (r : Bool) → r ≡ admitted_in memo v n → not r ≡ true → 0 < n
 left-some memo v zero r e h = absurd (false≢true (sym (not-true r h) ∙ e))
 left-some memo v (suc n) r e h = omega arith
 
 -- where one is admitted, the chain is marked
-along-end : (records memo : List ℕ) (v : Visit) (fuel n : ℕ) → admittedIn memo v n ≡ true
-    → markAlong records v fuel n memo ≡ memo
-unfolding markAlong
+along-end : (records memo : List ℕ) (v : Visit) (fuel n : ℕ) → admitted_in memo v n ≡ true
+    → mark_along records v fuel n memo ≡ memo
+unfolding mark_along
 along-end records memo v zero n h = refl
 along-end records memo v (suc fuel) n h = rw h
 
-along-next : (records memo : List ℕ) (v : Visit) (fuel n : ℕ) → 0 < fuel → admittedIn memo v n ≡ false
-    → markAlong records v (fuel - 1) (field (recordIn records n) 3) (markBit memo (v.base + n))
-    ≡ markAlong records v fuel n memo
-unfolding markAlong
+along-next : (records memo : List ℕ) (v : Visit) (fuel n : ℕ) → 0 < fuel → admitted_in memo v n ≡ false
+    → mark_along records v (fuel - 1) (field (record_in records n) 3) (mark_bit memo (v.base + n))
+    ≡ mark_along records v fuel n memo
+unfolding mark_along
 along-next records memo v zero n p h = absurd (omega arith)
 along-next records memo v (suc fuel) n p h = let s : suc fuel - 1 ≡ fuel = omega arith in rw (h, s)
 
 module _ (records start : List ℕ) (v : Visit) (first : ℕ) (memo : List ℕ) (n : ℕ)
-    (i : InChain records start v first memo n) (r : Bool) (e : r ≡ admittedIn memo v n) where
-  pub chain-end : not r ≡ false → memo ≡ markChain records v first start
+    (i : InChain records start v first memo n) (r : Bool) (e : r ≡ admitted_in memo v n) where
+  pub chain-end : not r ≡ false → memo ≡ mark_chain records v first start
   chain-end h = sym (along-end records memo v i.fuel n (sym e ∙ not-false r h)) ∙ i.is
 
   module _ (h : not r ≡ true) where
@@ -219,7 +219,7 @@ module _ (records start : List ℕ) (v : Visit) (first : ℕ) (memo : List ℕ) 
     pub chain-lies : Lies records n
     chain-lies = i.good.lies n at-chain
 
-    module _ (x : Entry) (q : recordOf x ≡ recordIn records n) where
+    module _ (x : Entry) (q : record_of x ≡ record_in records n) where
       chain-up : 0 < x.d → n < x.d
       chain-up = rw (← q) at (i.good.up n at-chain)
 
@@ -233,7 +233,7 @@ module _ (records start : List ℕ) (v : Visit) (first : ℕ) (memo : List ℕ) 
           (λ k. let u = chain-up k in rw (ne_eqb x.d 0 (λ y. omega arith)) (omega arith)))
 
       pub chain_next : (p : ℕ) → p ≡ v.base + n → (after : List ℕ) → length after ≡ length memo
-          → after ≡ markBit memo p → Marks memo p after → InChain records start v first after x.d
+          → after ≡ mark_bit memo p → Marks memo p after → InChain records start v first after x.d
       chain_next p ep after el ea m = record {
         good = i.good;
         small = i.small;

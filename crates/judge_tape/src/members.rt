@@ -1,8 +1,8 @@
 // Members: the rows of the tape, and the search for a name among those of a block.
 ghost use Rattle.std.specs.Prelude.{◌≡◌, ◌+◌, ◌*◌, ◌≤◌, ◌<◌, length};
-ghost use Rattle.dadl.specs.contracts.Tape.{rowSize, rowNumber};
-ghost use Rattle.dadl.specs.contracts.Rows.{row_at, TapeGood};
-ghost use Rattle.judge_tape.specs.contracts.Rows.{Begins, foundRow, memberRow};
+ghost use Rattle.dadl.specs.Clauses.Tape.{row_size, row_number};
+ghost use Rattle.dadl.specs.Clauses.Rows.{row_at, TapeGood};
+ghost use Rattle.judge_tape.specs.Clauses.Rows.{Begins, found_row, member_row};
 
 use dadl::rows::row_name;
 use lexis::runs::same_bytes;
@@ -28,9 +28,9 @@ pub struct Block {
 // The number i of row n: 0 what the member holds (0 a block, 1 a string, 2 a word), 1 and 2 its name, 3 the place of its `<`, 4 and 5 its
 // type, 6 and 7 its string or word, or 0 and the number of rows inside it, 8 the row of the next member.
 pub fn number(tape: &[u16], n: usize, i: usize) -> usize
-    requires row_size_in_bounds { rowSize * n + rowSize ≤ length tape.now }
-    requires i_lt_row_size { i < rowSize }
-    ensures { result ≡ rowNumber (row_at tape.now n) i }
+    requires row_size_in_bounds { row_size * n + row_size ≤ length tape.now }
+    requires i_lt_row_size { i < row_size }
+    ensures { result ≡ row_number (row_at tape.now n) i }
 {
     dadl::rows::number(tape, n, i)
 }
@@ -46,8 +46,8 @@ pub fn find_member(
 ) -> Found
     requires tape_good { TapeGood (length s.now) rows tape.now }
     requires begins { Begins rows first inside }
-    ensures { foundRow result
-        ≡ memberRow s.now tape.now rows first inside name.now }
+    ensures { found_row result
+        ≡ member_row s.now tape.now rows first inside name.now }
 {
     if inside == 0 {
         return Found::Nothing;

@@ -1,10 +1,10 @@
 // The memo: which attributes are known to admit which blocks, and which items which strings and words, a bit for each pair of a row and a record.
 ghost use Rattle.std.specs.Prelude.{◌≡◌, ◌+◌, ◌*◌, ◌-◌, ◌≤◌, ◌<◌, length};
-ghost use Rattle.table.specs.Rows.{shape_of, isListed};
-ghost use Rattle.table.specs.contracts.Answers.{recordOf};
-ghost use Rattle.judge_admission.specs.contracts.Items.{Lies, NamedRecord};
-ghost use Rattle.judge_tape.specs.contracts.Rows.{LeafRow, Walk};
-ghost use Rattle.judge_tape.specs.contracts.Memo.{bit_of, withBit, marked, markBit, Marks, recordCount, base_of, VisitOf, seenBefore, admittedIn, markChain, ChainGood, ChainMarked, mayVisit, leadsIn, markItem, markItems, enterLeaf, known_in, Listing, ItemsMarked, MemoGood, KnownIs};
+ghost use Rattle.table.specs.Rows.{shape_of, is_listed};
+ghost use Rattle.table.specs.Clauses.Answers.{record_of};
+ghost use Rattle.judge_admission.specs.Clauses.Items.{Lies, NamedRecord};
+ghost use Rattle.judge_tape.specs.Clauses.Rows.{LeafRow, Walk};
+ghost use Rattle.judge_tape.specs.Clauses.Memo.{bit_of, with_bit, marked, mark_bit, Marks, record_count, base_of, VisitOf, seen_before, admitted_in, mark_chain, ChainGood, ChainMarked, may_visit, leads_in, mark_item, mark_items, enter_leaf, known_in, Listing, ItemsMarked, MemoGood, KnownIs};
 
 use crate::members::{Block, number};
 use judge_admission::{entry_at, item_admits};
@@ -33,7 +33,7 @@ fn has_bit(b: u8, k: usize) -> bool
 // A byte with bit k set.
 fn with_bit(b: u8, k: usize) -> u8
     requires { k < 8 }
-    ensures { result ≡ withBit b k }
+    ensures { result ≡ with_bit b k }
 {
     if has_bit(b, k) {
         return b;
@@ -54,7 +54,7 @@ fn is_marked(memo: &[u8], i: usize) -> bool
 
 // Sets the bit with a number, if it is not behind the memo's end.
 fn mark(memo: &mut [u8], i: usize)
-    ensures memo_after { memo.new ≡ markBit memo.old i }
+    ensures memo_after { memo.new ≡ mark_bit memo.old i }
     ensures marks { Marks memo.old i memo.new }
 {
     let at = i / 8;
@@ -66,7 +66,7 @@ fn mark(memo: &mut [u8], i: usize)
 
 // The number of records.
 pub fn record_count(records: &[u8]) -> usize
-    ensures { result ≡ recordCount records.now }
+    ensures { result ≡ record_count records.now }
 {
     records.len() / RECORD_SIZE
 }
@@ -83,8 +83,8 @@ fn pair(visit: Visit, n: u32) -> usize
 pub fn enter(records: &[u8], memo: &mut [u8], block: Block) -> Visit
     requires { base_of records.now block ≤ 8388608 }
     ensures visit_of { VisitOf records.now block result }
-    ensures again_value { result.again ≡ seenBefore records.now memo.old block }
-    ensures memo_after { memo.new ≡ markBit memo.old (base_of records.now block) }
+    ensures again_value { result.again ≡ seen_before records.now memo.old block }
+    ensures memo_after { memo.new ≡ mark_bit memo.old (base_of records.now block) }
     ensures marks { Marks memo.old (base_of records.now block) memo.new }
 {
     let base = block.first * record_count(records);
@@ -101,7 +101,7 @@ pub fn enter(records: &[u8], memo: &mut [u8], block: Block) -> Visit
 // No attribute is left, or those from the one with a number on are known to admit the block.
 pub fn is_admitted(memo: &[u8], visit: Visit, n: u32) -> bool
     requires { visit.base ≤ 8388608 }
-    ensures { result ≡ admittedIn memo.now visit n }
+    ensures { result ≡ admitted_in memo.now visit n }
 {
     if n == 0 {
         return true;
@@ -117,7 +117,7 @@ pub fn is_admitted(memo: &[u8], visit: Visit, n: u32) -> bool
 pub fn mark_chain(records: &[u8], memo: &mut [u8], visit: Visit, first: u32)
     requires chain_good { ChainGood records.now first }
     requires base_bound { visit.base ≤ 8388608 }
-    ensures memo_after { memo.new ≡ markChain records.now visit first memo.old }
+    ensures memo_after { memo.new ≡ mark_chain records.now visit first memo.old }
     ensures chain_marked { ChainMarked records.now memo.old visit.base first memo.new }
 {
     if !visit.again {
@@ -133,7 +133,7 @@ pub fn mark_chain(records: &[u8], memo: &mut [u8], visit: Visit, first: u32)
 
 // Takes one from the visits of attributes that are left. With a memo there need be none.
 pub fn may_visit(memo: &[u8], visits: &mut u32) -> bool
-    ensures value { result ≡ mayVisit (length memo.now) visits.old }
+    ensures value { result ≡ may_visit (length memo.now) visits.old }
     ensures visits_after { visits.new ≡ visits.old - 1 }
 {
     let left = *visits;
@@ -146,7 +146,7 @@ pub fn may_visit(memo: &[u8], visits: &mut u32) -> bool
 
 // The kind is that of an item of a list.
 fn is_listed(kind: u8) -> bool
-    ensures { result ≡ isListed (shape_of kind) }
+    ensures { result ≡ is_listed (shape_of kind) }
 {
     if kind == INTEGER_KIND {
         return true;
@@ -159,10 +159,10 @@ fn is_listed(kind: u8) -> bool
 
 // An item admits a value by itself, or the item next to it is marked.
 fn leads_in(pool: &[u8], memo: &[u8], base: usize, e: Entry, value: &[u8], is_string: bool) -> bool
-    requires named_record { NamedRecord pool.now (recordOf e) }
+    requires named_record { NamedRecord pool.now (record_of e) }
     requires base_bound { base ≤ 8388608 }
     ensures { result
-        ≡ leadsIn pool.now memo.now base (recordOf e) is_string value.now }
+        ≡ leads_in pool.now memo.now base (record_of e) is_string value.now }
 {
     if item_admits(pool, e, value, is_string) {
         return true;
@@ -184,9 +184,9 @@ fn mark_item(
     is_string: bool,
 )
     requires listing { Listing records.now pool.now memo.old base is_string value.now }
-    requires le_n { (1 ≤ n.0) × (n.0 < recordCount records.now) }
+    requires le_n { (1 ≤ n.0) × (n.0 < record_count records.now) }
     ensures memo_after { memo.new
-        ≡ markItem records.now pool.now base is_string value.now n.0
+        ≡ mark_item records.now pool.now base is_string value.now n.0
         memo.old }
     ensures items_marked { ItemsMarked records.now pool.now memo.old base is_string
         value.now memo.new }
@@ -210,8 +210,8 @@ fn mark_items(
 )
     requires { Listing records.now pool.now memo.old base is_string value.now }
     ensures memo_after { memo.new
-        ≡ markItems records.now pool.now base is_string value.now
-        (recordCount records.now - 1) memo.old }
+        ≡ mark_items records.now pool.now base is_string value.now
+        (record_count records.now - 1) memo.old }
     ensures items_marked { ItemsMarked records.now pool.now memo.old base is_string
         value.now memo.new }
 {
@@ -244,9 +244,9 @@ fn enter_leaf(
     requires walk { Walk records.now pool.now s.now tape.now rows }
     requires leaf_row { LeafRow rows tape.now row }
     requires memo_good { MemoGood records.now pool.now s.now tape.now rows memo.old }
-    requires base_value { base ≡ (row + 1) * recordCount records.now }
+    requires base_value { base ≡ (row + 1) * record_count records.now }
     ensures memo_after { memo.new
-        ≡ enterLeaf records.now pool.now s.now tape.now row
+        ≡ enter_leaf records.now pool.now s.now tape.now row
         memo.old }
     ensures memo_good_2 { MemoGood records.now pool.now s.now tape.now rows
         memo.new }
@@ -280,7 +280,7 @@ pub fn is_known(
         ≡ known_in records.now pool.now s.now tape.now row first.0
         memo.old }
     ensures memo_after { memo.new
-        ≡ enterLeaf records.now pool.now s.now tape.now row
+        ≡ enter_leaf records.now pool.now s.now tape.now row
         memo.old }
     ensures known_is { KnownIs records.now pool.now s.now tape.now row
         first.0 result }

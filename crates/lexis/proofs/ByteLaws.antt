@@ -8,8 +8,8 @@ use native.Mathlib.Decide.{dec_lt}
 use lib.Dec.{eqb, leb}
 use lib.ListN.{get_or}
 use borrow.Author.Tests.{eqb-true, ne_eqb, le-leb}
-use Rattle.lexis.specs.Bytes.{sortOf, wordByte, stringByte, runByte}
-use Rattle.lexis.specs.contracts.Answers.{runMark}
+use Rattle.lexis.specs.Bytes.{sort_of, word_byte, string_byte, run_byte}
+use Rattle.lexis.specs.Clauses.Answers.{run_mark}
 use Rattle.lexis.proofs.Cases.{and_left, and_right}
 
 -- two tests answer the same
@@ -44,17 +44,17 @@ and-true true = refl
 and-true false = refl
 
 -- a byte other than the two that no string holds
-pub string-last : (b : ℕ) → 32 ≤ b → (b ≡ 34 → ⊥) → (b ≡ 92 → ⊥) → leb b 126 ≡ stringByte b
-unfolding stringByte
+pub string-last : (b : ℕ) → 32 ≤ b → (b ≡ 34 → ⊥) → (b ≡ 92 → ⊥) → leb b 126 ≡ string_byte b
+unfolding string_byte
 string-last b h n m = rw (le-leb 32 b h, ne_eqb b 34 n, ne_eqb b 92 m) (and-true (leb b 126))
 
 -- a byte of words is one of runs
-pub run-word : (b : ℕ) (r : Bool) → r ≡ wordByte b → r ≡ true → true ≡ runByte b
-unfolding runByte
+pub run-word : (b : ℕ) (r : Bool) → r ≡ word_byte b → r ≡ true → true ≡ run_byte b
+unfolding run_byte
 run-word b r h e = rw (← h, e)
 
 -- a byte that is none of three that runs hold besides the bytes of words
-pub mark-last : (b : ℕ) → (b ≡ 43 → ⊥) → (b ≡ 45 → ⊥) → (b ≡ 46 → ⊥) → eqb b 58 ≡ runMark b
+pub mark-last : (b : ℕ) → (b ≡ 43 → ⊥) → (b ≡ 45 → ⊥) → (b ≡ 46 → ⊥) → eqb b 58 ≡ run_mark b
 mark-last b n m k = rw (ne_eqb b 43 n, ne_eqb b 45 m, ne_eqb b 46 k) (or-false (eqb b 58))
   where
     or-false : (x : Bool) → x ≡ (x || false)
@@ -62,15 +62,15 @@ mark-last b n m k = rw (ne_eqb b 43 n, ne_eqb b 45 m, ne_eqb b 46 k) (or-false (
     or-false false = refl
 
 -- a byte that is none of words is one of runs where it is one of those
-pub run-other : (b : ℕ) (r q : Bool) → r ≡ wordByte b → r ≡ false → q ≡ runMark b → q ≡ runByte b
-unfolding runByte
+pub run-other : (b : ℕ) (r q : Bool) → r ≡ word_byte b → r ≡ false → q ≡ run_mark b → q ≡ run_byte b
+unfolding run_byte
 run-other b r q h e p = rw (← h, e) p
 
 -- the test of the table of sorts: each of its 256 entries is the sort of its byte
-abbrev pub sortsRight : List ℕ → Bool
-sortsRight sorts = passes (λ b. eqb (get_or sorts b 0) (sortOf b)) 0 256
+abbrev pub sorts_right : List ℕ → Bool
+sorts_right sorts = passes (λ b. eqb (get_or sorts b 0) (sort_of b)) 0 256
 
 -- what the test says of each entry
-pub sort-entry : (sorts : List ℕ) → sortsRight sorts ≡ true → (b : ℕ) → b < 256 → get_or sorts b 0 ≡ sortOf b
+pub sort-entry : (sorts : List ℕ) → sorts_right sorts ≡ true → (b : ℕ) → b < 256 → get_or sorts b 0 ≡ sort_of b
 sort-entry sorts t b h =
-    eqb-true (get_or sorts b 0) (sortOf b) (sym (agree (λ x. true) (λ x. eqb (get_or sorts x 0) (sortOf x)) 0 256 t b (omega arith) h))
+    eqb-true (get_or sorts b 0) (sort_of b) (sym (agree (λ x. true) (λ x. eqb (get_or sorts x 0) (sort_of x)) 0 256 t b (omega arith) h))

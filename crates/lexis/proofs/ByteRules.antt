@@ -10,7 +10,7 @@ use lib.ListN.{length, drop, take-append-drop}
 use lib.Seq.{take-append_seam, drop-drop}
 use borrow.Author.Tests.{eqb-true, eq-eqb, ne_eqb, leb-true, le-leb}
 use Rattle.lexis.specs.Text.{byte, bytes}
-use Rattle.lexis.specs.Bytes.{is, sortOf, within, among, blanks, wordByte, stringByte, runByte, lineEnd}
+use Rattle.lexis.specs.Bytes.{is, sort_of, within, among, blanks, word_byte, string_byte, run_byte, line_end}
 use Rattle.lexis.specs.Bytes
 use Rattle.lexis.specs.Runs.{past, part, all, StandsAt}
 use Rattle.lexis.proofs.Cases.{by_cond, and_left, and_right}
@@ -33,8 +33,8 @@ by-sort : (P : ℕ → Type 0) (b : ℕ) → (among b blanks ≡ true → P Byte
     → (within (byte "A") (byte "Z") b ≡ true → P Bytes.capital)
     → P Bytes.mark
     → P Bytes.other
-    → P (sortOf b)
-unfolding sortOf
+    → P (sort_of b)
+unfolding sort_of
 by-sort P b blank digit small capital mark other =
     by_cond P (among b blanks) blank (λ e.
     by_cond P (within (byte "0") (byte "9") b) digit (λ e.
@@ -54,7 +54,7 @@ row : (sort x n : ℕ) → passes (λ b. alike true (is sort b)) x n ≡ true �
 row sort x n t b h k = sym (agree (λ y. true) (is sort) x n t b h k)
 
 pub is_digit : (b : ℕ) → (is Bytes.digit b ≡ true) ↔ Digit b
-unfolding sortOf
+unfolding sort_of
 is_digit b = (
   by-sort (λ x. eqb x Bytes.digit ≡ true → Digit b) b
       (λ k. never) (λ k e. Digit.digit (low _ _ b k) (high _ _ b k)) (λ k. never) (λ k. never) never never,
@@ -65,7 +65,7 @@ is_digit b = (
     of (Digit.digit l h) = row Bytes.digit (byte "0") 10 refl b l (omega arith)
 
 pub is-small : (b : ℕ) → (is Bytes.small b ≡ true) ↔ Small b
-unfolding sortOf
+unfolding sort_of
 is-small b = (
   by-sort (λ x. eqb x Bytes.small ≡ true → Small b) b
       (λ k. never) (λ k. never) (λ k e. Small.small (low _ _ b k) (high _ _ b k)) (λ k. never) never never,
@@ -76,7 +76,7 @@ is-small b = (
     of (Small.small l h) = row Bytes.small (byte "a") 26 refl b l (omega arith)
 
 pub is-capital : (b : ℕ) → (is Bytes.capital b ≡ true) ↔ Capital b
-unfolding sortOf
+unfolding sort_of
 is-capital b = (
   by-sort (λ x. eqb x Bytes.capital ≡ true → Capital b) b
       (λ k. never) (λ k. never) (λ k. never) (λ k e. Capital.capital (low _ _ b k) (high _ _ b k)) never never,
@@ -90,43 +90,43 @@ is-capital b = (
 among_cases : (P : ℕ → Type 0) (b x : ℕ) (xs : List ℕ) → among b (x ∷ xs) ≡ true → P x → (among b xs ≡ true → P b) → P b
 among_cases P b x xs h p f = or_cases (eqb b x) (among b xs) h (λ e. subst P (sym (eqb-true b x e)) p) f
 
-of-line-end : {b : ℕ} → LineEnd b → lineEnd b ≡ true
-unfolding lineEnd
+of-line-end : {b : ℕ} → LineEnd b → line_end b ≡ true
+unfolding line_end
 of-line-end LineEnd.return = refl
 of-line-end LineEnd.feed = refl
 
-pub is-line-end : (b : ℕ) → (lineEnd b ≡ true) ↔ LineEnd b
-unfolding lineEnd
+pub is-line-end : (b : ℕ) → (line_end b ≡ true) ↔ LineEnd b
+unfolding line_end
 is-line-end b = (λ h. among_cases LineEnd b (byte "\r") (bytes "\n") h LineEnd.return (λ e. among_cases LineEnd b (byte "\n") [] e LineEnd.feed never), of-line-end)
 
 among-blanks : (b : ℕ) → among b blanks ≡ true → Blank b
-unfolding lineEnd
+unfolding line_end
 among-blanks b h =
     among_cases Blank b (byte " ") (bytes "\t\r\n") h Blank.space (λ e.
-    among_cases Blank b (byte "\t") (bytes "\r\n") e Blank.tab (λ f. Blank.lineEnd ((is-line-end b).0 f)))
+    among_cases Blank b (byte "\t") (bytes "\r\n") e Blank.tab (λ f. Blank.line_end ((is-line-end b).0 f)))
 
 of-blank : {b : ℕ} → Blank b → is Bytes.blank b ≡ true
-unfolding sortOf
+unfolding sort_of
 of-blank Blank.space = refl
 of-blank Blank.tab = refl
-of-blank (Blank.lineEnd LineEnd.return) = refl
-of-blank (Blank.lineEnd LineEnd.feed) = refl
+of-blank (Blank.line_end LineEnd.return) = refl
+of-blank (Blank.line_end LineEnd.feed) = refl
 
 pub is-blank : (b : ℕ) → (is Bytes.blank b ≡ true) ↔ Blank b
 is-blank b = (by-sort (λ x. eqb x Bytes.blank ≡ true → Blank b) b (λ k e. among-blanks b k) (λ k. never) (λ k. never) (λ k. never) never never, of-blank)
 
-of-word-byte : {b : ℕ} → WordByte b → wordByte b ≡ true
-unfolding wordByte sortOf
+of-word-byte : {b : ℕ} → WordByte b → word_byte b ≡ true
+unfolding word_byte sort_of
 of-word-byte {b} (WordByte.small h) = small_word b ((is-small b).1 h)
 of-word-byte {b} (WordByte.capital h) = capital-word b ((is-capital b).1 h)
 of-word-byte {b} (WordByte.digit h) = rw ((is_digit b).1 h, or-true)
 of-word-byte WordByte.underscore = refl
 
-pub is-word-byte : (b : ℕ) → (wordByte b ≡ true) ↔ WordByte b
-unfolding wordByte
+pub is-word-byte : (b : ℕ) → (word_byte b ≡ true) ↔ WordByte b
+unfolding word_byte
 is-word-byte b = (to, of-word-byte)
   where
-    to : wordByte b ≡ true → WordByte b
+    to : word_byte b ≡ true → WordByte b
     to h =
         or_cases _ (eqb b (byte "_")) h
         (λ k. or_cases _ (is Bytes.digit b) k
@@ -134,21 +134,21 @@ is-word-byte b = (to, of-word-byte)
         (λ e. WordByte.digit ((is_digit b).0 e)))
         (λ e. subst WordByte (sym (eqb-true b (byte "_") e)) WordByte.underscore)
 
-of-run-byte : {b : ℕ} → RunByte b → runByte b ≡ true
-unfolding runByte wordByte sortOf
-of-run-byte {b} (RunByte.word h) = or_left (wordByte b) _ ((is-word-byte b).1 h)
+of-run-byte : {b : ℕ} → RunByte b → run_byte b ≡ true
+unfolding run_byte word_byte sort_of
+of-run-byte {b} (RunByte.word h) = or_left (word_byte b) _ ((is-word-byte b).1 h)
 of-run-byte RunByte.plus = refl
 of-run-byte RunByte.minus = refl
 of-run-byte RunByte.dot = refl
 of-run-byte RunByte.colon = refl
 
-pub is-run-byte : (b : ℕ) → (runByte b ≡ true) ↔ RunByte b
-unfolding runByte
+pub is-run-byte : (b : ℕ) → (run_byte b ≡ true) ↔ RunByte b
+unfolding run_byte
 is-run-byte b = (to, of-run-byte)
   where
-    to : runByte b ≡ true → RunByte b
+    to : run_byte b ≡ true → RunByte b
     to h =
-        or_cases (wordByte b) (among b (bytes "+-.:")) h (λ e. RunByte.word ((is-word-byte b).0 e)) (λ k.
+        or_cases (word_byte b) (among b (bytes "+-.:")) h (λ e. RunByte.word ((is-word-byte b).0 e)) (λ k.
         among_cases RunByte b (byte "+") (bytes "-.:") k RunByte.plus (λ l.
         among_cases RunByte b (byte "-") (bytes ".:") l RunByte.minus (λ m.
         among_cases RunByte b (byte ".") (bytes ":") m RunByte.dot (λ n.
@@ -159,18 +159,18 @@ neither : (b x y : ℕ) → cond (among b (x ∷ y ∷ [])) false true ≡ true 
 neither b x y h =
     (λ e. false-true (rw (eq-eqb b x e) at h), λ e. false-true (rw (eq-eqb b y e, or-true) at h))
 
-pub is-string-byte : (b : ℕ) → (stringByte b ≡ true) ↔ StringByte b
-unfolding stringByte
+pub is-string-byte : (b : ℕ) → (string_byte b ≡ true) ↔ StringByte b
+unfolding string_byte
 is-string-byte b = (to, of)
   where
-    to : stringByte b ≡ true → StringByte b
+    to : string_byte b ≡ true → StringByte b
     to h =
         let k = and_left (within 0x20 0x7E b) (cond (among b (bytes "\"\\")) false true) h in
         let n = neither b (byte "\"") (byte "\\") (and_right (within 0x20 0x7E b) (cond (among b (bytes "\"\\")) false true) h) in
-        StringByte.stringByte (low _ _ b k) (high _ _ b k) n.0 n.1
+        StringByte.string_byte (low _ _ b k) (high _ _ b k) n.0 n.1
 
-    of : StringByte b → stringByte b ≡ true
-    of (StringByte.stringByte l k m n) = rw (le-leb 0x20 b l, le-leb b 0x7E k, ne_eqb b (byte "\"") m, ne_eqb b (byte "\\") n)
+    of : StringByte b → string_byte b ≡ true
+    of (StringByte.string_byte l k m n) = rw (le-leb 0x20 b l, le-leb b 0x7E k, ne_eqb b (byte "\"") m, ne_eqb b (byte "\\") n)
 
 -- lists by their first element
 pub empty-cons : {b : ℕ} {bs : List ℕ} → [] ≡ b ∷ bs → ⊥

@@ -8,37 +8,37 @@ use lib.Dec.{eqb, leb}
 use lib.ListN.{length, drop}
 use borrow.Author.Tests.{leb-false}
 use Rattle.lexis.specs.Text.{byte}
-use Rattle.lexis.specs.Bytes.{runByte}
+use Rattle.lexis.specs.Bytes.{run_byte}
 use Rattle.lexis.specs.Runs.{past, byte_at}
-use Rattle.lexis.specs.Blanks.{tokenStart}
-use Rattle.lexis.specs.Tokens.{noToken}
-use Rattle.lexis.specs.DataTokens.{dataMarks, run, runSort, typeSort, dataTokenOn, dataTokenAt, typeTokenAt}
+use Rattle.lexis.specs.Blanks.{token_start}
+use Rattle.lexis.specs.Tokens.{no_token}
+use Rattle.lexis.specs.DataTokens.{data_marks, run, run_sort, type_sort, data_token_on, data_token_at, type_token_at}
 use Rattle.lexis.proofs.Places.{Spans, Found, spans-cond, none-spans, end-spans, to-spans, spelled-spans, quoted-spans, run-between, run-strict, start_between, found-by}
 
 module _ (sorted : List ℕ → ℕ → ℕ) (s : List ℕ) where
-  run-spans : (at : ℕ) → at < length s → runByte (byte_at s at) ≡ true → Spans s at (run sorted s at)
+  run-spans : (at : ℕ) → at < length s → run_byte (byte_at s at) ≡ true → Spans s at (run sorted s at)
   run-spans at h e =
-      let b = run-between s at (omega arith) runByte in
-      to-spans s at _ (past runByte at (drop at s)) (run-strict s at runByte h e) b.most
+      let b = run-between s at (omega arith) run_byte in
+      to-spans s at _ (past run_byte at (drop at s)) (run-strict s at run_byte h e) b.most
 
-  pub data-spans : (at : ℕ) → at ≤ length s → Spans s at (dataTokenOn sorted s at)
-  unfolding dataTokenOn
+  pub data-spans : (at : ℕ) → at ≤ length s → Spans s at (data_token_on sorted s at)
+  unfolding data_token_on
   data-spans at h =
       spans-cond s at (leb (length s) at) _ _ (λ e. end-spans s at h) (λ e.
       let l : at < length s = leb-false _ _ e in
-      spans-cond s at (runByte (byte_at s at)) _ _ (run-spans at l) (λ f.
+      spans-cond s at (run_byte (byte_at s at)) _ _ (run-spans at l) (λ f.
       spans-cond s at (eqb (byte_at s at) (byte "\"")) _ _ (λ g. quoted-spans s at l)
-      (λ g. spelled-spans s at dataMarks (noToken at) h (omega arith) (none-spans s at h))))
+      (λ g. spelled-spans s at data_marks (no_token at) h (omega arith) (none-spans s at h))))
 
-  pub data-found : (from : ℕ) → from ≤ length s → Found s from (dataTokenOn sorted s (tokenStart s from))
+  pub data-found : (from : ℕ) → from ≤ length s → Found s from (data_token_on sorted s (token_start s from))
   data-found from h =
       let b = start_between s from h in
-      found-by s from _ h (data-spans (tokenStart s from) b.most)
+      found-by s from _ h (data-spans (token_start s from) b.most)
 
-pub data-token-found : (s : List ℕ) (from : ℕ) → from ≤ length s → Found s from (dataTokenAt s from)
-unfolding dataTokenAt
-data-token-found s from h = data-found runSort s from h
+pub data-token-found : (s : List ℕ) (from : ℕ) → from ≤ length s → Found s from (data_token_at s from)
+unfolding data_token_at
+data-token-found s from h = data-found run_sort s from h
 
-pub type-token-found : (s : List ℕ) (from : ℕ) → from ≤ length s → Found s from (typeTokenAt s from)
-unfolding typeTokenAt
-type-token-found s from h = data-found typeSort s from h
+pub type-token-found : (s : List ℕ) (from : ℕ) → from ≤ length s → Found s from (type_token_at s from)
+unfolding type_token_at
+type-token-found s from h = data-found type_sort s from h

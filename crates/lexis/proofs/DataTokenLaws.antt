@@ -9,22 +9,22 @@ use lib.Dec.{eqb, leb}
 use lib.ListN.{length, drop}
 use borrow.Author.Tests.{eqb-true, leb-true, leb-false, le-leb, lt-leb, eq-eqb, ne_eqb}
 use Rattle.lexis.specs.Text.{byte, bytes}
-use Rattle.lexis.specs.Bytes.{is, sortOf, small, capital, wordByte, stringByte, runByte}
+use Rattle.lexis.specs.Bytes.{is, sort_of, small, capital, word_byte, string_byte, run_byte}
 use Rattle.lexis.specs.Runs.{past, byte_at, part, all, starts_with, same, StandsAt}
-use Rattle.lexis.specs.Blanks.{tokenStart}
+use Rattle.lexis.specs.Blanks.{token_start}
 use Rattle.lexis.specs.Spelling
-use Rattle.lexis.specs.Spelling.{literalOf, wordSort}
-use Rattle.lexis.specs.Tokens.{token, noToken, spelled, quoted, unreadable, typeName, name}
-use Rattle.lexis.specs.DataTokens.{dataMarks, nameSort, runSort, typeSort, dataTokenOn, dataTokenAt, typeTokenAt}
+use Rattle.lexis.specs.Spelling.{literal_of, word_sort}
+use Rattle.lexis.specs.Tokens.{token, no_token, spelled, quoted, unreadable, type_name, name}
+use Rattle.lexis.specs.DataTokens.{data_marks, name_sort, run_sort, type_sort, data_token_on, data_token_at, type_token_at}
 use Rattle.lexis.specs.declared.Token.{Token}
 use Rattle.lexis.proofs.Cases.{by_cond, and_left}
 use Rattle.lexis.proofs.Parts.{part_length}
 use Rattle.lexis.proofs.Places.{run-between, run-strict}
 use Rattle.lexis.proofs.RunLaws.{first-inside, first_read}
 use Rattle.lexis.proofs.ReadBack.{quoted-read}
-use Rattle.lexis.specs.SpellingRules.{Small, Capital, WordByte, RunByte, StringByte, All, none, more, CapitalWord, capitalWord, SmallWord, smallWord, Quoted, SpellsData}
+use Rattle.lexis.specs.SpellingRules.{Small, Capital, WordByte, RunByte, StringByte, All, none, more, CapitalWord, capital_word, SmallWord, small_word, Quoted, SpellsData}
 use Rattle.lexis.specs.SpellingRules
-use Rattle.lexis.specs.LongestMatch.{Separates, SpelledAt, LongestAt, RunAt, OpensSmall, opensSmall, Classed, aName, noName, aWord, ClassedBehind, a_type, noType, NextDataIs}
+use Rattle.lexis.specs.LongestMatch.{Separates, SpelledAt, LongestAt, RunAt, OpensSmall, opens_small, Classed, a_name, no_name, a_word, ClassedBehind, a_type, no_type, NextDataIs}
 use Rattle.lexis.proofs.TestLaws.{true-or-false, false-true, same-eq, same-ne}
 use Rattle.lexis.proofs.SpelledAtLaws.{part-first, spelled-cases, string-here}
 use Rattle.lexis.proofs.SeparatorLaws.{separated}
@@ -42,79 +42,79 @@ record Plain (x y w : List ℕ) : Type 0 where
 
 -- the sort of a run under two spellings of other sorts: its own where it is plain, else unreadable
 name-sort : (x y : List ℕ) (a b sort : ℕ) → a ≢ sort → b ≢ sort → (w : List ℕ) (P : ℕ → Type 0) → (Plain x y w → P sort)
-    → (¬ Plain x y w → P unreadable) → P (nameSort (literalOf a x ∷ literalOf b y ∷ []) sort w)
-unfolding wordSort
+    → (¬ Plain x y w → P unreadable) → P (name_sort (literal_of a x ∷ literal_of b y ∷ []) sort w)
+unfolding word_sort
 name-sort x y a b sort n m w P f g =
     let Q : ℕ → Type 0 = λ v. P (cond (eqb v sort) sort unreadable) in
-    by_cond P (all wordByte w)
+    by_cond P (all word_byte w)
     (λ e. by_cond Q (same x w)
     (λ q. rw (ne_eqb a sort n) (g (λ p. p.first (sym (same-eq x w q)))))
     (λ q. by_cond Q (same y w)
     (λ r. rw (ne_eqb b sort m) (g (λ p. p.second (sym (same-eq y w r)))))
-    (λ r. rw (eq-eqb sort sort refl) (f (record { word = (is_all WordByte wordByte is-word-byte w).0 e; first = λ h. same-ne x w q (sym h); second = λ h. same-ne y w r (sym h) })))))
-    (λ e. g (λ p. false-true (sym e ∙ (is_all WordByte wordByte is-word-byte w).1 p.word)))
+    (λ r. rw (eq-eqb sort sort refl) (f (record { word = (is_all WordByte word_byte is-word-byte w).0 e; first = λ h. same-ne x w q (sym h); second = λ h. same-ne y w r (sym h) })))))
+    (λ e. g (λ p. false-true (sym e ∙ (is_all WordByte word_byte is-word-byte w).1 p.word)))
 
 -- NAMEs and TYPEs, by their first letter
 all_rest : {b : ℕ} {w : List ℕ} → All WordByte (b ∷ w) → All WordByte w
 all_rest (more h a) = a
 
 first_small : {b : ℕ} {w : List ℕ} → OpensSmall (b ∷ w) → Small b
-first_small (opensSmall h) = h
+first_small (opens_small h) = h
 
 small_plain : {w : List ℕ} → SmallWord w → OpensSmall w × All WordByte w
-small_plain (smallWord h a) = (opensSmall h, more (WordByte.small h) a)
+small_plain (small_word h a) = (opens_small h, more (WordByte.small h) a)
 
 capital-plain : {b : ℕ} {w : List ℕ} → CapitalWord (b ∷ w) → Capital b × All WordByte (b ∷ w)
-capital-plain (capitalWord h a) = (h, more (WordByte.capital h) a)
+capital-plain (capital_word h a) = (h, more (WordByte.capital h) a)
 
 -- the class of a run with a first byte
 module _ (b : ℕ) (w : List ℕ) where
-  classed : Classed (b ∷ w) (runSort (b ∷ w) b)
+  classed : Classed (b ∷ w) (run_sort (b ∷ w) b)
   classed =
       by_cond (Classed (b ∷ w)) (is small b)
       (λ e. let h = (is-small b).0 e in
       name-sort (bytes "matches") (bytes "existence") Spelling.matches Spelling.existence name (omega arith) (omega arith) (b ∷ w) (Classed (b ∷ w))
-      (λ p. aName (record { small = smallWord h (all_rest p.word); notMatches = p.first; notExistence = p.second }))
-      (λ n. noName (opensSmall h) (λ y. n (record { word = (small_plain y.small).1; first = y.notMatches; second = y.notExistence }))))
-      (λ e. aWord (λ o. false-true (sym e ∙ (is-small b).1 (first_small o))))
+      (λ p. a_name (record { small = small_word h (all_rest p.word); not_matches = p.first; not_existence = p.second }))
+      (λ n. no_name (opens_small h) (λ y. n (record { word = (small_plain y.small).1; first = y.not_matches; second = y.not_existence }))))
+      (λ e. a_word (λ o. false-true (sym e ∙ (is-small b).1 (first_small o))))
 
-  classed-behind : ClassedBehind (b ∷ w) (typeSort (b ∷ w) b)
+  classed-behind : ClassedBehind (b ∷ w) (type_sort (b ∷ w) b)
   classed-behind =
       by_cond (ClassedBehind (b ∷ w)) (is capital b)
       (λ e. let h = (is-capital b).0 e in
-      name-sort (bytes "True") (bytes "False") Spelling.trueWord Spelling.falseWord typeName (omega arith) (omega arith) (b ∷ w) (ClassedBehind (b ∷ w))
-      (λ p. a_type (record { capital = capitalWord h (all_rest p.word); notTrue = p.first; notFalse = p.second }))
-      (λ n. noType (λ y. n (record { word = (capital-plain y.capital).1; first = y.notTrue; second = y.notFalse }))))
-      (λ e. noType (λ y. false-true (sym e ∙ (is-capital b).1 (capital-plain y.capital).0)))
+      name-sort (bytes "True") (bytes "False") Spelling.true_word Spelling.false_word type_name (omega arith) (omega arith) (b ∷ w) (ClassedBehind (b ∷ w))
+      (λ p. a_type (record { capital = capital_word h (all_rest p.word); not_true = p.first; not_false = p.second }))
+      (λ n. no_type (λ y. n (record { word = (capital-plain y.capital).1; first = y.not_true; second = y.not_false }))))
+      (λ e. no_type (λ y. false-true (sym e ∙ (is-capital b).1 (capital-plain y.capital).0)))
 
 -- a run has one class
 one_class : {w : List ℕ} (x y : ℕ) → Classed w x → Classed w y → x ≡ y
-one_class x y (aName h) (aName k) = refl
-one_class x y (aName h) (noName o n) = absurd (n h)
-one_class x y (aName h) (aWord n) = absurd (n (small_plain h.small).0)
-one_class x y (noName o n) (aName k) = absurd (n k)
-one_class x y (noName o n) (noName p m) = refl
-one_class x y (noName o n) (aWord m) = absurd (m o)
-one_class x y (aWord n) (aName k) = absurd (n (small_plain k.small).0)
-one_class x y (aWord n) (noName o m) = absurd (n o)
-one_class x y (aWord n) (aWord m) = refl
+one_class x y (a_name h) (a_name k) = refl
+one_class x y (a_name h) (no_name o n) = absurd (n h)
+one_class x y (a_name h) (a_word n) = absurd (n (small_plain h.small).0)
+one_class x y (no_name o n) (a_name k) = absurd (n k)
+one_class x y (no_name o n) (no_name p m) = refl
+one_class x y (no_name o n) (a_word m) = absurd (m o)
+one_class x y (a_word n) (a_name k) = absurd (n (small_plain k.small).0)
+one_class x y (a_word n) (no_name o m) = absurd (n o)
+one_class x y (a_word n) (a_word m) = refl
 
 one-behind : {w : List ℕ} (x y : ℕ) → ClassedBehind w x → ClassedBehind w y → x ≡ y
 one-behind x y (a_type h) (a_type k) = refl
-one-behind x y (a_type h) (noType n) = absurd (n h)
-one-behind x y (noType n) (a_type k) = absurd (n k)
-one-behind x y (noType n) (noType m) = refl
+one-behind x y (a_type h) (no_type n) = absurd (n h)
+one-behind x y (no_type n) (a_type k) = absurd (n k)
+one-behind x y (no_type n) (no_type m) = refl
 
 -- a run from its first byte on
-run-here : (s : List ℕ) (at : ℕ) → at < length s → runByte (byte_at s at) ≡ true
-    → RunAt s at (past runByte at (drop at s))
+run-here : (s : List ℕ) (at : ℕ) → at < length s → run_byte (byte_at s at) ≡ true
+    → RunAt s at (past run_byte at (drop at s))
 run-here s at l e =
-    let b = run-between s at (omega arith) runByte in
+    let b = run-between s at (omega arith) run_byte in
     record {
-      some = run-strict s at runByte l e;
+      some = run-strict s at run_byte l e;
       inside = b.most;
-      run = (is_all RunByte runByte is-run-byte _).0 (past_all runByte s at);
-      longest = λ c h k. false-true (sym (past_next runByte s at c h) ∙ (is-run-byte c).1 k);
+      run = (is_all RunByte run_byte is-run-byte _).0 (past_all run_byte s at);
+      longest = λ c h k. false-true (sym (past_next run_byte s at c h) ∙ (is-run-byte c).1 k);
     }
 
 -- nothing is spelled with no byte
@@ -134,39 +134,39 @@ module _ (sorted : List ℕ → ℕ → ℕ) (Class : List ℕ → ℕ → Type 
 
     -- a run is the token of its class
     run-token : {end sort : ℕ} → RunAt s at end → Class (part s at end) sort
-        → dataTokenOn sorted s at ≡ token sort at end
-    unfolding dataTokenOn all
+        → data_token_on sorted s at ≡ token sort at end
+    unfolding data_token_on all
     run-token {end} {sort} r c =
         let b = byte_at s at in
         let i : at < length s = omega arith in
         let w = part s (at + 1) end in
         let e : part s at end ≡ b ∷ w = part-first s at end r.some r.inside in
-        let a : all runByte (part s at end) ≡ true = (is_all RunByte runByte is-run-byte (part s at end)).1 r.run in
-        let n : (c : ℕ) → StandsAt s end (c ∷ []) → runByte c ≡ false = λ c h. true-or-false (runByte c) (λ x. absurd (r.longest c h ((is-run-byte c).0 x))) (λ x. x) in
-        let p : past runByte at (drop at s) ≡ end = past_is runByte s at end (omega arith) r.inside a n in
-        let f : runByte b ≡ true = and_left (runByte b) (all runByte w) (rw e at a) in
+        let a : all run_byte (part s at end) ≡ true = (is_all RunByte run_byte is-run-byte (part s at end)).1 r.run in
+        let n : (c : ℕ) → StandsAt s end (c ∷ []) → run_byte c ≡ false = λ c h. true-or-false (run_byte c) (λ x. absurd (r.longest c h ((is-run-byte c).0 x))) (λ x. x) in
+        let p : past run_byte at (drop at s) ≡ end = past_is run_byte s at end (omega arith) r.inside a n in
+        let f : run_byte b ≡ true = and_left (run_byte b) (all run_byte w) (rw e at a) in
         let k : sorted (b ∷ w) b ≡ sort = (class b w sort).1 (rw e at c) in
         rw (lt-leb (length s) at i, f, p, e, k)
 
     -- a mark
-    mark-token : (b : ℕ) (rest : List ℕ) → drop at s ≡ b ∷ rest → runByte b ≡ false → eqb b (byte "\"") ≡ false
-        → dataTokenOn sorted s at ≡ spelled dataMarks at (b ∷ rest) (noToken at)
-    unfolding dataTokenOn
+    mark-token : (b : ℕ) (rest : List ℕ) → drop at s ≡ b ∷ rest → run_byte b ≡ false → eqb b (byte "\"") ≡ false
+        → data_token_on sorted s at ≡ spelled data_marks at (b ∷ rest) (no_token at)
+    unfolding data_token_on
     mark-token b rest h e f = rw (lt-leb (length s) at (first-inside s at b rest h), first_read s at b rest h, e, f, h)
 
     -- a mark or a string is the token of its sort
     spelled-read : {sort : ℕ} {w : List ℕ} → SpellsData sort w → (rest : List ℕ) → drop at s ≡ w ++ rest
-        → dataTokenOn sorted s at ≡ token sort at (at + length w)
-    unfolding dataTokenOn spelled starts_with runByte wordByte sortOf
+        → data_token_on sorted s at ≡ token sort at (at + length w)
+    unfolding data_token_on spelled starts_with run_byte word_byte sort_of
     spelled-read SpellsData.less rest h = mark-token _ rest h refl refl
     spelled-read SpellsData.greater rest h = mark-token _ rest h refl refl
     spelled-read SpellsData.equals rest h = mark-token _ rest h refl refl
-    spelled-read SpellsData.openRound rest h = mark-token _ rest h refl refl
-    spelled-read SpellsData.closeRound rest h = mark-token _ rest h refl refl
+    spelled-read SpellsData.open_round rest h = mark-token _ rest h refl refl
+    spelled-read SpellsData.close_round rest h = mark-token _ rest h refl refl
     spelled-read (SpellsData.string (SpellingRules.quoted {w = w} a)) rest h =
-        rw (lt-leb (length s) at (first-inside s at _ _ h), first_read s at _ _ h) (quoted-read s at w rest h ((is_all StringByte stringByte is-string-byte w).1 a))
+        rw (lt-leb (length s) at (first-inside s at _ _ h), first_read s at _ _ h) (quoted-read s at w rest h ((is_all StringByte string_byte is-string-byte w).1 a))
 
-    spelled-token : {sort end : ℕ} → SpelledAt SpellsData s at sort end → dataTokenOn sorted s at ≡ token sort at end
+    spelled-token : {sort end : ℕ} → SpelledAt SpellsData s at sort end → data_token_on sorted s at ≡ token sort at end
     spelled-token {sort} {end} x =
         let m = part_length s at end x.inside in
         let n = x.ordered in
@@ -177,8 +177,8 @@ module _ (sorted : List ℕ → ℕ → ℕ) (Class : List ℕ → ℕ → Type 
     long x = record { one = x; longest = λ other e y. let p = ap (λ (t : Token). t.end) (sym (spelled-token x) ∙ spelled-token y) in omega arith }
 
     -- where nothing is read, there is neither
-    unread : {from : ℕ} → Separates s from at → at < length s → dataTokenOn sorted s at ≡ noToken at
-        → NextDataIs Class s from (noToken at)
+    unread : {from : ℕ} → Separates s from at → at < length s → data_token_on sorted s at ≡ no_token at
+        → NextDataIs Class s from (no_token at)
     unread p l e =
         NextDataIs.none p l
         (λ end r. let q = ap (λ (t : Token). t.end) (sym e ∙ run-token r (run-class r)) in omega arith)
@@ -188,47 +188,47 @@ module _ (sorted : List ℕ → ℕ → ℕ) (Class : List ℕ → ℕ → Type 
         no-spelling (rw (q, z) at x.spelled))
 
     -- the relation says the token that the definition gives
-    next : {from : ℕ} → Separates s from at → NextDataIs Class s from (dataTokenOn sorted s at)
-    unfolding dataTokenOn
+    next : {from : ℕ} → Separates s from at → NextDataIs Class s from (data_token_on sorted s at)
+    unfolding data_token_on
     next {from} p =
-        let P : Token → Type 0 = λ u. dataTokenOn sorted s at ≡ u → NextDataIs Class s from u in
-        let end = past stringByte (at + 1) (drop (at + 1) s) in
+        let P : Token → Type 0 = λ u. data_token_on sorted s at ≡ u → NextDataIs Class s from u in
+        let end = past string_byte (at + 1) (drop (at + 1) s) in
         by_cond P (leb (length s) at) (λ e q. NextDataIs.ends p (leb-true _ _ e)) (λ e.
         let l : at < length s = leb-false _ _ e in
-        by_cond P (runByte (byte_at s at)) (λ f q. let r = run-here s at l f in NextDataIs.run p r (run-class r)) (λ f.
+        by_cond P (run_byte (byte_at s at)) (λ f q. let r = run-here s at l f in NextDataIs.run p r (run-class r)) (λ f.
         by_cond P (eqb (byte_at s at) (byte "\""))
         (λ g. by_cond P (eqb (byte_at s end) (byte "\""))
         (λ k q. NextDataIs.longest p (long (string-here SpellsData (λ w. SpellsData.string) s at l (eqb-true _ _ g) (eqb-true _ _ k))))
         (λ k q. unread p l q))
-        (λ g. spelled-cases SpellsData s at (omega arith) dataMarks (SpellsData.less, (SpellsData.greater, (SpellsData.equals, (SpellsData.openRound, (SpellsData.closeRound, tt))))) (noToken at) P
+        (λ g. spelled-cases SpellsData s at (omega arith) data_marks (SpellsData.less, (SpellsData.greater, (SpellsData.equals, (SpellsData.open_round, (SpellsData.close_round, tt))))) (no_token at) P
         (λ sort e x q. NextDataIs.longest p (long x)) (λ q. unread p l q)))) refl
 
   module _ (from : ℕ) where
     -- where neither is there, nothing is read
-    read_none : {t : Token} (at : ℕ) → tokenStart s from ≡ at → at < length s → ((end : ℕ) → ¬ RunAt s at end)
+    read_none : {t : Token} (at : ℕ) → token_start s from ≡ at → at < length s → ((end : ℕ) → ¬ RunAt s at end)
         → ((sort end : ℕ) → ¬ SpelledAt SpellsData s at sort end)
-        → NextDataIs Class s from t → t ≡ noToken at
+        → NextDataIs Class s from t → t ≡ no_token at
     read_none at e l n m (NextDataIs.ends {at = a} p h) = absurd (let f = (separated s from a).1 p in omega arith)
     read_none at e l n m (NextDataIs.run {at = a} {end = z} p r c) = absurd (n z (rw (sym ((separated s from a).1 p) ∙ e) at r))
     read_none at e l n m (NextDataIs.longest {at = a} {sort = k} {end = z} p x) = absurd (m k z (rw (sym ((separated s from a).1 p) ∙ e) at x.one))
-    read_none at e l n m (NextDataIs.none {at = a} p h i j) = ap noToken (sym ((separated s from a).1 p) ∙ e)
+    read_none at e l n m (NextDataIs.none {at = a} p h i j) = ap no_token (sym ((separated s from a).1 p) ∙ e)
 
     -- the token that the relation says is the one that the definition gives
-    token-of : {t : Token} → NextDataIs Class s from t → dataTokenOn sorted s (tokenStart s from) ≡ t
-    unfolding dataTokenOn
+    token-of : {t : Token} → NextDataIs Class s from t → data_token_on sorted s (token_start s from) ≡ t
+    unfolding data_token_on
     token-of (NextDataIs.ends {at = a} p h) = rw ((separated s from a).1 p, le-leb (length s) a h)
     token-of (NextDataIs.run {at = a} p r c) = rw ((separated s from a).1 p) (run-token a r c)
     token-of (NextDataIs.longest {at = a} p x) = rw ((separated s from a).1 p) (spelled-token a x.one)
     token-of (NextDataIs.none {at = a} p h i j) = let e = (separated s from a).1 p in rw e (read_none a e h i j (next a p))
 
-    pub token-on-is : (t : Token) → (dataTokenOn sorted s (tokenStart s from) ≡ t) ↔ NextDataIs Class s from t
-    token-on-is t = (λ e. subst (NextDataIs Class s from) e (next (tokenStart s from) ((separated s from _).0 refl)), token-of)
+    pub token-on-is : (t : Token) → (data_token_on sorted s (token_start s from) ≡ t) ↔ NextDataIs Class s from t
+    token-on-is t = (λ e. subst (NextDataIs Class s from) e (next (token_start s from) ((separated s from _).0 refl)), token-of)
 
 -- the next token, from a place on, and from a place behind `(` on
-pub data-token-is : (s : List ℕ) (from : ℕ) (t : Token) → (dataTokenAt s from ≡ t) ↔ NextDataIs Classed s from t
-unfolding dataTokenAt
-data-token-is s from t = token-on-is runSort Classed (λ b w. by_one (Classed (b ∷ w)) (runSort (b ∷ w) b) (classed b w) one_class) s from t
+pub data-token-is : (s : List ℕ) (from : ℕ) (t : Token) → (data_token_at s from ≡ t) ↔ NextDataIs Classed s from t
+unfolding data_token_at
+data-token-is s from t = token-on-is run_sort Classed (λ b w. by_one (Classed (b ∷ w)) (run_sort (b ∷ w) b) (classed b w) one_class) s from t
 
-pub type-token-is : (s : List ℕ) (from : ℕ) (t : Token) → (typeTokenAt s from ≡ t) ↔ NextDataIs ClassedBehind s from t
-unfolding typeTokenAt
-type-token-is s from t = token-on-is typeSort ClassedBehind (λ b w. by_one (ClassedBehind (b ∷ w)) (typeSort (b ∷ w) b) (classed-behind b w) one-behind) s from t
+pub type-token-is : (s : List ℕ) (from : ℕ) (t : Token) → (type_token_at s from ≡ t) ↔ NextDataIs ClassedBehind s from t
+unfolding type_token_at
+type-token-is s from t = token-on-is type_sort ClassedBehind (λ b w. by_one (ClassedBehind (b ∷ w)) (type_sort (b ∷ w) b) (classed-behind b w) one-behind) s from t

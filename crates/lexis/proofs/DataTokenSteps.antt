@@ -10,12 +10,12 @@ use lib.ListN.{length, take, drop, drop_of_length-le}
 use lib.Seq.{drop-drop, drop-nil, get_or-drop}
 use borrow.Author.Tests.{eq-eqb, ne_eqb, le-leb, lt-leb, not-true, not-false}
 use Rattle.lexis.specs.Text.{byte}
-use Rattle.lexis.specs.Bytes.{sortOf, is, small, capital, wordByte, runByte}
+use Rattle.lexis.specs.Bytes.{sort_of, is, small, capital, word_byte, run_byte}
 use Rattle.lexis.specs.Runs.{past, byte_at, part, all}
-use Rattle.lexis.specs.Spelling.{Literal, wordSort, keywords, booleans}
-use Rattle.lexis.specs.Tokens.{token, noToken, spelled, quoted, textEnd, typeName, name}
-use Rattle.lexis.specs.DataTokens.{dataMarks, nameSort, run, dataTokenOn, dataTokenAt, typeTokenAt}
-use Rattle.lexis.specs.contracts.Answers.{PlaceIs, WordEnds, TokenIs, runMark, sorting}
+use Rattle.lexis.specs.Spelling.{Literal, word_sort, keywords, booleans}
+use Rattle.lexis.specs.Tokens.{token, no_token, spelled, quoted, text_end, type_name, name}
+use Rattle.lexis.specs.DataTokens.{data_marks, name_sort, run, data_token_on, data_token_at, type_token_at}
+use Rattle.lexis.specs.Clauses.Answers.{PlaceIs, WordEnds, TokenIs, run_mark, sorting}
 use Rattle.lexis.specs.declared.Token.{Token}
 use Rattle.lexis.proofs.Places.{past-between, drop-in}
 use Rattle.lexis.proofs.ByteLaws.{run-word}
@@ -23,20 +23,20 @@ use Rattle.lexis.proofs.DataPlaces.{data-token-found, type-token-found}
 use Rattle.lexis.proofs.TokenSteps.{promised}
 
 -- a run that may be a NAME or a TYPE
-module _ (ls : List Literal) (w : List ℕ) (sort : ℕ) (whole : Bool) (p : whole ≡ all wordByte w) where
-  pub name-broken : not whole ≡ true → 1 ≡ nameSort ls sort w
+module _ (ls : List Literal) (w : List ℕ) (sort : ℕ) (whole : Bool) (p : whole ≡ all word_byte w) where
+  pub name-broken : not whole ≡ true → 1 ≡ name_sort ls sort w
   name-broken n = rw (← p, not-true whole n)
 
-  module _ (k : ℕ) (q : k ≡ wordSort ls w sort) (e : not whole ≡ false) where
-    pub name-spelled : (k ≡ sort → ⊥) → 1 ≡ nameSort ls sort w
+  module _ (k : ℕ) (q : k ≡ word_sort ls w sort) (e : not whole ≡ false) where
+    pub name-spelled : (k ≡ sort → ⊥) → 1 ≡ name_sort ls sort w
     name-spelled n = rw (← p, not-false whole e, ← q, ne_eqb k sort n)
 
-    pub name-is : k ≡ sort → sort ≡ nameSort ls sort w
+    pub name-is : k ≡ sort → sort ≡ name_sort ls sort w
     name-is m = rw (← p, not-false whole e, ← q, eq-eqb k sort m)
 
 -- a byte of words is one of runs
-word-runs : (b : ℕ) → wordByte b ≡ true → runByte b ≡ true
-word-runs b e = sym (run-word b (wordByte b) refl e)
+word-runs : (b : ℕ) → word_byte b ≡ true → run_byte b ≡ true
+word-runs b e = sym (run-word b (word_byte b) refl e)
 
 -- a run goes on behind another whose bytes it also has
 past-on : (f g : ℕ → Bool) → ((b : ℕ) → f b ≡ true → g b ≡ true) → (at : ℕ) (bs : List ℕ)
@@ -76,11 +76,11 @@ past-stops f z at (b ∷ bs) = by_byte (past-stops f z (at + 1) bs) (f b) refl
     by_byte ih false e = let n : at - at ≡ 0 = omega arith in rw (e, n) e
 
 -- the word at a place ends where it stops
-pub word-stops : (s : List ℕ) (at w : ℕ) → PlaceIs s at (past wordByte at (drop at s)) w → WordEnds s w
-unfolding wordByte sortOf
+pub word-stops : (s : List ℕ) (at w : ℕ) → PlaceIs s at (past word_byte at (drop at s)) w → WordEnds s w
+unfolding word_byte sort_of
 word-stops s at w p =
     let e : at + (w - at) ≡ w = omega (arith, p.low) in
-    record { inside = p.high; stops = rw (← p.is, get_or-drop at s, e) at (past-stops wordByte refl at (drop at s)) }
+    record { inside = p.high; stops = rw (← p.is, get_or-drop at s, e) at (past-stops word_byte refl at (drop at s)) }
 
 -- a run ends at a byte that it does not have
 pub run_ends : (g : ℕ → Bool) (s : List ℕ) (at : ℕ) → at ≤ length s → g (byte_at s at) ≡ false
@@ -93,40 +93,40 @@ run_ends g s at h e = record { is = by_place (dec_lt at (length s)); low = omega
     by_place (no l) = let n : length s ≤ at = omega arith in rw (drop_of_length-le s n)
 
 -- where a word ends, the run ends too, unless one of four bytes stands there
-pub end-here : (s : List ℕ) (at b : ℕ) → WordEnds s at → b ≡ byte_at s at → (r : Bool) → r ≡ runMark b → not r ≡ true
-    → PlaceIs s at (past runByte at (drop at s)) at
-unfolding runByte
-end-here s at b w u r q n = run_ends runByte s at w.inside (rw (w.stops, ← u, ← q, not-true r n))
+pub end-here : (s : List ℕ) (at b : ℕ) → WordEnds s at → b ≡ byte_at s at → (r : Bool) → r ≡ run_mark b → not r ≡ true
+    → PlaceIs s at (past run_byte at (drop at s)) at
+unfolding run_byte
+end-here s at b w u r q n = run_ends run_byte s at w.inside (rw (w.stops, ← u, ← q, not-true r n))
 
 -- a run is a word where the word at its place ends with it
 run-words : (at : ℕ) (bs : List ℕ)
-    → eqb (past wordByte at bs) (past runByte at bs) ≡ all wordByte (take (past runByte at bs - at) bs)
+    → eqb (past word_byte at bs) (past run_byte at bs) ≡ all word_byte (take (past run_byte at bs - at) bs)
 unfolding past all
 run-words at [] = let n : at - at ≡ 0 = omega arith in rw n (eq-eqb at at refl)
-run-words at (b ∷ bs) = by_byte (run-words (at + 1) bs) (wordByte b) refl (runByte b) refl
+run-words at (b ∷ bs) = by_byte (run-words (at + 1) bs) (word_byte b) refl (run_byte b) refl
   where
-    by_byte : eqb (past wordByte (at + 1) bs)
-        (past runByte (at + 1) bs) ≡ all wordByte (take (past runByte (at + 1) bs - (at + 1)) bs)
-        → (k : Bool) → wordByte b ≡ k → (r : Bool) → runByte b ≡ r
-        → eqb (past wordByte at (b ∷ bs)) (past runByte at (b ∷ bs))
-        ≡ all wordByte (take (past runByte at (b ∷ bs) - at) (b ∷ bs))
+    by_byte : eqb (past word_byte (at + 1) bs)
+        (past run_byte (at + 1) bs) ≡ all word_byte (take (past run_byte (at + 1) bs - (at + 1)) bs)
+        → (k : Bool) → word_byte b ≡ k → (r : Bool) → run_byte b ≡ r
+        → eqb (past word_byte at (b ∷ bs)) (past run_byte at (b ∷ bs))
+        ≡ all word_byte (take (past run_byte at (b ∷ bs) - at) (b ∷ bs))
     by_byte ih true e r f =
-        let l = (past-between runByte (at + 1) bs).least in
-        let n : past runByte (at + 1) bs - at ≡ suc (past runByte (at + 1) bs - (at + 1)) = omega arith in
+        let l = (past-between run_byte (at + 1) bs).least in
+        let n : past run_byte (at + 1) bs - at ≡ suc (past run_byte (at + 1) bs - (at + 1)) = omega arith in
         rw (word-runs b e, n, e) ih
     by_byte ih false e true f =
-        let l = (past-between runByte (at + 1) bs).least in
-        let n : past runByte (at + 1) bs - at ≡ suc (past runByte (at + 1) bs - (at + 1)) = omega arith in
-        rw (f, n, e) (ne_eqb at (past runByte (at + 1) bs) (λ k. omega arith))
+        let l = (past-between run_byte (at + 1) bs).least in
+        let n : past run_byte (at + 1) bs - at ≡ suc (past run_byte (at + 1) bs - (at + 1)) = omega arith in
+        rw (f, n, e) (ne_eqb at (past run_byte (at + 1) bs) (λ k. omega arith))
     by_byte ih false e false f = let n : at - at ≡ 0 = omega arith in rw (f, e, n) (eq-eqb at at refl)
 
 -- the end of the word at a place and the end of the run there
-module _ (s : List ℕ) (at w : ℕ) (p : PlaceIs s at (past wordByte at (drop at s)) w) where
-  module _ (end : ℕ) (q : PlaceIs s w (past runByte w (drop w s)) end) where
-    run_end : end ≡ past runByte at (drop at s)
-    run_end = q.is ∙ run_on wordByte runByte word-runs s at w p
+module _ (s : List ℕ) (at w : ℕ) (p : PlaceIs s at (past word_byte at (drop at s)) w) where
+  module _ (end : ℕ) (q : PlaceIs s w (past run_byte w (drop w s)) end) where
+    run_end : end ≡ past run_byte at (drop at s)
+    run_end = q.is ∙ run_on word_byte run_byte word-runs s at w p
 
-    pub run-whole : eqb w end ≡ all wordByte (part s at end)
+    pub run-whole : eqb w end ≡ all word_byte (part s at end)
     run-whole = rw (p.is, run_end) (run-words at (drop at s))
 
     pub run_is : (sorted : List ℕ → ℕ → ℕ) (k : ℕ) → k ≡ sorted (part s at end) (byte_at s at)
@@ -135,14 +135,14 @@ module _ (s : List ℕ) (at w : ℕ) (p : PlaceIs s at (past wordByte at (drop a
 
 -- the sort of a run
 module _ (behind : Bool) (w : List ℕ) (first : ℕ) (k : Bool) where
-  pub sorting-type : (r : ℕ) → k ≡ is capital first → behind ≡ true → k ≡ true → r ≡ nameSort booleans typeName w
+  pub sorting-type : (r : ℕ) → k ≡ is capital first → behind ≡ true → k ≡ true → r ≡ name_sort booleans type_name w
       → r ≡ sorting behind w first
   sorting-type r q b e p = rw (b, ← q, e) p
 
   pub sorting-none : k ≡ is capital first → behind ≡ true → k ≡ false → 1 ≡ sorting behind w first
   sorting-none q b e = rw (b, ← q, e)
 
-  pub sorting-name : (r : ℕ) → k ≡ is small first → behind ≡ false → k ≡ true → r ≡ nameSort keywords name w
+  pub sorting-name : (r : ℕ) → k ≡ is small first → behind ≡ false → k ≡ true → r ≡ name_sort keywords name w
       → r ≡ sorting behind w first
   sorting-name r q b e p = rw (b, ← q, e) p
 
@@ -151,28 +151,28 @@ module _ (behind : Bool) (w : List ℕ) (first : ℕ) (k : Bool) where
 
 -- the token that starts at a place
 module _ (sorted : List ℕ → ℕ → ℕ) (s : List ℕ) (at : ℕ) where
-  pub data-end : length s ≤ at → token textEnd at at ≡ dataTokenOn sorted s at
-  unfolding dataTokenOn
+  pub data-end : length s ≤ at → token text_end at at ≡ data_token_on sorted s at
+  unfolding data_token_on
   data-end h = rw (le-leb (length s) at h)
 
-  module _ (t : Token) (r : Bool) (h : at < length s) (q : r ≡ runByte (byte_at s at)) where
-    pub data-run : r ≡ true → t ≡ run sorted s at → t ≡ dataTokenOn sorted s at
-    unfolding dataTokenOn
+  module _ (t : Token) (r : Bool) (h : at < length s) (q : r ≡ run_byte (byte_at s at)) where
+    pub data-run : r ≡ true → t ≡ run sorted s at → t ≡ data_token_on sorted s at
+    unfolding data_token_on
     data-run e p = rw (lt-leb (length s) at h, ← q, e) p
 
-    pub data-string : r ≡ false → byte_at s at ≡ byte "\"" → t ≡ quoted s at → t ≡ dataTokenOn sorted s at
-    unfolding dataTokenOn
+    pub data-string : r ≡ false → byte_at s at ≡ byte "\"" → t ≡ quoted s at → t ≡ data_token_on sorted s at
+    unfolding data_token_on
     data-string e b p = rw (lt-leb (length s) at h, ← q, e, eq-eqb (byte_at s at) (byte "\"") b) p
 
-    pub data-mark : r ≡ false → (byte_at s at ≡ byte "\"" → ⊥) → t ≡ spelled dataMarks at (drop at s) (noToken at)
-        → t ≡ dataTokenOn sorted s at
-    unfolding dataTokenOn
+    pub data-mark : r ≡ false → (byte_at s at ≡ byte "\"" → ⊥) → t ≡ spelled data_marks at (drop at s) (no_token at)
+        → t ≡ data_token_on sorted s at
+    unfolding data_token_on
     data-mark e n p = rw (lt-leb (length s) at h, ← q, e, ne_eqb (byte_at s at) (byte "\"") n) p
 
 -- the next token
 module _ (s : List ℕ) (from : ℕ) (r : Token) (h : from ≤ length s) where
-  pub data-told : r ≡ dataTokenAt s from → TokenIs s from (dataTokenAt s from) r
-  data-told q = promised s from (dataTokenAt s from) r q (data-token-found s from h)
+  pub data-told : r ≡ data_token_at s from → TokenIs s from (data_token_at s from) r
+  data-told q = promised s from (data_token_at s from) r q (data-token-found s from h)
 
-  pub type-told : r ≡ typeTokenAt s from → TokenIs s from (typeTokenAt s from) r
-  type-told q = promised s from (typeTokenAt s from) r q (type-token-found s from h)
+  pub type-told : r ≡ type_token_at s from → TokenIs s from (type_token_at s from) r
+  type-told q = promised s from (type_token_at s from) r q (type-token-found s from h)

@@ -16,35 +16,35 @@ use Rattle.lexis.specs.Bytes
 use Rattle.lexis.specs.Runs.{past, all}
 use Rattle.lexis.specs.SpellingRules.{Digit, Small, Digits, All}
 use Rattle.lexis.specs.SpellingRules
-use Rattle.lexis.specs.Durations.{letterSlot, inEitherCase, letterBehind, digitSlot, fill, fillAll, behindTime, behindDate, slots_of, patternSlots}
-use Rattle.lexis.specs.DurationRules.{SlotsInOrder, SlotsBehindP, LetterAlone, letterAlone, DigitsAndLetter, SpellsPattern}
+use Rattle.lexis.specs.Durations.{letter_slot, in_either_case, letter_behind, digit_slot, fill, fill_all, behind_time, behind_date, slots_of, pattern_slots}
+use Rattle.lexis.specs.DurationRules.{SlotsInOrder, SlotsBehindP, LetterAlone, letter_alone, DigitsAndLetter, SpellsPattern}
 use Rattle.lexis.specs.DurationRules
 use Rattle.lexis.proofs.Cases.{and_left, and_right}
 use Rattle.lexis.proofs.TestLaws.{true-or-false, or_cases, or_left, or_right}
 use Rattle.lexis.proofs.RunLaws.{past-run}
 use Rattle.lexis.proofs.ByteRules.{is_digit, is_all, past-splits}
 use Rattle.lexis.proofs.NumeralLaws.{digits-all}
-use Rattle.lexis.proofs.SlotLaws.{Stop, ended, timeFollows, SlotsRead, slots-is}
+use Rattle.lexis.proofs.SlotLaws.{Stop, ended, time_follows, SlotsRead, slots-is}
 
 -- a slot of a pattern is its letter
-letter-took : (letter : ℕ) (bs : List ℕ) → letterSlot letter bs ≢ 0
-    → (v : List ℕ) × (rest : List ℕ) × (bs ≡ v ++ rest) × (letterSlot letter bs ≡ length v) × LetterAlone letter v
-unfolding letterSlot
+letter-took : (letter : ℕ) (bs : List ℕ) → letter_slot letter bs ≢ 0
+    → (v : List ℕ) × (rest : List ℕ) × (bs ≡ v ++ rest) × (letter_slot letter bs ≡ length v) × LetterAlone letter v
+unfolding letter_slot
 letter-took letter [] n = absurd (n refl)
 letter-took letter (b ∷ bs) n =
     true-or-false (eqb b letter)
-    (λ e. (letter ∷ [], bs, ap (λ c. c ∷ bs) (eqb-true b letter e), rw e refl, letterAlone))
+    (λ e. (letter ∷ [], bs, ap (λ c. c ∷ bs) (eqb-true b letter e), rw e refl, letter_alone))
     (λ e. absurd (n (rw e refl)))
 
 letter-there : (letter : ℕ) (v rest : List ℕ) → LetterAlone letter v
-    → (letterSlot letter (v ++ rest) ≡ length v) × (length v ≢ 0)
-unfolding letterSlot
-letter-there letter v rest letterAlone = (rw (eq-eqb letter letter refl) refl, λ z. omega arith)
+    → (letter_slot letter (v ++ rest) ≡ length v) × (length v ≢ 0)
+unfolding letter_slot
+letter-there letter v rest letter_alone = (rw (eq-eqb letter letter refl) refl, λ z. omega arith)
 
 letter-apart : (letter other : ℕ) (v rest : List ℕ) → eqb letter other ≡ false → LetterAlone other v
-    → letterSlot letter (v ++ rest) ≡ 0
-unfolding letterSlot
-letter-apart letter other v rest e letterAlone = rw (ne_eqb other letter (λ z. eqb-false letter other e (sym z))) refl
+    → letter_slot letter (v ++ rest) ≡ 0
+unfolding letter_slot
+letter-apart letter other v rest e letter_alone = rw (ne_eqb other letter (λ z. eqb-false letter other e (sym z))) refl
 
 -- small letters are neither T nor digits
 small-not-T : {b : ℕ} → Small b → b ≢ byte "T"
@@ -62,12 +62,12 @@ capital-no-digit {c} b s e = true-or-false (is Bytes.digit b) (λ f. absurd (apa
     apart : Small c → Digit b → ⊥
     apart (SpellingRules.small l h) (SpellingRules.digit m k) = omega arith
 
-letter-stops : (letter : ℕ) (rest : List ℕ) → Small letter → Stop rest → letterSlot letter rest ≡ 0
-unfolding letterSlot
+letter-stops : (letter : ℕ) (rest : List ℕ) → Small letter → Stop rest → letter_slot letter rest ≡ 0
+unfolding letter_slot
 letter-stops letter rest s ended = refl
-letter-stops letter rest s (timeFollows bs) = rw (ne_eqb (byte "T") letter (λ e. small-not-T s (sym e))) refl
+letter-stops letter rest s (time_follows bs) = rw (ne_eqb (byte "T") letter (λ e. small-not-T s (sym e))) refl
 
-letter-reads : SlotsRead letterSlot LetterAlone
+letter-reads : SlotsRead letter_slot LetterAlone
 letter-reads = record {
   took = letter-took;
   there = λ letter v rest s h. letter-there letter v rest h;
@@ -83,16 +83,16 @@ all_digits (b ∷ w) h l = one ((is_all Digit (is Bytes.digit) is_digit (b ∷ w
     one : All Digit (b ∷ w) → Digits (b ∷ w)
     one (SpellingRules.more d ds) = SpellingRules.digits d ds
 
-behind-took : (letter n : ℕ) (bs : List ℕ) → letterBehind n letter bs ≢ 0
-    → (b : ℕ) × (rest : List ℕ) × (bs ≡ b ∷ rest) × (letterBehind n letter bs ≡ n + 1) × (inEitherCase letter b ≡ true)
-unfolding letterBehind
+behind-took : (letter n : ℕ) (bs : List ℕ) → letter_behind n letter bs ≢ 0
+    → (b : ℕ) × (rest : List ℕ) × (bs ≡ b ∷ rest) × (letter_behind n letter bs ≡ n + 1) × (in_either_case letter b ≡ true)
+unfolding letter_behind
 behind-took letter n [] h = absurd (h refl)
 behind-took letter n (b ∷ bs) h =
-    true-or-false (inEitherCase letter b)
+    true-or-false (in_either_case letter b)
     (λ e. (b, bs, refl, rw e refl, e))
     (λ e. absurd (h (rw e refl)))
 
-either-case : (letter b : ℕ) (w : List ℕ) → Digits w → length w ≤ 4 → inEitherCase letter b ≡ true
+either-case : (letter b : ℕ) (w : List ℕ) → Digits w → length w ≤ 4 → in_either_case letter b ≡ true
     → DigitsAndLetter letter (w ++ (b ∷ []))
 either-case letter b w d l h =
     or_cases (eqb b letter) (eqb (b + 32) letter) h
@@ -101,13 +101,13 @@ either-case letter b w d l h =
 
 -- behind digits
 digits-split : (letter : ℕ) (run rest : List ℕ) → past (is Bytes.digit) 0 (run ++ rest) ≡ length run
-    → digitSlot letter (run ++ rest) ≡ cond (within 1 4 (length run)) (letterBehind (length run) letter rest) 0
-unfolding digitSlot
+    → digit_slot letter (run ++ rest) ≡ cond (within 1 4 (length run)) (letter_behind (length run) letter rest) 0
+unfolding digit_slot
 digits-split letter run rest e = rw (e, drop-append_seam) refl
 
 split-took : (letter : ℕ) (run rest : List ℕ) → past (is Bytes.digit) 0 (run ++ rest) ≡ length run
-    → all (is Bytes.digit) run ≡ true → digitSlot letter (run ++ rest) ≢ 0
-    → (v : List ℕ) × (more : List ℕ) × (run ++ rest ≡ v ++ more) × (digitSlot letter (run ++ rest) ≡ length v)
+    → all (is Bytes.digit) run ≡ true → digit_slot letter (run ++ rest) ≢ 0
+    → (v : List ℕ) × (more : List ℕ) × (run ++ rest ≡ v ++ more) × (digit_slot letter (run ++ rest) ≡ length v)
     × DigitsAndLetter letter v
 split-took letter run rest e a n =
     let d = digits-split letter run rest e in
@@ -115,8 +115,8 @@ split-took letter run rest e a n =
     (λ h. lettered h (d ∙ rw h refl))
     (λ h. absurd (n (d ∙ rw h refl)))
   where
-    lettered : within 1 4 (length run) ≡ true → digitSlot letter (run ++ rest) ≡ letterBehind (length run) letter rest
-        → (v : List ℕ) × (more : List ℕ) × (run ++ rest ≡ v ++ more) × (digitSlot letter (run ++ rest) ≡ length v)
+    lettered : within 1 4 (length run) ≡ true → digit_slot letter (run ++ rest) ≡ letter_behind (length run) letter rest
+        → (v : List ℕ) × (more : List ℕ) × (run ++ rest ≡ v ++ more) × (digit_slot letter (run ++ rest) ≡ length v)
         × DigitsAndLetter letter v
     lettered h g =
         let (b, more, r, size, c) = behind-took letter (length run) rest (λ z. n (g ∙ z)) in
@@ -129,8 +129,8 @@ split-took letter run rest e a n =
           either-case letter b run (all_digits run a low) high c,
         )
 
-digit-took : (letter : ℕ) (bs : List ℕ) → digitSlot letter bs ≢ 0
-    → (v : List ℕ) × (rest : List ℕ) × (bs ≡ v ++ rest) × (digitSlot letter bs ≡ length v) × DigitsAndLetter letter v
+digit-took : (letter : ℕ) (bs : List ℕ) → digit_slot letter bs ≢ 0
+    → (v : List ℕ) × (rest : List ℕ) × (bs ≡ v ++ rest) × (digit_slot letter bs ≡ length v) × DigitsAndLetter letter v
 digit-took letter bs n =
     let s = past-splits (is Bytes.digit) 0 bs in
     let e = s.end in
@@ -139,8 +139,8 @@ digit-took letter bs n =
 
 -- digits and a byte that is none
 at-letter : (letter b : ℕ) (w rest : List ℕ) → Digits w → length w ≤ 4 → is Bytes.digit b ≡ false
-    → digitSlot letter ((w ++ (b ∷ [])) ++ rest) ≡ cond (inEitherCase letter b) (length w + 1) 0
-unfolding letterBehind
+    → digit_slot letter ((w ++ (b ∷ [])) ++ rest) ≡ cond (in_either_case letter b) (length w + 1) 0
+unfolding letter_behind
 at-letter letter b w rest d l h =
     let e = past-run (is Bytes.digit) 0 w (b ∷ rest) (digits-all d) h in
     let z : 0 + length w ≡ length w = omega arith in
@@ -152,23 +152,23 @@ at-letter letter b w rest d l h =
     some (SpellingRules.digits f fs) = omega arith
 
 -- the letter in either case is no other letter in either case
-either-own : (letter : ℕ) → inEitherCase letter letter ≡ true
+either-own : (letter : ℕ) → in_either_case letter letter ≡ true
 either-own letter = or_left (eqb letter letter) (eqb (letter + 32) letter) (eq-eqb letter letter refl)
 
-either-capital : (letter b : ℕ) → b + 32 ≡ letter → inEitherCase letter b ≡ true
+either-capital : (letter b : ℕ) → b + 32 ≡ letter → in_either_case letter b ≡ true
 either-capital letter b e = or_right (eqb b letter) (eqb (b + 32) letter) (eq-eqb (b + 32) letter e)
 
-either-not : {letter other : ℕ} → Small letter → Small other → eqb letter other ≡ false → inEitherCase letter other ≡ false
+either-not : {letter other : ℕ} → Small letter → Small other → eqb letter other ≡ false → in_either_case letter other ≡ false
 either-not {letter} {other} (SpellingRules.small a b) (SpellingRules.small c d) e =
     rw (ne_eqb other letter (λ z. eqb-false letter other e (sym z)), ne_eqb (other + 32) letter (λ z. omega arith)) refl
 
 capital-not : {letter other : ℕ} (b : ℕ) → Small letter → Small other → eqb letter other ≡ false → b + 32 ≡ other
-    → inEitherCase letter b ≡ false
+    → in_either_case letter b ≡ false
 capital-not {letter} {other} b (SpellingRules.small i j) (SpellingRules.small c d) e k =
     rw (ne_eqb b letter (λ z. omega arith), ne_eqb (b + 32) letter (λ z. eqb-false letter other e (sym (sym k ∙ z)))) refl
 
 digit-there : (letter : ℕ) (v rest : List ℕ) → Small letter → DigitsAndLetter letter v
-    → (digitSlot letter (v ++ rest) ≡ length v) × (length v ≢ 0)
+    → (digit_slot letter (v ++ rest) ≡ length v) × (length v ≢ 0)
 digit-there letter v rest s (DurationRules.small {w = w} d l) =
     let e = length-append w (letter ∷ []) in
     (at-letter letter letter w rest d l (small-no-digit s) ∙ rw (either-own letter) (sym e), λ z. omega arith)
@@ -177,60 +177,60 @@ digit-there letter v rest s (DurationRules.capital {w = w} b d l c) =
     (at-letter letter b w rest d l (capital-no-digit b s c) ∙ rw (either-capital letter b c) (sym e), λ z. omega arith)
 
 digit-apart : (letter other : ℕ) (v rest : List ℕ) → Small letter → Small other → eqb letter other ≡ false
-    → DigitsAndLetter other v → digitSlot letter (v ++ rest) ≡ 0
+    → DigitsAndLetter other v → digit_slot letter (v ++ rest) ≡ 0
 digit-apart letter other v rest s t e (DurationRules.small {w = w} d l) =
     at-letter letter other w rest d l (small-no-digit t) ∙ rw (either-not s t e) refl
 digit-apart letter other v rest s t e (DurationRules.capital {w = w} b d l c) =
     at-letter letter b w rest d l (capital-no-digit b t c) ∙ rw (capital-not b s t e c) refl
 
-digit-stops : (letter : ℕ) (rest : List ℕ) → Small letter → Stop rest → digitSlot letter rest ≡ 0
-unfolding digitSlot past Bytes.sortOf
+digit-stops : (letter : ℕ) (rest : List ℕ) → Small letter → Stop rest → digit_slot letter rest ≡ 0
+unfolding digit_slot past Bytes.sort_of
 digit-stops letter rest s ended = refl
-digit-stops letter rest s (timeFollows bs) = refl
+digit-stops letter rest s (time_follows bs) = refl
 
-digit-reads : SlotsRead digitSlot DigitsAndLetter
+digit-reads : SlotsRead digit_slot DigitsAndLetter
 digit-reads = record { took = digit-took; there = digit-there; apart = digit-apart; stops = digit-stops }
 
 -- a pattern's flag, and the slots of a word
-pub pattern-is : (w : List ℕ) (f : ℕ) → f ≢ 0 → (patternSlots w ≡ f) ↔ SpellsPattern w f
-unfolding patternSlots
-pattern-is w f n = slots-is letterSlot LetterAlone letter-reads w f n
+pub pattern-is : (w : List ℕ) (f : ℕ) → f ≢ 0 → (pattern_slots w ≡ f) ↔ SpellsPattern w f
+unfolding pattern_slots
+pattern-is w f n = slots-is letter_slot LetterAlone letter-reads w f n
 
-pub word-slots-are : (w : List ℕ) (f : ℕ) → f ≢ 0 → (slots_of digitSlot w ≡ f) ↔ SlotsBehindP DigitsAndLetter w f
-word-slots-are w f n = slots-is digitSlot DigitsAndLetter digit-reads w f n
+pub word-slots-are : (w : List ℕ) (f : ℕ) → f ≢ 0 → (slots_of digit_slot w ≡ f) ↔ SlotsBehindP DigitsAndLetter w f
+word-slots-are w f n = slots-is digit_slot DigitsAndLetter digit-reads w f n
 
 -- the letters of a flag's bits, from the lowest on, and the pattern that they spell
-unfoldable pub lettersOf : List ℕ → ℕ → List ℕ
-lettersOf [] flag = []
-lettersOf (letter ∷ letters) flag =
-    let more = lettersOf letters (flag / 2) in cond (eqb (flag % 2) 1) (letter ∷ more) more
+unfoldable pub letters_of : List ℕ → ℕ → List ℕ
+letters_of [] flag = []
+letters_of (letter ∷ letters) flag =
+    let more = letters_of letters (flag / 2) in cond (eqb (flag % 2) 1) (letter ∷ more) more
 
-abbrev pub behindT : ℕ → List ℕ
-behindT flag = cond (eqb flag 0) [] (byte "T" ∷ lettersOf (bytes "hms") flag)
+abbrev pub behind_t : ℕ → List ℕ
+behind_t flag = cond (eqb flag 0) [] (byte "T" ∷ letters_of (bytes "hms") flag)
 
-unfoldable pub spelledPattern : ℕ → List ℕ
-spelledPattern flag = byte "P" ∷ (lettersOf (bytes "ymwd") (flag % 16) ++ behindT (flag / 16))
+unfoldable pub spelled_pattern : ℕ → List ℕ
+spelled_pattern flag = byte "P" ∷ (letters_of (bytes "ymwd") (flag % 16) ++ behind_t (flag / 16))
 
 -- all numbers from 1 up to n pass a test
-unfoldable allFrom1 : ℕ → (ℕ → Bool) → Bool
-allFrom1 zero test = true
-allFrom1 (suc n) test = test (suc n) && allFrom1 n test
+unfoldable all_from1 : ℕ → (ℕ → Bool) → Bool
+all_from1 zero test = true
+all_from1 (suc n) test = test (suc n) && all_from1 n test
 
-one_of : (n : ℕ) (test : ℕ → Bool) → allFrom1 n test ≡ true → (k : ℕ) → 1 ≤ k → k ≤ n → test k ≡ true
-unfolding allFrom1
+one_of : (n : ℕ) (test : ℕ → Bool) → all_from1 n test ≡ true → (k : ℕ) → 1 ≤ k → k ≤ n → test k ≡ true
+unfolding all_from1
 one_of zero test h k l m = absurd (omega arith)
 one_of (suc n) test h k l m =
     true-or-false (eqb k (suc n))
-    (λ e. rw (eqb-true k (suc n) e) (and_left (test (suc n)) (allFrom1 n test) h))
-    (λ e. let z = eqb-false k (suc n) e in one_of n test (and_right (test (suc n)) (allFrom1 n test) h) k l (omega arith))
+    (λ e. rw (eqb-true k (suc n) e) (and_left (test (suc n)) (all_from1 n test) h))
+    (λ e. let z = eqb-false k (suc n) e in one_of n test (and_right (test (suc n)) (all_from1 n test) h) k l (omega arith))
 
 -- every flag's pattern has that flag
-all_back : allFrom1 127 (λ flag. eqb (patternSlots (spelledPattern flag)) flag) ≡ true
-unfolding allFrom1 lettersOf spelledPattern letterSlot fill fillAll behindTime behindDate slots_of patternSlots
+all_back : all_from1 127 (λ flag. eqb (pattern_slots (spelled_pattern flag)) flag) ≡ true
+unfolding all_from1 letters_of spelled_pattern letter_slot fill fill_all behind_time behind_date slots_of pattern_slots
 all_back = refl
 
-pub pattern-back : (flag : ℕ) → 1 ≤ flag → flag ≤ 127 → patternSlots (spelledPattern flag) ≡ flag
-pattern-back flag l m = eqb-true _ _ (one_of 127 (λ k. eqb (patternSlots (spelledPattern k)) k) all_back flag l m)
+pub pattern-back : (flag : ℕ) → 1 ≤ flag → flag ≤ 127 → pattern_slots (spelled_pattern flag) ≡ flag
+pattern-back flag l m = eqb-true _ _ (one_of 127 (λ k. eqb (pattern_slots (spelled_pattern k)) k) all_back flag l m)
 
 bits-of-even : (bit k : ℕ) → bit * 2 * k ≡ bit * (k * 2)
 bits-of-even bit k = let a : 2 * k ≡ k * 2 = omega arith in mul_assoc bit 2 k ∙ ap (λ n. bit * n) a
@@ -249,23 +249,23 @@ flags_of (letter ∷ letters) = flags_of letters * 2
 
 -- slots that are letters are the letters of their bits
 lettered : {bit flag : ℕ} {letters w : List ℕ} → SlotsInOrder LetterAlone bit letters w flag
-    → (k : ℕ) × (flag ≡ bit * k) × (w ≡ lettersOf letters k) × (k < flags_of letters)
-unfolding lettersOf
+    → (k : ℕ) × (flag ≡ bit * k) × (w ≡ letters_of letters k) × (k < flags_of letters)
+unfolding letters_of
 lettered {bit = bit} DurationRules.none = (0, sym (mul-zero bit), refl, omega arith)
-lettered {bit = bit} (DurationRules.leftOut {letter = letter} {letters = letters} s) =
+lettered {bit = bit} (DurationRules.left_out {letter = letter} {letters = letters} s) =
     let (k, e, f, l) = lettered s in
     let a : k * 2 % 2 ≡ 0 = omega arith in
     let b : k * 2 / 2 ≡ k = omega arith in
     (k * 2, e ∙ bits-of-even bit k, rw (a, b) f, omega arith)
-lettered {bit = bit} (DurationRules.filled {letter = letter} letterAlone s) =
+lettered {bit = bit} (DurationRules.filled {letter = letter} letter_alone s) =
     let (k, e, f, l) = lettered s in
     let a : (k * 2 + 1) % 2 ≡ 1 = omega arith in
     let b : (k * 2 + 1) / 2 ≡ k = omega arith in
     (k * 2 + 1, ap (λ n. bit + n) e ∙ bits-of-odd bit k, rw (a, b) (ap (λ (l : List ℕ). letter ∷ l) f), omega arith)
 
 -- each flag has one pattern
-spelled-one : {w : List ℕ} {f : ℕ} → SpellsPattern w f → (f ≤ 127) × (w ≡ spelledPattern f)
-unfolding spelledPattern
+spelled-one : {w : List ℕ} {f : ℕ} → SpellsPattern w f → (f ≤ 127) × (w ≡ spelled_pattern f)
+unfolding spelled_pattern
 spelled-one (DurationRules.dates {w = w} {flag = flag} s n) =
     let (k, e, g, l) = lettered s in
     let f : flag ≡ k = omega arith in
@@ -279,5 +279,5 @@ spelled-one (DurationRules.times {w = w} {v = v} {date = date} {time = time} s t
     let b : (date + time) / 16 ≡ j = omega arith in
     (omega arith, rw (a, b, ne_eqb j 0 (λ z. n (omega arith)), ← g, ← h) refl)
 
-pub pattern-only : (w : List ℕ) (f : ℕ) → f ≢ 0 → patternSlots w ≡ f → (f ≤ 127) × (w ≡ spelledPattern f)
+pub pattern-only : (w : List ℕ) (f : ℕ) → f ≢ 0 → pattern_slots w ≡ f → (f ≤ 127) × (w ≡ spelled_pattern f)
 pattern-only w f n e = spelled-one ((pattern-is w f n).0 e)

@@ -11,8 +11,8 @@ use borrow.Author.Tests.{eq-eqb, ne_eqb, le-leb, lt-leb}
 use Rattle.lexis.specs.Text.{byte, bytes}
 use Rattle.lexis.specs.Bytes.{is, digit}
 use Rattle.lexis.specs.Runs.{past, byte_at}
-use Rattle.lexis.specs.Durations.{letterSlot, inEitherCase, letterBehind, digitSlot, filled, fill, fillAll, behindTime, behindDate, slots_of, patternSlots}
-use Rattle.lexis.specs.contracts.Answers.{PlaceIs, slot_by, SlotIs, filledAt, FillRoom, FillIs, FlagIs}
+use Rattle.lexis.specs.Durations.{letter_slot, in_either_case, letter_behind, digit_slot, filled, fill, fill_all, behind_time, behind_date, slots_of, pattern_slots}
+use Rattle.lexis.specs.Clauses.Answers.{PlaceIs, slot_by, SlotIs, filled_at, FillRoom, FillIs, FlagIs}
 use Rattle.lexis.specs.declared.durations.Slots.{Slots}
 use Rattle.lexis.proofs.Places.{drop-in}
 
@@ -21,25 +21,25 @@ nothing_left w at e = let l : length w ≤ at = omega arith in drop_of_length-le
 
 -- the letter in either case
 module _ (letter b : ℕ) where
-  pub case_same : b ≡ letter → true ≡ inEitherCase letter b
+  pub case_same : b ≡ letter → true ≡ in_either_case letter b
   case_same e = rw (eq-eqb b letter e)
 
-  pub case-other : (b ≡ letter → ⊥) → eqb (b + 32) letter ≡ inEitherCase letter b
+  pub case-other : (b ≡ letter → ⊥) → eqb (b + 32) letter ≡ in_either_case letter b
   case-other n = rw (ne_eqb b letter n)
 
 -- a slot of a pattern
 module _ (w : List ℕ) (at letter : ℕ) where
-  pub letter-none : at ≡ length w → SlotIs w at (letterSlot letter (drop at w)) 0
-  unfolding letterSlot
+  pub letter-none : at ≡ length w → SlotIs w at (letter_slot letter (drop at w)) 0
+  unfolding letter_slot
   letter-none e = record { is = rw (nothing_left w at e) refl; inside = omega arith }
 
   module _ (h : at ≤ length w) (n : at ≡ length w → ⊥) where
-    pub letter-here : byte_at w at ≡ letter → SlotIs w at (letterSlot letter (drop at w)) 1
-    unfolding letterSlot
+    pub letter-here : byte_at w at ≡ letter → SlotIs w at (letter_slot letter (drop at w)) 1
+    unfolding letter_slot
     letter-here e = record { is = rw (drop-in w at (omega arith), eq-eqb (byte_at w at) letter e) refl; inside = omega arith }
 
-    pub letter-other : (byte_at w at ≡ letter → ⊥) → SlotIs w at (letterSlot letter (drop at w)) 0
-    unfolding letterSlot
+    pub letter-other : (byte_at w at ≡ letter → ⊥) → SlotIs w at (letter_slot letter (drop at w)) 0
+    unfolding letter_slot
     letter-other e = record { is = rw (drop-in w at (omega arith), ne_eqb (byte_at w at) letter e) refl; inside = omega arith }
 
 -- a run counted from its start
@@ -68,33 +68,33 @@ module _ (w : List ℕ) (at letter end : ℕ) (p : PlaceIs w at (past (is digit)
   behind-digits : drop (end - at) (drop at w) ≡ drop end w
   behind-digits = let a : at + (end - at) ≡ end = let l = p.low in omega arith in rw (drop-drop, a)
 
-  pub digit-few : end - at < 1 → SlotIs w at (digitSlot letter (drop at w)) 0
-  unfolding digitSlot
+  pub digit-few : end - at < 1 → SlotIs w at (digit_slot letter (drop at w)) 0
+  unfolding digit_slot
   digit-few l = record { is = rw (digits_are, lt-leb 1 (end - at) l) refl; inside = let h = p.high in let k = p.low in omega arith }
 
-  pub digit-many : 4 < end - at → SlotIs w at (digitSlot letter (drop at w)) 0
-  unfolding digitSlot
+  pub digit-many : 4 < end - at → SlotIs w at (digit_slot letter (drop at w)) 0
+  unfolding digit_slot
   digit-many l = record { is = rw (digits_are, le-leb 1 (end - at) (omega arith), lt-leb (end - at) 4 l) refl; inside = let h = p.high in let k = p.low in omega arith }
 
   module _ (l : 1 ≤ end - at) (m : end - at ≤ 4) where
-    reached : digitSlot letter (drop at w) ≡ letterBehind (end - at) letter (drop end w)
-    unfolding digitSlot
+    reached : digit_slot letter (drop at w) ≡ letter_behind (end - at) letter (drop end w)
+    unfolding digit_slot
     reached = rw (digits_are, le-leb 1 (end - at) l, le-leb (end - at) 4 m, behind-digits) refl
 
-    pub digit-ended : end ≡ length w → SlotIs w at (digitSlot letter (drop at w)) 0
-    unfolding letterBehind
+    pub digit-ended : end ≡ length w → SlotIs w at (digit_slot letter (drop at w)) 0
+    unfolding letter_behind
     digit-ended e = record { is = rw (reached, nothing_left w end e) refl; inside = let h = p.high in let k = p.low in omega arith }
 
-    module _ (n : end ≡ length w → ⊥) (r : Bool) (q : r ≡ inEitherCase letter (byte_at w end)) where
-      pub digit-letter : r ≡ true → SlotIs w at (digitSlot letter (drop at w)) (end - at + 1)
-      unfolding letterBehind
+    module _ (n : end ≡ length w → ⊥) (r : Bool) (q : r ≡ in_either_case letter (byte_at w end)) where
+      pub digit-letter : r ≡ true → SlotIs w at (digit_slot letter (drop at w)) (end - at + 1)
+      unfolding letter_behind
       digit-letter e =
           let h = p.high in
           let k = p.low in
           record { is = rw (reached, drop-in w end (omega arith), ← q, e) refl; inside = omega arith }
 
-      pub digit-other : r ≡ false → SlotIs w at (digitSlot letter (drop at w)) 0
-      unfolding letterBehind
+      pub digit-other : r ≡ false → SlotIs w at (digit_slot letter (drop at w)) 0
+      unfolding letter_behind
       digit-other e =
           let h = p.high in
           let k = p.low in
@@ -102,22 +102,22 @@ module _ (w : List ℕ) (at letter end : ℕ) (p : PlaceIs w at (past (is digit)
 
 -- a slot of either sort
 module _ (w : List ℕ) (at letter n : ℕ) (digits : Bool) where
-  pub slot-digits : digits ≡ true → SlotIs w at (digitSlot letter (drop at w)) n
+  pub slot-digits : digits ≡ true → SlotIs w at (digit_slot letter (drop at w)) n
       → SlotIs w at (slot_by digits letter (drop at w)) n
   slot-digits e h = rw e h
 
-  pub slot-letter : digits ≡ false → SlotIs w at (letterSlot letter (drop at w)) n
+  pub slot-letter : digits ≡ false → SlotIs w at (letter_slot letter (drop at w)) n
       → SlotIs w at (slot_by digits letter (drop at w)) n
   slot-letter e h = rw e h
 
 -- one slot
 module _ (w : List ℕ) (x : Slots) (bit letter : ℕ) (digits : Bool) (size : ℕ)
     (q : SlotIs w x.at (slot_by digits letter (drop x.at w)) size) where
-  pub fill_none : size ≡ 0 → FillRoom w x bit → FillIs w (x.flag + bit) (fill (slot_by digits) bit letter (filledAt w x)) x
+  pub fill_none : size ≡ 0 → FillRoom w x bit → FillIs w (x.flag + bit) (fill (slot_by digits) bit letter (filled_at w x)) x
   unfolding fill
   fill_none e d = record { is = rw (← q.is, eq-eqb size 0 e) refl; inside = d.inside; few = omega arith }
 
-  pub fill-some : (size ≡ 0 → ⊥) → FillIs w (x.flag + bit) (fill (slot_by digits) bit letter (filledAt w x))
+  pub fill-some : (size ≡ 0 → ⊥) → FillIs w (x.flag + bit) (fill (slot_by digits) bit letter (filled_at w x))
       (record { flag = x.flag + bit; at = x.at + size })
   unfolding fill
   fill-some n = record { is = rw (← q.is, ne_eqb size 0 n, drop-drop) refl; inside = q.inside; few = omega arith }
@@ -126,27 +126,27 @@ module _ (w : List ℕ) (x : Slots) (bit letter : ℕ) (digits : Bool) (size : �
 module _ (w : List ℕ) (at : ℕ) (digits : Bool) (a b c : Slots) where
   pub dates-filled : (d : Slots)
       → FillIs w 1 (fill (slot_by digits) 1 (byte "y") (filled 0 (drop at w))) a
-      → FillIs w (a.flag + 2) (fill (slot_by digits) 2 (byte "m") (filledAt w a)) b
-      → FillIs w (b.flag + 4) (fill (slot_by digits) 4 (byte "w") (filledAt w b)) c
-      → FillIs w (c.flag + 8) (fill (slot_by digits) 8 (byte "d") (filledAt w c)) d
-      → FillIs w 15 (fillAll (slot_by digits) 1 (bytes "ymwd") (filled 0 (drop at w))) d
-  unfolding fillAll
+      → FillIs w (a.flag + 2) (fill (slot_by digits) 2 (byte "m") (filled_at w a)) b
+      → FillIs w (b.flag + 4) (fill (slot_by digits) 4 (byte "w") (filled_at w b)) c
+      → FillIs w (c.flag + 8) (fill (slot_by digits) 8 (byte "d") (filled_at w c)) d
+      → FillIs w 15 (fill_all (slot_by digits) 1 (bytes "ymwd") (filled 0 (drop at w))) d
+  unfolding fill_all
   dates-filled d f g h k =
       record { is = rw (← f.is, ← g.is, ← h.is) k.is; inside = k.inside; few = let i = f.few in let j = g.few in let l = h.few in let m = k.few in omega arith }
 
   pub times-filled : FillIs w 16 (fill (slot_by digits) 16 (byte "h") (filled 0 (drop at w))) a
-      → FillIs w (a.flag + 32) (fill (slot_by digits) 32 (byte "m") (filledAt w a)) b
-      → FillIs w (b.flag + 64) (fill (slot_by digits) 64 (byte "s") (filledAt w b)) c
-      → FillIs w 112 (fillAll (slot_by digits) 16 (bytes "hms") (filled 0 (drop at w))) c
-  unfolding fillAll
+      → FillIs w (a.flag + 32) (fill (slot_by digits) 32 (byte "m") (filled_at w a)) b
+      → FillIs w (b.flag + 64) (fill (slot_by digits) 64 (byte "s") (filled_at w b)) c
+      → FillIs w 112 (fill_all (slot_by digits) 16 (bytes "hms") (filled 0 (drop at w))) c
+  unfolding fill_all
   times-filled f g h =
       record { is = rw (← f.is, ← g.is) h.is; inside = h.inside; few = let i = f.few in let j = g.few in let l = h.few in omega arith }
 
 -- behind T
 module _ (w : List ℕ) (at flag : ℕ) (digits : Bool) (x : Slots)
-    (q : FillIs w 112 (fillAll (slot_by digits) 16 (bytes "hms") (filled 0 (drop at w))) x) where
-  pub time-left : x.at < length w → FlagIs (behindTime (slot_by digits) flag (drop at w)) 0
-  unfolding behindTime
+    (q : FillIs w 112 (fill_all (slot_by digits) 16 (bytes "hms") (filled 0 (drop at w))) x) where
+  pub time-left : x.at < length w → FlagIs (behind_time (slot_by digits) flag (drop at w)) 0
+  unfolding behind_time
   time-left l =
       let e = length-drop x.at w in
       record { is = rw (← q.is, ne_eqb (length (drop x.at w)) 0 (λ z. omega arith)) refl; few = omega arith }
@@ -155,12 +155,12 @@ module _ (w : List ℕ) (at flag : ℕ) (digits : Bool) (x : Slots)
     at-end : eqb (length (drop x.at w)) 0 ≡ true
     at-end = let e = length-drop x.at w in eq-eqb (length (drop x.at w)) 0 (omega arith)
 
-    pub time-none : x.flag < 1 → FlagIs (behindTime (slot_by digits) flag (drop at w)) 0
-    unfolding behindTime
+    pub time-none : x.flag < 1 → FlagIs (behind_time (slot_by digits) flag (drop at w)) 0
+    unfolding behind_time
     time-none k = record { is = rw (← q.is, at-end, lt-leb 1 x.flag k) refl; few = omega arith }
 
-    pub time-some : 1 ≤ x.flag → flag ≤ 15 → FlagIs (behindTime (slot_by digits) flag (drop at w)) (flag + x.flag)
-    unfolding behindTime
+    pub time-some : 1 ≤ x.flag → flag ≤ 15 → FlagIs (behind_time (slot_by digits) flag (drop at w)) (flag + x.flag)
+    unfolding behind_time
     time-some k f = record { is = rw (← q.is, at-end, le-leb 1 x.flag k) refl; few = let m = q.few in omega arith }
 
 -- P and slots
@@ -178,21 +178,21 @@ module _ (w : List ℕ) (digits : Bool) where
   slots-other n = record { is = rw (ne_eqb (byte_at w 0) (byte "P") n) refl; few = omega arith }
 
   module _ (x : Slots) (p : byte_at w 0 ≡ byte "P")
-      (q : FillIs w 15 (fillAll (slot_by digits) 1 (bytes "ymwd") (filled 0 (drop 1 w))) x) where
-    opened : slots_of (slot_by digits) w ≡ behindDate (slot_by digits) (filledAt w x)
+      (q : FillIs w 15 (fill_all (slot_by digits) 1 (bytes "ymwd") (filled 0 (drop 1 w))) x) where
+    opened : slots_of (slot_by digits) w ≡ behind_date (slot_by digits) (filled_at w x)
     unfolding slots_of
     opened = rw (eq-eqb (byte_at w 0) (byte "P") p, ← q.is) refl
 
     pub slots_end : x.at ≡ length w → FlagIs (slots_of (slot_by digits) w) x.flag
-    unfolding behindDate
+    unfolding behind_date
     slots_end e =
         let d = length-drop x.at w in
         record { is = rw (opened, eq-eqb (length (drop x.at w)) 0 (omega arith)) refl; few = let m = q.few in omega arith }
 
     module _ (n : x.at ≡ length w → ⊥) where
-      unended : behindDate (slot_by digits) (filledAt w x)
-          ≡ cond (eqb (byte_at w x.at) (byte "T")) (behindTime (slot_by digits) x.flag (drop (x.at + 1) w)) 0
-      unfolding behindDate
+      unended : behind_date (slot_by digits) (filled_at w x)
+          ≡ cond (eqb (byte_at w x.at) (byte "T")) (behind_time (slot_by digits) x.flag (drop (x.at + 1) w)) 0
+      unfolding behind_date
       unended =
           let d = length-drop x.at w in
           let i = q.inside in
@@ -202,11 +202,11 @@ module _ (w : List ℕ) (digits : Bool) where
       slots-not-time m = record { is = rw (opened, unended, ne_eqb (byte_at w x.at) (byte "T") m) refl; few = omega arith }
 
       pub slots-time : (r : ℕ) → byte_at w x.at ≡ byte "T"
-          → FlagIs (behindTime (slot_by digits) x.flag (drop (x.at + 1) w)) r
+          → FlagIs (behind_time (slot_by digits) x.flag (drop (x.at + 1) w)) r
           → FlagIs (slots_of (slot_by digits) w) r
       slots-time r e k = record { is = rw (opened, unended, eq-eqb (byte_at w x.at) (byte "T") e) k.is; few = k.few }
 
 -- without digits it is a pattern
-pub pattern-told : (w : List ℕ) (r : ℕ) → FlagIs (slots_of letterSlot w) r → FlagIs (patternSlots w) r
-unfolding patternSlots
+pub pattern-told : (w : List ℕ) (r : ℕ) → FlagIs (slots_of letter_slot w) r → FlagIs (pattern_slots w) r
+unfolding pattern_slots
 pattern-told w r h = h

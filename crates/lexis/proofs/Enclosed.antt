@@ -8,12 +8,12 @@ use native.Mathlib.Omega.{arith}
 use lib.Dec.{eqb, leb}
 use lib.ListN.{length, drop}
 use borrow.Author.Tests.{eqb-false, not-true}
-use Rattle.lexis.specs.Bytes.{is, digit, small, capital, mark, stringByte}
+use Rattle.lexis.specs.Bytes.{is, digit, small, capital, mark, string_byte}
 use Rattle.lexis.specs.Text.{byte}
 use Rattle.lexis.specs.Runs.{past, byte_at, same, shaped, starts_with}
-use Rattle.lexis.specs.Blanks.{tokenStart}
-use Rattle.lexis.specs.Spelling.{Literal, wordSort, markSpellings, keywords, elementSign, booleans, datePatternSpellings, timePatternSpellings, codeStart, dateShape}
-use Rattle.lexis.specs.Tokens.{noToken, spelled, codeEnd, tokenOn, tokenAt, typeName, name, string, code}
+use Rattle.lexis.specs.Blanks.{token_start}
+use Rattle.lexis.specs.Spelling.{Literal, word_sort, mark_spellings, keywords, element_sign, booleans, date_pattern_spellings, time_pattern_spellings, code_start, date_shape}
+use Rattle.lexis.specs.Tokens.{no_token, spelled, code_end, token_on, token_at, type_name, name, string, code}
 use Rattle.lexis.specs.declared.Token.{Token}
 use Rattle.lexis.proofs.Cases.{either, by_cond, and_left, and_right}
 use Rattle.lexis.proofs.Places.{past-between, code-between}
@@ -46,29 +46,29 @@ spelled-two [] at bs t o h = h
 spelled-two (l ∷ ls) at bs t o h = either Two (starts_with l.spelling bs) (λ e. absurd (other-first l ls o e)) (spelled-two ls at bs t (other-rest l ls o) h)
 
 word-other : (ls : List Literal) (w : List ℕ) (sort : ℕ) → others ls ≡ true → enclosed sort ≢ true
-    → enclosed (wordSort ls w sort) ≢ true
-unfolding wordSort
+    → enclosed (word_sort ls w sort) ≢ true
+unfolding word_sort
 word-other [] w sort o h = h
 word-other (l ∷ ls) w sort o h = either (λ x. enclosed x ≢ true) (same l.spelling w) (other-first l ls o) (word-other ls w sort (other-rest l ls o) h)
 
-on-two : (s : List ℕ) (at : ℕ) → Two (tokenOn s at)
-unfolding tokenOn others
+on-two : (s : List ℕ) (at : ℕ) → Two (token_on s at)
+unfolding token_on others
 on-two s at =
-    let b = past-between stringByte (at + 1) (drop (at + 1) s) in
-    let none : Two (noToken at) = λ e. absurd (false≢true e) in
+    let b = past-between string_byte (at + 1) (drop (at + 1) s) in
+    let none : Two (no_token at) = λ e. absurd (false≢true e) in
     either Two (leb (length s) at) (λ e. absurd (false≢true e))
-    (either Two (is capital (byte_at s at)) (spelled-two timePatternSpellings at (drop at s) _ refl (λ e. absurd (word-other booleans _ typeName refl false≢true e)))
-    (either Two (is small (byte_at s at)) (spelled-two datePatternSpellings at (drop at s) _ refl (λ e. absurd (word-other keywords _ name refl false≢true e)))
-    (either Two (is digit (byte_at s at)) (either Two (shaped dateShape (drop at s)) (λ e. absurd (false≢true e)) (λ e. absurd (false≢true e)))
+    (either Two (is capital (byte_at s at)) (spelled-two time_pattern_spellings at (drop at s) _ refl (λ e. absurd (word-other booleans _ type_name refl false≢true e)))
+    (either Two (is small (byte_at s at)) (spelled-two date_pattern_spellings at (drop at s) _ refl (λ e. absurd (word-other keywords _ name refl false≢true e)))
+    (either Two (is digit (byte_at s at)) (either Two (shaped date_shape (drop at s)) (λ e. absurd (false≢true e)) (λ e. absurd (false≢true e)))
     (either Two (is mark (byte_at s at))
-    (either Two (eqb (byte_at s at) (byte "-") && is digit (byte_at s (at + 1))) (λ e. absurd (false≢true e)) (spelled-two markSpellings at (drop at s) (noToken at) refl none))
-    (either Two (eqb (byte_at s at) (byte "\"")) (either Two (eqb (byte_at s (past stringByte (at + 1) (drop (at + 1) s))) (byte "\"")) (λ e. omega arith) none)
+    (either Two (eqb (byte_at s at) (byte "-") && is digit (byte_at s (at + 1))) (λ e. absurd (false≢true e)) (spelled-two mark_spellings at (drop at s) (no_token at) refl none))
+    (either Two (eqb (byte_at s at) (byte "\"")) (either Two (eqb (byte_at s (past string_byte (at + 1) (drop (at + 1) s))) (byte "\"")) (λ e. omega arith) none)
     (either Two (eqb (byte_at s at) (byte "["))
-    (either Two (starts_with codeStart (drop at s))
-    (by_cond Two (eqb (codeEnd false (at + 3) (drop (at + 3) s)) 0) (λ f. none) (λ f e. let k = code-between (drop (at + 3) s) false (at + 3) (eqb-false _ 0 f) in omega arith)) none)
-    (spelled-two elementSign at (drop at s) (noToken at) refl none)))))))
+    (either Two (starts_with code_start (drop at s))
+    (by_cond Two (eqb (code_end false (at + 3) (drop (at + 3) s)) 0) (λ f. none) (λ f e. let k = code-between (drop (at + 3) s) false (at + 3) (eqb-false _ 0 f) in omega arith)) none)
+    (spelled-two element_sign at (drop at s) (no_token at) refl none)))))))
 
-pub token-two : (s : List ℕ) (from : ℕ) → enclosed (tokenAt s from).sort ≡ true
-    → (tokenAt s from).start + 2 ≤ (tokenAt s from).end
-unfolding tokenAt
-token-two s from = on-two s (tokenStart s from)
+pub token-two : (s : List ℕ) (from : ℕ) → enclosed (token_at s from).sort ≡ true
+    → (token_at s from).start + 2 ≤ (token_at s from).end
+unfolding token_at
+token-two s from = on-two s (token_start s from)

@@ -9,10 +9,10 @@ use lib.Dec.{eqb}
 use lib.ListN.{length, take}
 use borrow.Author.Tests.{eqb-true}
 use Rattle.lexis.specs.Text.{byte, bytes}
-use Rattle.lexis.specs.Bytes.{is, sortOf, digit}
+use Rattle.lexis.specs.Bytes.{is, sort_of, digit}
 use Rattle.lexis.specs.Runs.{shaped, allows, all}
-use Rattle.lexis.specs.Spelling.{dateShape}
-use Rattle.lexis.specs.Tokens.{codeEnd}
+use Rattle.lexis.specs.Spelling.{date_shape}
+use Rattle.lexis.specs.Tokens.{code_end}
 use Rattle.lexis.specs.Tokens
 use Rattle.lexis.proofs.Cases.{and_left, and_right}
 use Rattle.lexis.proofs.ReadBack.{grouped}
@@ -30,7 +30,7 @@ digits-all (Digits.digits {b = b} {w = w} d a) = (is_all Digit (is digit) is_dig
 
 -- ten bytes of a date
 pub date-shape : {a b c d e f g h : ℕ} → All Digit (a ∷ b ∷ c ∷ d ∷ e ∷ f ∷ g ∷ h ∷ [])
-    → shaped dateShape (a ∷ b ∷ c ∷ d ∷ byte "-" ∷ e ∷ f ∷ byte "-" ∷ g ∷ h ∷ []) ≡ true
+    → shaped date_shape (a ∷ b ∷ c ∷ d ∷ byte "-" ∷ e ∷ f ∷ byte "-" ∷ g ∷ h ∷ []) ≡ true
 unfolding shaped
 date-shape {a} {b} {c} {d} {e} {f} {g} {h} (All.more p (All.more q (All.more r (All.more s (All.more t (All.more u (All.more v (All.more w All.none)))))))) =
     rw ((is_digit a).1 p, (is_digit b).1 q, (is_digit c).1 r, (is_digit d).1 s, (is_digit e).1 t, (is_digit f).1 u, (is_digit g).1 v, (is_digit h).1 w)
@@ -44,7 +44,7 @@ shape-first P n x xs [] h f = never h
 shape-first P n x xs (b ∷ bs) h f = f b bs (and_left (allows x b) (shaped xs bs) h) (and_right (allows x b) (shaped xs bs) h)
 
 -- ten bytes in the shape of a date
-pub date-spelled : (bs : List ℕ) → shaped dateShape bs ≡ true → Spells Tokens.date (take 10 bs)
+pub date-spelled : (bs : List ℕ) → shaped date_shape bs ≡ true → Spells Tokens.date (take 10 bs)
 date-spelled bs h =
     shape-first (Spells Tokens.date) 9 (byte "d") (bytes "ddd-dd-dd") bs h (λ a r p h.
     shape-first (λ l. Spells Tokens.date (a ∷ l)) 8 (byte "d") (bytes "dd-dd-dd") r h (λ b r q h.
@@ -72,7 +72,7 @@ digits-grouped (Digits.digits {b = b} {w = w} d a) = rw ((is_digit b).1 d) (all-
 
 grouped-on : (some : Bool) (w v : List ℕ) → grouped some w ≡ true → grouped false v ≡ true
     → grouped some (w ++ (byte "." ∷ v)) ≡ true
-unfolding grouped sortOf
+unfolding grouped sort_of
 grouped-on some [] v g k = rw g k
 grouped-on some (b ∷ w) v g k =
     let d = is digit b || eqb b (byte ".") && some in
@@ -108,7 +108,7 @@ state-dot true v e c = λ d h. rw (append_assoc v (byte "." ∷ []) (d ∷ [])) 
 state-dot false v e c = never e
 
 numbers-from : (some : Bool) (v w : List ℕ) → State some v → grouped some w ≡ true → CodeNumbers (v ++ w)
-unfolding grouped sortOf
+unfolding grouped sort_of
 numbers-from true v [] c g = rw (append-nil v) c
 numbers-from false v [] c g = never g
 numbers-from some v (b ∷ w) c g =
@@ -137,18 +137,18 @@ pub record CodeSplit (some : Bool) (at : ℕ) (bs : List ℕ) : Type 0 where
   pub run : List ℕ
   pub rest : List ℕ
   pub both : bs ≡ run ++ (byte "]" ∷ rest)
-  pub end : codeEnd some at bs ≡ at + length run + 1
+  pub end : code_end some at bs ≡ at + length run + 1
   pub pass : grouped some run ≡ true
 
 code-more : (some : Bool) (at b : ℕ) (bs : List ℕ) → (is digit b || eqb b (byte ".") && some) ≡ true
     → CodeSplit (is digit b) (at + 1) bs
     → CodeSplit some at (b ∷ bs)
-unfolding codeEnd grouped
+unfolding code_end grouped
 code-more some at b bs e m =
     record { run = b ∷ m.run; rest = m.rest; both = ap (λ l. b ∷ l) m.both; end = rw (e, m.end) (omega arith); pass = and_both _ _ e m.pass }
 
-pub code-split : (some : Bool) (at : ℕ) (bs : List ℕ) → codeEnd some at bs ≢ 0 → CodeSplit some at bs
-unfolding codeEnd grouped
+pub code-split : (some : Bool) (at : ℕ) (bs : List ℕ) → code_end some at bs ≢ 0 → CodeSplit some at bs
+unfolding code_end grouped
 code-split some at [] n = absurd (n refl)
 code-split some at (b ∷ bs) n =
     let z = eqb b (byte "]") in

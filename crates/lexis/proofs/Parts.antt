@@ -7,7 +7,7 @@ use lib.ListN.{length, length-take, length-drop}
 use lib.Seq.{take-add, drop-drop}
 use native.Mathlib.Decide.{dec_le}
 use Rattle.lexis.specs.Runs.{part}
-use Rattle.lexis.specs.contracts.Subsequence.{Sub, none, keep, pass}
+use Rattle.lexis.specs.Clauses.Subsequence.{Sub, none, keep, pass}
 
 -- the bytes of a part of the text are as many as its places say
 pub part_length : (s : List ℕ) (start end : ℕ) → end ≤ length s → length (part s start end) ≡ end - start

@@ -10,12 +10,12 @@ use lib.ListN.{length, drop, length-drop}
 use lib.Seq.{drop-cons}
 use native.Mathlib.Numerals.{add-one}
 use borrow.Author.Tests.{leb-false, eqb-true, eqb-false}
-use Rattle.lexis.specs.Bytes.{is, blank, lineEnd, digit, small, capital, mark, wordByte, stringByte}
+use Rattle.lexis.specs.Bytes.{is, blank, line_end, digit, small, capital, mark, word_byte, string_byte}
 use Rattle.lexis.specs.Runs.{past, byte_at, starts_with, shaped, allows}
-use Rattle.lexis.specs.Blanks.{skip, opensComment, tokenStart}
-use Rattle.lexis.specs.Spelling.{Literal, markSpellings, keywords, elementSign, booleans, datePatternSpellings, timePatternSpellings, codeStart, dateShape}
+use Rattle.lexis.specs.Blanks.{skip, opens_comment, token_start}
+use Rattle.lexis.specs.Spelling.{Literal, mark_spellings, keywords, element_sign, booleans, date_pattern_spellings, time_pattern_spellings, code_start, date_shape}
 use Rattle.lexis.specs.Text.{byte}
-use Rattle.lexis.specs.Tokens.{token, noToken, spelled, word, number, sign, quoted, codeEnd, bracket, special, tokenOn, tokenAt, textEnd, unreadable, typeName, name, integer, date, string, code}
+use Rattle.lexis.specs.Tokens.{token, no_token, spelled, word, number, sign, quoted, code_end, bracket, special, token_on, token_at, text_end, unreadable, type_name, name, integer, date, string, code}
 use Rattle.lexis.specs.declared.Token.{Token}
 use Rattle.lexis.proofs.Cases.{by_cond, and_right}
 
@@ -34,10 +34,10 @@ pub skip-between : (bs : List ℕ) (inside : Bool) (at : ℕ) → Between at (at
 unfolding skip
 skip-between [] true at = omega arith
 skip-between [] false at = omega arith
-skip-between (b ∷ bs) true at = let h = skip-between bs (not (lineEnd b)) (at + 1) in omega arith
+skip-between (b ∷ bs) true at = let h = skip-between bs (not (line_end b)) (at + 1) in omega arith
 skip-between (b ∷ bs) false at =
-    let h = skip-between bs (opensComment b bs) (at + 1) in
-    between-cond at (at + suc (length bs)) (is blank b || opensComment b bs) (skip (opensComment b bs) (at + 1) bs) at (omega arith) (omega arith)
+    let h = skip-between bs (opens_comment b bs) (at + 1) in
+    between-cond at (at + suc (length bs)) (is blank b || opens_comment b bs) (skip (opens_comment b bs) (at + 1) bs) at (omega arith) (omega arith)
 
 -- a run
 pub past-between : (test : ℕ → Bool) (at : ℕ) (bs : List ℕ) → Between at (at + length bs) (past test at bs)
@@ -49,7 +49,7 @@ past-between test at (b ∷ bs) =
 
 -- from a place of the text on
 module _ (s : List ℕ) (from : ℕ) (h : from ≤ length s) where
-  pub start_between : Between from (length s) (tokenStart s from)
+  pub start_between : Between from (length s) (token_start s from)
   start_between = let b = skip-between (drop from s) false from in let e = length-drop from s in omega arith
 
   pub run-between : (test : ℕ → Bool) → Between from (length s) (past test from (drop from s))
@@ -73,7 +73,7 @@ pub record Spans (s : List ℕ) (at : ℕ) (t : Token) : Type 0 where
   pub here : t.start ≡ at
   pub order : at ≤ t.end
   pub inside : t.end ≤ length s
-  pub strict : t.sort ≢ textEnd → t.sort ≢ unreadable → at < t.end
+  pub strict : t.sort ≢ text_end → t.sort ≢ unreadable → at < t.end
 
 -- no spelling of a list is empty
 abbrev pub Nonempty : List Literal → Type 0
@@ -86,10 +86,10 @@ module _ (s : List ℕ) (at : ℕ) where
   spans-cond true x y f g = f refl
   spans-cond false x y f g = g refl
 
-  pub none-spans : at ≤ length s → Spans s at (noToken at)
+  pub none-spans : at ≤ length s → Spans s at (no_token at)
   none-spans h = record { here = refl; order = omega arith; inside = h; strict = λ m n. absurd (n refl) }
 
-  pub end-spans : at ≤ length s → Spans s at (token textEnd at at)
+  pub end-spans : at ≤ length s → Spans s at (token text_end at at)
   end-spans h = record { here = refl; order = omega arith; inside = h; strict = λ m n. absurd (m refl) }
 
   -- a token that has a byte
@@ -124,18 +124,18 @@ run-strict s at test h e =
     let q : past test at (drop at s) ≡ past test (at + 1) (drop (at + 1) s) = rw (drop-in s at h, e) in
     omega arith
 
-pub capital-word : (b : ℕ) → is capital b ≡ true → wordByte b ≡ true
-unfolding wordByte
+pub capital-word : (b : ℕ) → is capital b ≡ true → word_byte b ≡ true
+unfolding word_byte
 capital-word b e = rw (e, or-true)
 
-pub small_word : (b : ℕ) → is small b ≡ true → wordByte b ≡ true
-unfolding wordByte
+pub small_word : (b : ℕ) → is small b ≡ true → word_byte b ≡ true
+unfolding word_byte
 small_word b e = rw e
 
 -- behind `[at`
-pub code-between : (bs : List ℕ) (some : Bool) (at : ℕ) → codeEnd some at bs ≢ 0
-    → (at < codeEnd some at bs) × (codeEnd some at bs ≤ at + length bs)
-unfolding codeEnd
+pub code-between : (bs : List ℕ) (some : Bool) (at : ℕ) → code_end some at bs ≢ 0
+    → (at < code_end some at bs) × (code_end some at bs ≤ at + length bs)
+unfolding code_end
 code-between [] some at = λ n. absurd (n refl)
 code-between (b ∷ bs) some at =
     by_cond (λ x. x ≢ 0 → (at < x) × (x ≤ at + suc (length bs))) (is digit b || eqb b (byte ".") && some)
@@ -143,16 +143,16 @@ code-between (b ∷ bs) some at =
     (λ e. by_cond (λ x. x ≢ 0 → (at < x) × (x ≤ at + suc (length bs))) (eqb b (byte "]") && some) (λ f n. omega arith) (λ f n. absurd (n refl)))
 
 module _ (s : List ℕ) (at : ℕ) (h : at < length s) where
-  word-spans : (ls : List Literal) (sort : ℕ) → wordByte (byte_at s at) ≡ true → Spans s at (word s ls sort at)
+  word-spans : (ls : List Literal) (sort : ℕ) → word_byte (byte_at s at) ≡ true → Spans s at (word s ls sort at)
   word-spans ls sort e =
-      let b = run-between s at (omega arith) wordByte in
-      to-spans s at _ (past wordByte at (drop at s)) (run-strict s at wordByte h e) b.most
+      let b = run-between s at (omega arith) word_byte in
+      to-spans s at _ (past word_byte at (drop at s)) (run-strict s at word_byte h e) b.most
 
   number-spans : is digit (byte_at s at) ≡ true → Spans s at (number s at)
   number-spans e =
       let b = run-between s at (omega arith) (is digit) in
-      spans-cond s at (shaped dateShape (drop at s)) _ _
-      (λ f. let g = shaped-long dateShape (drop at s) f in let d = length-drop at s in to-spans s at date (at + 10) (omega arith) (omega arith))
+      spans-cond s at (shaped date_shape (drop at s)) _ _
+      (λ f. let g = shaped-long date_shape (drop at s) f in let d = length-drop at s in to-spans s at date (at + 10) (omega arith) (omega arith))
       (λ f. to-spans s at integer _ (run-strict s at (is digit) h e) b.most)
 
   sign-spans : Spans s at (sign s at)
@@ -160,24 +160,24 @@ module _ (s : List ℕ) (at : ℕ) (h : at < length s) where
       let b = run-between s (at + 1) (omega arith) (is digit) in
       spans-cond s at (eqb (byte_at s at) (byte "-") && is digit (byte_at s (at + 1))) _ _
       (λ f. to-spans s at integer _ (omega arith) b.most)
-      (λ f. spelled-spans s at markSpellings (noToken at) (omega arith) (omega arith) (none-spans s at (omega arith)))
+      (λ f. spelled-spans s at mark_spellings (no_token at) (omega arith) (omega arith) (none-spans s at (omega arith)))
 
   pub quoted-spans : Spans s at (quoted s at)
   quoted-spans =
-      let b = run-between s (at + 1) (omega arith) stringByte in
-      spans-cond s at (eqb (byte_at s (past stringByte (at + 1) (drop (at + 1) s))) (byte "\"")) _ _
-      (λ f. let g = byte_inside s (past stringByte (at + 1) (drop (at + 1) s)) (byte "\"") (eqb-true _ _ f) (λ z. eqb-false (byte "\"") 0 refl z) in
+      let b = run-between s (at + 1) (omega arith) string_byte in
+      spans-cond s at (eqb (byte_at s (past string_byte (at + 1) (drop (at + 1) s))) (byte "\"")) _ _
+      (λ f. let g = byte_inside s (past string_byte (at + 1) (drop (at + 1) s)) (byte "\"") (eqb-true _ _ f) (λ z. eqb-false (byte "\"") 0 refl z) in
       to-spans s at string _ (omega arith) (omega arith))
       (λ f. none-spans s at (omega arith))
 
   bracket-spans : Spans s at (bracket s at)
   bracket-spans =
-      spans-cond s at (starts_with codeStart (drop at s)) _ _
+      spans-cond s at (starts_with code_start (drop at s)) _ _
       (λ e.
-      spans-cond s at (eqb (codeEnd false (at + 3) (drop (at + 3) s)) 0) _ _
+      spans-cond s at (eqb (code_end false (at + 3) (drop (at + 3) s)) 0) _ _
       (λ f. none-spans s at (omega arith))
       (λ f.
-      let g = starts-long codeStart (drop at s) e in
+      let g = starts-long code_start (drop at s) e in
       let d = length-drop at s in
       let c = length-drop (at + 3) s in
       let k = code-between (drop (at + 3) s) false (at + 3) (eqb-false _ 0 f) in
@@ -188,18 +188,18 @@ module _ (s : List ℕ) (at : ℕ) (h : at < length s) where
   special-spans =
       spans-cond s at (eqb (byte_at s at) (byte "\"")) _ _ (λ e. quoted-spans) (λ e.
       spans-cond s at (eqb (byte_at s at) (byte "[")) _ _ (λ f. bracket-spans) (λ f.
-      spelled-spans s at elementSign (noToken at) (omega arith) (omega arith) (none-spans s at (omega arith))))
+      spelled-spans s at element_sign (no_token at) (omega arith) (omega arith) (none-spans s at (omega arith))))
 
 -- the token that starts at a place of the text
-pub on-spans : (s : List ℕ) (at : ℕ) → at ≤ length s → Spans s at (tokenOn s at)
-unfolding tokenOn
+pub on-spans : (s : List ℕ) (at : ℕ) → at ≤ length s → Spans s at (token_on s at)
+unfolding token_on
 on-spans s at h =
     spans-cond s at (leb (length s) at) _ _ (λ e. end-spans s at h) (λ e.
     let l : at < length s = leb-false _ _ e in
     spans-cond s at (is capital (byte_at s at)) _ _
-    (λ f. spelled-spans s at timePatternSpellings _ h (omega arith) (word-spans s at l booleans typeName (capital-word _ f)))
+    (λ f. spelled-spans s at time_pattern_spellings _ h (omega arith) (word-spans s at l booleans type_name (capital-word _ f)))
     (λ f. spans-cond s at (is small (byte_at s at)) _ _
-    (λ g. spelled-spans s at datePatternSpellings _ h (omega arith) (word-spans s at l keywords name (small_word _ g)))
+    (λ g. spelled-spans s at date_pattern_spellings _ h (omega arith) (word-spans s at l keywords name (small_word _ g)))
     (λ g. spans-cond s at (is digit (byte_at s at)) _ _ (number-spans s at l)
     (λ k. spans-cond s at (is mark (byte_at s at)) _ _ (λ m. sign-spans s at l) (λ m. special-spans s at l)))))
 
@@ -208,15 +208,15 @@ pub record Found (s : List ℕ) (from : ℕ) (t : Token) : Type 0 where
   pub start : from ≤ t.start
   pub order : t.start ≤ t.end
   pub inside : t.end ≤ length s
-  pub strict : t.sort ≢ textEnd → t.sort ≢ unreadable → t.start < t.end
+  pub strict : t.sort ≢ text_end → t.sort ≢ unreadable → t.start < t.end
 
-pub found-by : (s : List ℕ) (from : ℕ) (t : Token) → from ≤ length s → Spans s (tokenStart s from) t → Found s from t
+pub found-by : (s : List ℕ) (from : ℕ) (t : Token) → from ≤ length s → Spans s (token_start s from) t → Found s from t
 found-by s from t h p =
     let b = start_between s from h in
     record { start = omega arith; order = omega arith; inside = p.inside; strict = λ m n. let k = p.strict m n in omega arith }
 
-pub token-found : (s : List ℕ) (from : ℕ) → from ≤ length s → Found s from (tokenAt s from)
-unfolding tokenAt
+pub token-found : (s : List ℕ) (from : ℕ) → from ≤ length s → Found s from (token_at s from)
+unfolding token_at
 token-found s from h =
     let b = start_between s from h in
-    found-by s from _ h (on-spans s (tokenStart s from) b.most)
+    found-by s from _ h (on-spans s (token_start s from) b.most)

@@ -10,10 +10,10 @@ use lib.ListN.{length, drop, length-drop, drop_of_length-le, get_or-eq_default}
 use lib.Seq.{get_or-drop}
 use borrow.Author.Tests.{eq-eqb, ne_eqb, not-true, not-false}
 use Rattle.lexis.specs.Text.{byte}
-use Rattle.lexis.specs.Bytes.{within, among, marks, sortOf, is, blank, digit, small, capital, mark, other, wordByte, stringByte, runByte, lineEnd}
+use Rattle.lexis.specs.Bytes.{within, among, marks, sort_of, is, blank, digit, small, capital, mark, other, word_byte, string_byte, run_byte, line_end}
 use Rattle.lexis.specs.Runs.{past, byte_at, same, starts_with, shaped, allows}
-use Rattle.lexis.specs.Blanks.{skip, opensComment, tokenStart}
-use Rattle.lexis.specs.contracts.Answers.{PlaceIs, test_of, commentOpen, tokenHere, admits, beginsBy}
+use Rattle.lexis.specs.Blanks.{skip, opens_comment, token_start}
+use Rattle.lexis.specs.Clauses.Answers.{PlaceIs, test_of, comment_open, token_here, admits, begins_by}
 use Rattle.lexis.specs.declared.runs.Class.{Class}
 use Rattle.lexis.specs.declared.runs.Class.TheVariants.{Digit, Word, Text, Run}
 use Rattle.lexis.proofs.Places.{drop-in}
@@ -48,16 +48,16 @@ module _ (test : ℕ → Bool) (s : List ℕ) (from x at : ℕ) (inv : InRun tes
 
 -- behind a byte of a text
 module _ (s : List ℕ) (at : ℕ) (inside : Bool) where
-  pub open-inside : (r : Bool) → inside ≡ true → r ≡ lineEnd (byte_at s at)
-      → not r ≡ commentOpen inside (byte_at s at) (drop (at + 1) s)
+  pub open-inside : (r : Bool) → inside ≡ true → r ≡ line_end (byte_at s at)
+      → not r ≡ comment_open inside (byte_at s at) (drop (at + 1) s)
   open-inside r i h = rw (i, h)
 
   pub open-other : inside ≡ false → (byte_at s at ≡ byte "-" → ⊥)
-      → false ≡ commentOpen inside (byte_at s at) (drop (at + 1) s)
+      → false ≡ comment_open inside (byte_at s at) (drop (at + 1) s)
   open-other i n = rw (i, ne_eqb (byte_at s at) (byte "-") n)
 
   pub open-two : (b : ℕ) → inside ≡ false → byte_at s at ≡ byte "-" → b ≡ byte_at s (at + 1)
-      → eqb b (byte "-") ≡ commentOpen inside (byte_at s at) (drop (at + 1) s)
+      → eqb b (byte "-") ≡ comment_open inside (byte_at s at) (drop (at + 1) s)
   open-two b i e q = rw (i, eq-eqb (byte_at s at) (byte "-") e, get_or-drop (at + 1) s 0 0, add-zero, ← q)
 
 skip-end : (inside : Bool) (at : ℕ) → skip inside at [] ≡ at
@@ -65,20 +65,20 @@ unfolding skip
 skip-end true at = refl
 skip-end false at = refl
 
-skip-here : (inside : Bool) (at b : ℕ) (bs : List ℕ) → tokenHere inside b bs ≡ true → skip inside at (b ∷ bs) ≡ at
+skip-here : (inside : Bool) (at b : ℕ) (bs : List ℕ) → token_here inside b bs ≡ true → skip inside at (b ∷ bs) ≡ at
 unfolding skip
 skip-here true at b bs h = absurd (false≢true h)
-skip-here false at b bs h = rw (not-true (is blank b || opensComment b bs) h)
+skip-here false at b bs h = rw (not-true (is blank b || opens_comment b bs) h)
 
-skip-more : (inside : Bool) (at b : ℕ) (bs : List ℕ) → tokenHere inside b bs ≡ false
-    → skip inside at (b ∷ bs) ≡ skip (commentOpen inside b bs) (at + 1) bs
+skip-more : (inside : Bool) (at b : ℕ) (bs : List ℕ) → token_here inside b bs ≡ false
+    → skip inside at (b ∷ bs) ≡ skip (comment_open inside b bs) (at + 1) bs
 unfolding skip
 skip-more true at b bs h = refl
-skip-more false at b bs h = rw (not-false (is blank b || opensComment b bs) h)
+skip-more false at b bs h = rw (not-false (is blank b || opens_comment b bs) h)
 
 -- no byte above `-` is a blank
 not-blank : (b : ℕ) → byte "-" < b → is blank b ≡ false
-unfolding sortOf
+unfolding sort_of
 not-blank b h =
     rw (ne_eqb b 32 (λ e. omega arith), ne_eqb b 9 (λ e. omega arith), ne_eqb b 13 (λ e. omega arith), ne_eqb b 10 (λ e. omega arith))
     (later (within (byte "0") (byte "9") b) (within (byte "a") (byte "z") b) (within (byte "A") (byte "Z") b) (among b marks))
@@ -92,16 +92,16 @@ not-blank b h =
 
 -- whether a token starts at a byte
 module _ (s : List ℕ) (at : ℕ) (inside : Bool) where
-  pub here-far : inside ≡ false → byte "-" < byte_at s at → true ≡ tokenHere inside (byte_at s at) (drop (at + 1) s)
+  pub here-far : inside ≡ false → byte "-" < byte_at s at → true ≡ token_here inside (byte_at s at) (drop (at + 1) s)
   here-far i h = rw (i, not-blank (byte_at s at) h, ne_eqb (byte_at s at) (byte "-") (λ e. omega arith))
 
   pub here-two : (b : ℕ) → inside ≡ false → byte_at s at ≡ byte "-" → b ≡ byte_at s (at + 1)
-      → not (eqb b (byte "-")) ≡ tokenHere inside (byte_at s at) (drop (at + 1) s)
-  unfolding sortOf
+      → not (eqb b (byte "-")) ≡ token_here inside (byte_at s at) (drop (at + 1) s)
+  unfolding sort_of
   here-two b i e q = rw (i, e, get_or-drop (at + 1) s 0 0, add-zero, ← q)
 
   pub here-other : (r : Bool) → inside ≡ false → (byte_at s at ≡ byte "-" → ⊥) → r ≡ is blank (byte_at s at)
-      → not r ≡ tokenHere inside (byte_at s at) (drop (at + 1) s)
+      → not r ≡ token_here inside (byte_at s at) (drop (at + 1) s)
   here-other r i n q = rw (i, ne_eqb (byte_at s at) (byte "-") n, q) (clear (is blank (byte_at s at)))
     where
       clear : (k : Bool) → not k ≡ not (k || false)
@@ -114,20 +114,20 @@ pub record InBlanks (s : List ℕ) (from x at : ℕ) (inside : Bool) : Type 0 wh
   pub high : at ≤ length s
   pub is : skip inside at (drop at s) ≡ x
 
-pub blanks-first : (s : List ℕ) (from : ℕ) → from ≤ length s → InBlanks s from (tokenStart s from) from false
+pub blanks-first : (s : List ℕ) (from : ℕ) → from ≤ length s → InBlanks s from (token_start s from) from false
 blanks-first s from h = record { low = omega arith; high = h; is = refl }
 
 module _ (s : List ℕ) (from x at : ℕ) (inside : Bool) (inv : InBlanks s from x at inside) where
   pub blanks-end : length s ≤ at → PlaceIs s from x at
   blanks-end h = record { is = sym (skip-end inside at) ∙ (rw (drop_of_length-le s h) at inv.is); low = inv.low; high = inv.high }
 
-  module _ (r : Bool) (h : at < length s) (t : r ≡ tokenHere inside (byte_at s at) (drop (at + 1) s)) where
+  module _ (r : Bool) (h : at < length s) (t : r ≡ token_here inside (byte_at s at) (drop (at + 1) s)) where
     pub blanks-out : r ≡ true → PlaceIs s from x at
     blanks-out e =
         let k = skip-here inside at (byte_at s at) (drop (at + 1) s) (sym t ∙ e) in
         record { is = sym k ∙ (rw (drop-in s at h) at inv.is); low = inv.low; high = inv.high }
 
-    pub blanks-on : (after : Bool) → r ≡ false → after ≡ commentOpen inside (byte_at s at) (drop (at + 1) s)
+    pub blanks-on : (after : Bool) → r ≡ false → after ≡ comment_open inside (byte_at s at) (drop (at + 1) s)
         → InBlanks s from x (at + 1) after
     blanks-on after e q =
         let k = skip-more inside at (byte_at s at) (drop (at + 1) s) (sym t ∙ e) in
@@ -148,34 +148,34 @@ and_none : (x y : Bool) → false ≡ y → false ≡ (x && y)
 and_none true y h = h
 and_none false y h = refl
 
-fewer : (f : ℕ → ℕ → Bool) (w bs : List ℕ) → length bs < length w → false ≡ beginsBy f w bs
-unfolding beginsBy
+fewer : (f : ℕ → ℕ → Bool) (w bs : List ℕ) → length bs < length w → false ≡ begins_by f w bs
+unfolding begins_by
 fewer f [] bs h = absurd (omega arith)
 fewer f (x ∷ w) [] h = refl
-fewer f (x ∷ w) (b ∷ bs) h = and_none (f x b) (beginsBy f w bs) (fewer f w bs (omega arith))
+fewer f (x ∷ w) (b ∷ bs) h = and_none (f x b) (begins_by f w bs) (fewer f w bs (omega arith))
 
 pub begins-short : (f : ℕ → ℕ → Bool) (w s : List ℕ) (at : ℕ) → length s - at < length w
-    → false ≡ beginsBy f w (drop at s)
+    → false ≡ begins_by f w (drop at s)
 begins-short f w s at h = fewer f w (drop at s) (simp length-drop h)
 
 -- in a word: what is left of it begins what is left of the text as the whole word begins the text
 pub record InWord (f : ℕ → ℕ → Bool) (w s : List ℕ) (at i : ℕ) (x : Bool) : Type 0 where
   pub high : i ≤ length w
   pub room : at + length w ≤ length s
-  pub is : beginsBy f (drop i w) (drop (at + i) s) ≡ x
+  pub is : begins_by f (drop i w) (drop (at + i) s) ≡ x
 
 pub word_first : (f : ℕ → ℕ → Bool) (w s : List ℕ) (at : ℕ) → at ≤ length s → length w ≤ length s - at
-    → InWord f w s at 0 (beginsBy f w (drop at s))
+    → InWord f w s at 0 (begins_by f w (drop at s))
 word_first f w s at h k = record { high = omega arith; room = omega arith; is = rw add-zero }
 
 module _ (f : ℕ → ℕ → Bool) (w s : List ℕ) (at i : ℕ) (x : Bool) (inv : InWord f w s at i x) where
   pub word_end : length w ≤ i → true ≡ x
-  unfolding beginsBy
+  unfolding begins_by
   word_end h = rw (drop_of_length-le w h) at inv.is
 
   module _ (r : Bool) (h : i < length w) (q : r ≡ f (byte_at w i) (byte_at s (at + i))) where
-    next : (beginsBy f (drop i w) (drop (at + i) s)) ≡ (r && beginsBy f (drop (i + 1) w) (drop (at + (i + 1)) s))
-    unfolding beginsBy
+    next : (begins_by f (drop i w) (drop (at + i) s)) ≡ (r && begins_by f (drop (i + 1) w) (drop (at + (i + 1)) s))
+    unfolding begins_by
     next =
         let k : at + i < length s = omega arith in
         let e : at + i + 1 ≡ at + (i + 1) = omega arith in
@@ -188,17 +188,17 @@ module _ (f : ℕ → ℕ → Bool) (w s : List ℕ) (at i : ℕ) (x : Bool) (in
     word_on e = record { high = omega arith; room = inv.room; is = rw (next, not-false r e) at inv.is }
 
 -- a spelling and a shape are two rules for one walk
-pub starts-begins : (w bs : List ℕ) (r : Bool) → r ≡ beginsBy eqb w bs → r ≡ starts_with w bs
-unfolding beginsBy starts_with
+pub starts-begins : (w bs : List ℕ) (r : Bool) → r ≡ begins_by eqb w bs → r ≡ starts_with w bs
+unfolding begins_by starts_with
 starts-begins [] bs r q = q
 starts-begins (x ∷ w) [] r q = q
-starts-begins (x ∷ w) (b ∷ bs) r q = q ∙ ap (λ k. eqb x b && k) (starts-begins w bs (beginsBy eqb w bs) refl)
+starts-begins (x ∷ w) (b ∷ bs) r q = q ∙ ap (λ k. eqb x b && k) (starts-begins w bs (begins_by eqb w bs) refl)
 
-pub shaped-begins : (w bs : List ℕ) (r : Bool) → r ≡ beginsBy allows w bs → r ≡ shaped w bs
-unfolding beginsBy shaped
+pub shaped-begins : (w bs : List ℕ) (r : Bool) → r ≡ begins_by allows w bs → r ≡ shaped w bs
+unfolding begins_by shaped
 shaped-begins [] bs r q = q
 shaped-begins (x ∷ w) [] r q = q
-shaped-begins (x ∷ w) (b ∷ bs) r q = q ∙ ap (λ k. allows x b && k) (shaped-begins w bs (beginsBy allows w bs) refl)
+shaped-begins (x ∷ w) (b ∷ bs) r q = q ∙ ap (λ k. allows x b && k) (shaped-begins w bs (begins_by allows w bs) refl)
 
 -- runs of two lengths differ
 pub same-long : (a b : List ℕ) → (length a ≡ length b → ⊥) → false ≡ same a b
@@ -238,11 +238,11 @@ module _ (k : Class) (b : ℕ) (r : Bool) where
   pub class-digit : k ≡ Digit → r ≡ is digit b → r ≡ test_of k b
   class-digit e q = rw e q
 
-  pub class-word : k ≡ Word → r ≡ wordByte b → r ≡ test_of k b
+  pub class-word : k ≡ Word → r ≡ word_byte b → r ≡ test_of k b
   class-word e q = rw e q
 
-  pub class-text : k ≡ Text → r ≡ stringByte b → r ≡ test_of k b
+  pub class-text : k ≡ Text → r ≡ string_byte b → r ≡ test_of k b
   class-text e q = rw e q
 
-  pub class-run : k ≡ Run → r ≡ runByte b → r ≡ test_of k b
+  pub class-run : k ≡ Run → r ≡ run_byte b → r ≡ test_of k b
   class-run e q = rw e q

@@ -10,8 +10,8 @@ use lib.ListN.{length, drop, length-drop, drop_of_length-le}
 use borrow.Author.Tests.{eqb-true, ne_eqb}
 use Rattle.lexis.specs.Runs.{StandsAt}
 use Rattle.lexis.specs.Text.{byte, bytes}
-use Rattle.lexis.specs.Bytes.{is, blank, lineEnd, sortOf}
-use Rattle.lexis.specs.Blanks.{skip, opensComment, tokenStart}
+use Rattle.lexis.specs.Bytes.{is, blank, line_end, sort_of}
+use Rattle.lexis.specs.Blanks.{skip, opens_comment, token_start}
 use Rattle.lexis.proofs.Cases.{and_left, and_right}
 use Rattle.lexis.proofs.RunLaws.{behind, first-inside}
 use Rattle.lexis.proofs.StartBack.{clear, start-here}
@@ -20,17 +20,17 @@ use Rattle.lexis.proofs.TestLaws.{true-or-false, false-true}
 use Rattle.lexis.proofs.ByteRules.{never, is-blank, is-line-end, stands-split, split-stands, cons-first}
 
 -- no blank opens a comment
-blank-no-comment : (b : ℕ) (bs : List ℕ) → Blank b → opensComment b bs ≡ false
-unfolding sortOf
+blank-no-comment : (b : ℕ) (bs : List ℕ) → Blank b → opens_comment b bs ≡ false
+unfolding sort_of
 blank-no-comment b bs h = rw (ne_eqb b (byte "-") (λ q. false-true ((is-blank (byte "-")).1 (subst Blank q h))))
 
 -- `-` ends no line
 minus-in-line : ¬ LineEnd (byte "-")
-unfolding lineEnd
+unfolding line_end
 minus-in-line h = false-true ((is-line-end (byte "-")).1 h)
 
 -- bytes that open a comment are `--`
-opened : (b : ℕ) (bs : List ℕ) → opensComment b bs ≡ true → (rest : List ℕ) × (b ∷ bs ≡ bytes "--" ++ rest)
+opened : (b : ℕ) (bs : List ℕ) → opens_comment b bs ≡ true → (rest : List ℕ) × (b ∷ bs ≡ bytes "--" ++ rest)
 opened b [] h = never (and_right (eqb b (byte "-")) false h)
 opened b (c ∷ bs) h =
     let p = eqb-true b (byte "-") (and_left (eqb b (byte "-")) (eqb c (byte "-")) h) in
@@ -40,10 +40,10 @@ opened b (c ∷ bs) h =
 -- a comment that a byte goes on in goes on behind that byte
 comment-on : {s : List ℕ} {from over b : ℕ} → CommentTo s from over → StandsAt s from (b ∷ []) → ¬ LineEnd b
     → CommentTo s (from + 1) over
-comment-on {s} {from} {b = b} (CommentTo.textEnds l) h n =
+comment-on {s} {from} {b = b} (CommentTo.text_ends l) h n =
     let k = first-inside s from b _ (stands-split s from (b ∷ []) h) in
     absurd (omega arith)
-comment-on (CommentTo.lineEnds g e) h n = absurd (n (subst LineEnd (cons-first (sym g ∙ h)) e))
+comment-on (CommentTo.line_ends g e) h n = absurd (n (subst LineEnd (cons-first (sym g ∙ h)) e))
 comment-on (CommentTo.onward g m c) h n = c
 
 -- neither of two tests passes
@@ -59,7 +59,7 @@ Passed true s from to = (over : ℕ) × CommentTo s from over × Separates s ove
 
 -- neither a blank nor a comment starts at a clear place
 nothing-at : (s : List ℕ) (from : ℕ) → clear (drop from s) ≡ true → Separates s from from
-unfolding clear sortOf
+unfolding clear sort_of
 nothing-at s from c = Separates.nothing no-blank no-comment
   where
     no-blank : (b : ℕ) → StandsAt s from (b ∷ []) → ¬ Blank b
@@ -75,15 +75,15 @@ unfolding skip clear
 passed [] true s from h =
     let l = length-drop from s in
     let n = ap length h in
-    (from, CommentTo.textEnds {from = from} (omega arith), nothing-at s from (rw h))
+    (from, CommentTo.text_ends {from = from} (omega arith), nothing-at s from (rw h))
 passed [] false s from h = nothing-at s from (rw h)
 passed (b ∷ bs) true s from h =
     let g = split-stands s from (b ∷ []) bs h in
     let t = behind s from (b ∷ []) bs h in
     let m = passed bs true s (from + 1) t in
     let n = passed bs false s (from + 1) t in
-    true-or-false (lineEnd b)
-    (λ e. let k = (is-line-end b).0 e in rw e (from, CommentTo.lineEnds g k, Separates.blank g (Blank.lineEnd k) n))
+    true-or-false (line_end b)
+    (λ e. let k = (is-line-end b).0 e in rw e (from, CommentTo.line_ends g k, Separates.blank g (Blank.line_end k) n))
     (λ e. rw e (m.0, CommentTo.onward g (λ k. false-true (sym e ∙ (is-line-end b).1 k)) m.1, m.2))
 passed (b ∷ bs) false s from h =
     let g = split-stands s from (b ∷ []) bs h in
@@ -92,7 +92,7 @@ passed (b ∷ bs) false s from h =
     let n = passed bs false s (from + 1) t in
     true-or-false (is blank b)
     (λ e. let k = (is-blank b).0 e in rw (e, blank-no-comment b bs k) (Separates.blank g k n))
-    (λ e. true-or-false (opensComment b bs)
+    (λ e. true-or-false (opens_comment b bs)
     (λ f. rw (e, f) (comment (opened b bs f) m))
     (λ f. rw (e, f) (nothing-at s from (rw (h, e, f)))))
   where
@@ -111,22 +111,22 @@ skip-line-end at b bs h = ap (λ x. skip (not x) (at + 1) bs) ((is-line-end b).1
 
 skip-on : (at b : ℕ) (bs : List ℕ) → ¬ LineEnd b → skip true at (b ∷ bs) ≡ skip true (at + 1) bs
 unfolding skip
-skip-on at b bs h = ap (λ x. skip (not x) (at + 1) bs) (true-or-false (lineEnd b) (λ e. absurd (h ((is-line-end b).0 e))) (λ e. e))
+skip-on at b bs h = ap (λ x. skip (not x) (at + 1) bs) (true-or-false (line_end b) (λ e. absurd (h ((is-line-end b).0 e))) (λ e. e))
 
 skip-blank : (at b : ℕ) (bs : List ℕ) → Blank b → skip false at (b ∷ bs) ≡ skip false (at + 1) bs
 unfolding skip
 skip-blank at b bs h = rw ((is-blank b).1 h, blank-no-comment b bs h)
 
 skip-minus : (at : ℕ) (bs : List ℕ) → skip false at (bytes "--" ++ bs) ≡ skip true (at + 2) bs
-unfolding skip lineEnd sortOf
+unfolding skip line_end sort_of
 skip-minus at bs = let e : at + 1 + 1 ≡ at + 2 = omega arith in rw (← e)
 
 -- a comment's bytes are skipped, up to where it ends
-comment-skip : {s : List ℕ} {from over : ℕ} → CommentTo s from over → skip true from (drop from s) ≡ tokenStart s over
+comment-skip : {s : List ℕ} {from over : ℕ} → CommentTo s from over → skip true from (drop from s) ≡ token_start s over
 unfolding skip
-comment-skip {s} (CommentTo.textEnds l) = rw (drop_of_length-le s l)
-comment-skip {s} {from} (CommentTo.lineEnds {b = b} g e) =
-    rw (stands-split s from (b ∷ []) g) (skip-line-end from b (drop (from + 1) s) e ∙ sym (skip-blank from b (drop (from + 1) s) (Blank.lineEnd e)))
+comment-skip {s} (CommentTo.text_ends l) = rw (drop_of_length-le s l)
+comment-skip {s} {from} (CommentTo.line_ends {b = b} g e) =
+    rw (stands-split s from (b ∷ []) g) (skip-line-end from b (drop (from + 1) s) e ∙ sym (skip-blank from b (drop (from + 1) s) (Blank.line_end e)))
 comment-skip {s} {from} (CommentTo.onward {b = b} g m c) =
     rw (stands-split s from (b ∷ []) g) (skip-on from b (drop (from + 1) s) m ∙ comment-skip c)
 
@@ -137,17 +137,17 @@ clear-here : (s : List ℕ) (from : ℕ) (bs : List ℕ) → drop from s ≡ bs 
 unfolding clear
 clear-here s from [] h n m = refl
 clear-here s from (b ∷ bs) h n m =
-    not-or (is blank b) (opensComment b bs)
+    not-or (is blank b) (opens_comment b bs)
     (λ e. n b (split-stands s from (b ∷ []) bs h) ((is-blank b).0 e))
     (λ e. let r = opened b bs e in m (split-stands s from (bytes "--") r.0 (h ∙ r.1)))
 
 -- what separates is skipped
-skipped : {s : List ℕ} {from at : ℕ} → Separates s from at → tokenStart s from ≡ at
+skipped : {s : List ℕ} {from at : ℕ} → Separates s from at → token_start s from ≡ at
 skipped {s} {from} (Separates.nothing n m) = start-here s from (clear-here s from (drop from s) refl n m)
 skipped {s} {from} (Separates.blank {b = b} g k t) = rw (stands-split s from (b ∷ []) g) (skip-blank from b (drop (from + 1) s) k ∙ skipped t)
 skipped {s} {from} (Separates.comment g c t) =
     rw (stands-split s from (bytes "--") g) (skip-minus from (drop (from + 2) s) ∙ comment-skip c ∙ skipped t)
 
 -- the next token starts behind the blanks and comments
-pub separated : (s : List ℕ) (from at : ℕ) → (tokenStart s from ≡ at) ↔ Separates s from at
+pub separated : (s : List ℕ) (from at : ℕ) → (token_start s from ≡ at) ↔ Separates s from at
 separated s from at = (λ e. rw e at (passed (drop from s) false s from refl), skipped)

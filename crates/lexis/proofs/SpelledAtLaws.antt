@@ -8,7 +8,7 @@ use lib.Dec.{eqb}
 use lib.ListN.{length, drop, length-append, length-drop}
 use borrow.Author.Tests.{eqb-true}
 use Rattle.lexis.specs.Text.{byte, bytes}
-use Rattle.lexis.specs.Bytes.{stringByte}
+use Rattle.lexis.specs.Bytes.{string_byte}
 use Rattle.lexis.specs.Runs.{past, byte_at, part, all, starts_with}
 use Rattle.lexis.specs.Spelling.{Literal}
 use Rattle.lexis.specs.Tokens.{token, spelled}
@@ -71,7 +71,7 @@ part-first s at end h k =
 module _ (Spelled : ℕ → List ℕ → Type 0) (string : (w : List ℕ) → Quoted w → Spelled Tokens.string w)
     (s : List ℕ) (at : ℕ) (l : at < length s) where
   -- a string from its first quote on, where the second stands
-  string-at : (w rest : List ℕ) → drop (at + 1) s ≡ w ++ rest → all stringByte w ≡ true → byte_at s at ≡ byte "\""
+  string-at : (w rest : List ℕ) → drop (at + 1) s ≡ w ++ rest → all string_byte w ≡ true → byte_at s at ≡ byte "\""
       → byte_at s (at + 1 + length w) ≡ byte "\"" → SpelledAt Spelled s at Tokens.string (at + 1 + length w + 1)
   string-at w [] h a e f = absurd (let n = next-read s (at + 1) w [] h in omega arith)
   string-at w (c ∷ rest) h a e f =
@@ -80,10 +80,10 @@ module _ (Spelled : ℕ → List ℕ → Type 0) (string : (w : List ℕ) → Qu
       let whole : drop at s ≡ (q ∷ (w ++ bytes "\"")) ++ rest = drop-in s at l ∙ rw (e, h, g, append_assoc) in
       let n = length-append w (bytes "\"") in
       let m : at + 1 + length w + 1 ≡ at + length (q ∷ (w ++ bytes "\"")) = omega arith in
-      rw m (spelled_at Spelled s at Tokens.string _ rest (omega arith) whole (string _ (quoted ((is_all StringByte stringByte is-string-byte w).0 a))))
+      rw m (spelled_at Spelled s at Tokens.string _ rest (omega arith) whole (string _ (quoted ((is_all StringByte string_byte is-string-byte w).0 a))))
 
-  pub string-here : byte_at s at ≡ byte "\"" → byte_at s (past stringByte (at + 1) (drop (at + 1) s)) ≡ byte "\""
-      → SpelledAt Spelled s at Tokens.string (past stringByte (at + 1) (drop (at + 1) s) + 1)
+  pub string-here : byte_at s at ≡ byte "\"" → byte_at s (past string_byte (at + 1) (drop (at + 1) s)) ≡ byte "\""
+      → SpelledAt Spelled s at Tokens.string (past string_byte (at + 1) (drop (at + 1) s) + 1)
   string-here e f =
-      let m = past-splits stringByte (at + 1) (drop (at + 1) s) in
+      let m = past-splits string_byte (at + 1) (drop (at + 1) s) in
       rw m.end (string-at m.run m.rest m.both m.pass e (rw m.end at f))

@@ -1,4 +1,4 @@
--- What is spelled in one way reads back as its own sort: markSpellings, the sign ∈, patterns. Assumes nothing.
+-- What is spelled in one way reads back as its own sort: mark_spellings, the sign ∈, patterns. Assumes nothing.
 use mathlib.Core.Path.{◌≡◌, refl, sym, ◌∙◌}
 use mathlib.Core.Bool.{Bool, true, false, cond, not, ◌&&◌, ◌||◌, false≢true}
 use mathlib.Core.List.{List, [], ◌∷◌, ◌++◌}
@@ -8,10 +8,10 @@ use lib.Dec.{eqb}
 use lib.ListN.{length, drop, get_or}
 use borrow.Author.Tests.{eqb-true, eqb-false, ne_eqb, not-true}
 use Rattle.lexis.specs.Text.{byte}
-use Rattle.lexis.specs.Bytes.{is, sortOf, digit, small, capital, mark}
+use Rattle.lexis.specs.Bytes.{is, sort_of, digit, small, capital, mark}
 use Rattle.lexis.specs.Runs.{byte_at, starts_with, same}
-use Rattle.lexis.specs.Spelling.{Literal, literalOf, markSpellings, elementSign, datePatternSpellings, timePatternSpellings, less, greater}
-use Rattle.lexis.specs.Tokens.{token, spelled, tokenOn}
+use Rattle.lexis.specs.Spelling.{Literal, literal_of, mark_spellings, element_sign, date_pattern_spellings, time_pattern_spellings, less, greater}
+use Rattle.lexis.specs.Tokens.{token, spelled, token_on}
 use Rattle.lexis.specs.declared.Token.{Token}
 use Rattle.lexis.proofs.Cases.{by_cond, and_left, and_right}
 use Rattle.lexis.proofs.RunLaws.{and_no, starts-self, first_read}
@@ -51,11 +51,11 @@ leads next (l ∷ ls) sort w = let more = leads next ls sort w in cond (apart ne
 unfoldable pub reads : ℕ → ℕ → List ℕ → Bool
 reads next sort [] = false
 reads next sort (b ∷ w) =
-    cond (is capital b) (leads next timePatternSpellings sort (b ∷ w))
-    (cond (is small b) (leads next datePatternSpellings sort (b ∷ w))
+    cond (is capital b) (leads next time_pattern_spellings sort (b ∷ w))
+    (cond (is small b) (leads next date_pattern_spellings sort (b ∷ w))
     (cond (is digit b) false
-    (cond (is mark b) (cond (eqb b (byte "-")) false (leads next markSpellings sort (b ∷ w)))
-    (cond (eqb b (byte "\"")) false (cond (eqb b (byte "[")) false (leads next elementSign sort (b ∷ w)))))))
+    (cond (is mark b) (cond (eqb b (byte "-")) false (leads next mark_spellings sort (b ∷ w)))
+    (cond (eqb b (byte "\"")) false (cond (eqb b (byte "[")) false (leads next element_sign sort (b ∷ w)))))))
 
 -- such a list gives the token of that sort
 spelled-leads : (w rest : List ℕ) (sort : ℕ) (ls : List Literal) (at : ℕ) (t : Token)
@@ -87,27 +87,27 @@ narrow false d q h = h
 -- a spelling that passes the test reads back as a token of its own sort and length
 pub reads-back : (s : List ℕ) (at : ℕ) (w rest : List ℕ) → drop at s ≡ w ++ rest → (sort : ℕ)
     → reads (byte_at rest 0) sort w ≡ true
-    → tokenOn s at ≡ token sort at (at + length w)
+    → token_on s at ≡ token sort at (at + length w)
 unfolding reads
 reads-back s at [] rest h sort k = absurd (false≢true k)
 reads-back s at (b ∷ w) rest h sort k =
     let t = spelled-leads (b ∷ w) rest sort in
-    on-sort s at b (w ++ rest) h (sortOf b) refl
+    on-sort s at b (w ++ rest) h (sort_of b) refl
     ∙ rw (h, first_read s at b (w ++ rest) h)
-    (by-same (is capital b) k (t timePatternSpellings at _)
-    (λ k. by-same (is small b) k (t datePatternSpellings at _)
+    (by-same (is capital b) k (t time_pattern_spellings at _)
+    (λ k. by-same (is small b) k (t date_pattern_spellings at _)
     (λ k. by-same (is digit b) k never
     (λ k. by-same (is mark b) k
-    (λ k. by-same (eqb b (byte "-") && is digit (byte_at s (at + 1))) (narrow (eqb b (byte "-")) (is digit (byte_at s (at + 1))) _ k) never (t markSpellings at _))
-    (λ k. by-same (eqb b (byte "\"")) k never (λ k. by-same (eqb b (byte "[")) k never (t elementSign at _)))))))
+    (λ k. by-same (eqb b (byte "-") && is digit (byte_at s (at + 1))) (narrow (eqb b (byte "-")) (is digit (byte_at s (at + 1))) _ k) never (t mark_spellings at _))
+    (λ k. by-same (eqb b (byte "\"")) k never (λ k. by-same (eqb b (byte "[")) k never (t element_sign at _)))))))
 
 -- all that is spelled in one way and does not read as a word
 abbrev pub literals : List Literal
-literals = markSpellings ++ elementSign ++ datePatternSpellings ++ timePatternSpellings
+literals = mark_spellings ++ element_sign ++ date_pattern_spellings ++ time_pattern_spellings
 
 -- one of the list by its number
-abbrev pub literalAt : ℕ → Literal
-literalAt i = get_or literals i (literalOf 0 [])
+abbrev pub literal_at : ℕ → Literal
+literal_at i = get_or literals i (literal_of 0 [])
 
 -- a byte may stand behind a spelling of that sort: only `=` may not, and only behind `<` and `>`
 abbrev pub free : ℕ → ℕ → Bool
@@ -132,15 +132,15 @@ every-at test (x ∷ ls) (suc i) d l h = every-at test ls i d (omega arith) (and
 
 -- the whole list reads back, computed once for all
 literals-read : (next : ℕ) → every (literal-reads next) literals ≡ true
-unfolding every literal-reads reads leads apart same sortOf
+unfolding every literal-reads reads leads apart same sort_of
 literals-read next = split (eqb next (byte "=")) (λ e. rw e) (λ e. rw e)
 
 -- every spelling of the list reads back as its own sort, whatever follows, but for `=` behind `<` and `>`
 pub literal-read : (s : List ℕ) (at : ℕ) (rest : List ℕ) (i : ℕ) → i < length literals
-    → drop at s ≡ (literalAt i).spelling ++ rest
-    → free (literalAt i).sort (byte_at rest 0) ≡ true
-    → tokenOn s at ≡ token (literalAt i).sort at (at + length (literalAt i).spelling)
+    → drop at s ≡ (literal_at i).spelling ++ rest
+    → free (literal_at i).sort (byte_at rest 0) ≡ true
+    → token_on s at ≡ token (literal_at i).sort at (at + length (literal_at i).spelling)
 unfolding literal-reads
 literal-read s at rest i l h f =
-    let k = every-at (literal-reads (byte_at rest 0)) literals i (literalOf 0 []) l (literals-read (byte_at rest 0)) in
-    reads-back s at (literalAt i).spelling rest h (literalAt i).sort (rw f at k)
+    let k = every-at (literal-reads (byte_at rest 0)) literals i (literal_of 0 []) l (literals-read (byte_at rest 0)) in
+    reads-back s at (literal_at i).spelling rest h (literal_at i).sort (rw f at k)

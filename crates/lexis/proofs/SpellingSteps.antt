@@ -11,9 +11,9 @@ use lib.Seq.{get_or-drop}
 use borrow.Author.Tests.{ne_eqb}
 use Rattle.lexis.specs.Text.{bytes}
 use Rattle.lexis.specs.Runs.{byte_at, starts_with}
-use Rattle.lexis.specs.Spelling.{Literal, literalOf, markSpellings, datePatternSpellings, timePatternSpellings}
-use Rattle.lexis.specs.Tokens.{token, noToken, spelled}
-use Rattle.lexis.specs.DataTokens.{dataMarks}
+use Rattle.lexis.specs.Spelling.{Literal, literal_of, mark_spellings, date_pattern_spellings, time_pattern_spellings}
+use Rattle.lexis.specs.Tokens.{token, no_token, spelled}
+use Rattle.lexis.specs.DataTokens.{data_marks}
 use Rattle.lexis.specs.declared.Token.{Token}
 use Rattle.lexis.proofs.Places.{drop-in}
 
@@ -32,115 +32,115 @@ module _ (s : List ℕ) (at : ℕ) (h : at < length s) where
   other : (w : ℕ) → (byte_at s at ≡ w → ⊥) → eqb w (byte_at s at) ≡ false
   other w n = ne_eqb w (byte_at s at) (λ e. n (sym e))
 
-  -- markSpellings of one byte
-  pub mark-open : byte_at s at ≡ 123 → token 12 at (at + 1) ≡ spelled markSpellings at (drop at s) (noToken at)
+  -- mark_spellings of one byte
+  pub mark-open : byte_at s at ≡ 123 → token 12 at (at + 1) ≡ spelled mark_spellings at (drop at s) (no_token at)
   unfolding spelled starts_with
   mark-open e = rw (drop-in s at h, e)
 
-  pub mark-close : byte_at s at ≡ 125 → token 13 at (at + 1) ≡ spelled markSpellings at (drop at s) (noToken at)
+  pub mark-close : byte_at s at ≡ 125 → token 13 at (at + 1) ≡ spelled mark_spellings at (drop at s) (no_token at)
   unfolding spelled starts_with
   mark-close e = rw (drop-in s at h, e)
 
-  pub mark-comma : byte_at s at ≡ 44 → token 14 at (at + 1) ≡ spelled markSpellings at (drop at s) (noToken at)
+  pub mark-comma : byte_at s at ≡ 44 → token 14 at (at + 1) ≡ spelled mark_spellings at (drop at s) (no_token at)
   unfolding spelled starts_with
   mark-comma e = rw (drop-in s at h, e)
 
-  pub mark-star : byte_at s at ≡ 42 → token 15 at (at + 1) ≡ spelled markSpellings at (drop at s) (noToken at)
+  pub mark-star : byte_at s at ≡ 42 → token 15 at (at + 1) ≡ spelled mark_spellings at (drop at s) (no_token at)
   unfolding spelled starts_with
   mark-star e = rw (drop-in s at h, e)
 
-  pub mark-bar : byte_at s at ≡ 124 → token 16 at (at + 1) ≡ spelled markSpellings at (drop at s) (noToken at)
+  pub mark-bar : byte_at s at ≡ 124 → token 16 at (at + 1) ≡ spelled mark_spellings at (drop at s) (no_token at)
   unfolding spelled starts_with
   mark-bar e = rw (drop-in s at h, e)
 
-  pub data-less : byte_at s at ≡ 60 → token 18 at (at + 1) ≡ spelled dataMarks at (drop at s) (noToken at)
+  pub data-less : byte_at s at ≡ 60 → token 18 at (at + 1) ≡ spelled data_marks at (drop at s) (no_token at)
   unfolding spelled starts_with
   data-less e = rw (drop-in s at h, e)
 
-  pub data-greater : byte_at s at ≡ 62 → token 19 at (at + 1) ≡ spelled dataMarks at (drop at s) (noToken at)
+  pub data-greater : byte_at s at ≡ 62 → token 19 at (at + 1) ≡ spelled data_marks at (drop at s) (no_token at)
   unfolding spelled starts_with
   data-greater e = rw (drop-in s at h, e)
 
-  pub data-equals : byte_at s at ≡ 61 → token 23 at (at + 1) ≡ spelled dataMarks at (drop at s) (noToken at)
+  pub data-equals : byte_at s at ≡ 61 → token 23 at (at + 1) ≡ spelled data_marks at (drop at s) (no_token at)
   unfolding spelled starts_with
   data-equals e = rw (drop-in s at h, e)
 
-  pub data-open : byte_at s at ≡ 40 → token 24 at (at + 1) ≡ spelled dataMarks at (drop at s) (noToken at)
+  pub data-open : byte_at s at ≡ 40 → token 24 at (at + 1) ≡ spelled data_marks at (drop at s) (no_token at)
   unfolding spelled starts_with
   data-open e = rw (drop-in s at h, e)
 
-  pub data-close : byte_at s at ≡ 41 → token 25 at (at + 1) ≡ spelled dataMarks at (drop at s) (noToken at)
+  pub data-close : byte_at s at ≡ 41 → token 25 at (at + 1) ≡ spelled data_marks at (drop at s) (no_token at)
   unfolding spelled starts_with
   data-close e = rw (drop-in s at h, e)
 
   pub data-none : (t : Token) → (byte_at s at ≡ 60 → ⊥) → (byte_at s at ≡ 62 → ⊥) → (byte_at s at ≡ 61 → ⊥)
-      → (byte_at s at ≡ 40 → ⊥) → (byte_at s at ≡ 41 → ⊥) → t ≡ noToken at
-      → t ≡ spelled dataMarks at (drop at s) (noToken at)
+      → (byte_at s at ≡ 40 → ⊥) → (byte_at s at ≡ 41 → ⊥) → t ≡ no_token at
+      → t ≡ spelled data_marks at (drop at s) (no_token at)
   unfolding spelled starts_with
   data-none t a b c d e p = rw (drop-in s at h, other 60 a, other 62 b, other 61 c, other 40 d, other 41 e) p
 
-  -- markSpellings of two bytes
+  -- mark_spellings of two bytes
   module _ (n : ℕ) (q : n ≡ byte_at s (at + 1)) where
     second : (w : ℕ) → 0 < w → starts_with (w ∷ []) (drop (at + 1) s) ≡ eqb w n
     second w l = starts-one w (drop (at + 1) s) l ∙ (rw (get_or-drop (at + 1) s 0 0, add-zero, ← q))
 
     pub mark-at-most : byte_at s at ≡ 60 → n ≡ 61
-        → token 20 at (at + 2) ≡ spelled markSpellings at (drop at s) (noToken at)
+        → token 20 at (at + 2) ≡ spelled mark_spellings at (drop at s) (no_token at)
     unfolding spelled starts_with
     mark-at-most e m = rw (drop-in s at h, e, second 61 (omega arith), m)
 
     pub mark-less : byte_at s at ≡ 60 → (n ≡ 61 → ⊥)
-        → token 18 at (at + 1) ≡ spelled markSpellings at (drop at s) (noToken at)
+        → token 18 at (at + 1) ≡ spelled mark_spellings at (drop at s) (no_token at)
     unfolding spelled starts_with
     mark-less e m = rw (drop-in s at h, e, second 61 (omega arith), ne_eqb 61 n (λ k. m (sym k)))
 
     pub mark-at-least : byte_at s at ≡ 62 → n ≡ 61
-        → token 21 at (at + 2) ≡ spelled markSpellings at (drop at s) (noToken at)
+        → token 21 at (at + 2) ≡ spelled mark_spellings at (drop at s) (no_token at)
     unfolding spelled starts_with
     mark-at-least e m = rw (drop-in s at h, e, second 61 (omega arith), m)
 
     pub mark-greater : byte_at s at ≡ 62 → (n ≡ 61 → ⊥)
-        → token 19 at (at + 1) ≡ spelled markSpellings at (drop at s) (noToken at)
+        → token 19 at (at + 1) ≡ spelled mark_spellings at (drop at s) (no_token at)
     unfolding spelled starts_with
     mark-greater e m = rw (drop-in s at h, e, second 61 (omega arith), ne_eqb 61 n (λ k. m (sym k)))
 
-    pub mark-dots : byte_at s at ≡ 46 → n ≡ 46 → token 17 at (at + 2) ≡ spelled markSpellings at (drop at s) (noToken at)
+    pub mark-dots : byte_at s at ≡ 46 → n ≡ 46 → token 17 at (at + 2) ≡ spelled mark_spellings at (drop at s) (no_token at)
     unfolding spelled starts_with
     mark-dots e m = rw (drop-in s at h, e, second 46 (omega arith), m)
 
-    pub mark-dot : (t : Token) → byte_at s at ≡ 46 → (n ≡ 46 → ⊥) → t ≡ noToken at
-        → t ≡ spelled markSpellings at (drop at s) (noToken at)
+    pub mark-dot : (t : Token) → byte_at s at ≡ 46 → (n ≡ 46 → ⊥) → t ≡ no_token at
+        → t ≡ spelled mark_spellings at (drop at s) (no_token at)
     unfolding spelled starts_with
     mark-dot t e m p = rw (drop-in s at h, e, second 46 (omega arith), ne_eqb 46 n (λ k. m (sym k))) p
 
   -- the mark of three
   module _ (r : Bool) (q : r ≡ starts_with (bytes "+/-") (drop at s)) where
     plus : byte_at s at ≡ 43
-        → cond r (token 22 at (at + 3)) (noToken at) ≡ spelled markSpellings at (drop at s) (noToken at)
+        → cond r (token 22 at (at + 3)) (no_token at) ≡ spelled mark_spellings at (drop at s) (no_token at)
     unfolding spelled starts_with
     plus e = rw (q, drop-in s at h, e)
 
     pub mark-plus-minus : byte_at s at ≡ 43 → r ≡ true
-        → token 22 at (at + 3) ≡ spelled markSpellings at (drop at s) (noToken at)
+        → token 22 at (at + 3) ≡ spelled mark_spellings at (drop at s) (no_token at)
     mark-plus-minus e k = rw k at (plus e)
 
-    pub mark-plus : (t : Token) → byte_at s at ≡ 43 → r ≡ false → t ≡ noToken at
-        → t ≡ spelled markSpellings at (drop at s) (noToken at)
+    pub mark-plus : (t : Token) → byte_at s at ≡ 43 → r ≡ false → t ≡ no_token at
+        → t ≡ spelled mark_spellings at (drop at s) (no_token at)
     mark-plus t e k p = p ∙ (rw k at (plus e))
 
   pub mark-none : (t : Token) → (byte_at s at ≡ 123 → ⊥) → (byte_at s at ≡ 125 → ⊥) → (byte_at s at ≡ 44 → ⊥)
       → (byte_at s at ≡ 42 → ⊥) → (byte_at s at ≡ 124 → ⊥) → (byte_at s at ≡ 60 → ⊥) → (byte_at s at ≡ 62 → ⊥)
-      → (byte_at s at ≡ 46 → ⊥) → (byte_at s at ≡ 43 → ⊥) → t ≡ noToken at
-      → t ≡ spelled markSpellings at (drop at s) (noToken at)
+      → (byte_at s at ≡ 46 → ⊥) → (byte_at s at ≡ 43 → ⊥) → t ≡ no_token at
+      → t ≡ spelled mark_spellings at (drop at s) (no_token at)
   unfolding spelled starts_with
   mark-none t a b c d e f g i j p = rw (drop-in s at h, other 123 a, other 125 b, other 44 c, other 42 d, other 124 e, other 60 f, other 62 g, other 46 i, other 43 j) p
 
   -- no pattern begins with another byte
-  pub date-other : (t : Token) → (byte_at s at ≡ 121 → ⊥) → t ≡ spelled datePatternSpellings at (drop at s) t
+  pub date-other : (t : Token) → (byte_at s at ≡ 121 → ⊥) → t ≡ spelled date_pattern_spellings at (drop at s) t
   unfolding spelled starts_with
   date-other t n = rw (drop-in s at h, other 121 n)
 
-  pub time-other : (t : Token) → (byte_at s at ≡ 84 → ⊥) → t ≡ spelled timePatternSpellings at (drop at s) t
+  pub time-other : (t : Token) → (byte_at s at ≡ 84 → ⊥) → t ≡ spelled time_pattern_spellings at (drop at s) t
   unfolding spelled starts_with
   time-other t n = rw (drop-in s at h, other 84 n)
 
@@ -156,11 +156,11 @@ spelled-else ls at bs a b t e p = rw e at p
 
 -- whether a spelling stands at a place
 pub spelled-one : (s : List ℕ) (at : ℕ) (w : List ℕ) (sort : ℕ) (o : Token) (r : Bool) → r ≡ starts_with w (drop at s)
-    → r ≡ true → token sort at (at + length w) ≡ spelled (literalOf sort w ∷ []) at (drop at s) o
+    → r ≡ true → token sort at (at + length w) ≡ spelled (literal_of sort w ∷ []) at (drop at s) o
 unfolding spelled
 spelled-one s at w sort o r q e = rw (← q, e)
 
 pub spelled-other : (s : List ℕ) (at : ℕ) (w : List ℕ) (sort : ℕ) (o : Token) (r : Bool) → r ≡ starts_with w (drop at s)
-    → r ≡ false → o ≡ spelled (literalOf sort w ∷ []) at (drop at s) o
+    → r ≡ false → o ≡ spelled (literal_of sort w ∷ []) at (drop at s) o
 unfolding spelled
 spelled-other s at w sort o r q e = rw (← q, e)

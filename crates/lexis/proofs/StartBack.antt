@@ -9,11 +9,11 @@ use lib.Dec.{eqb}
 use lib.ListN.{length, drop, length-drop}
 use borrow.Author.Tests.{eqb-true, eqb-false, ne_eqb, not-true, le-leb}
 use Rattle.lexis.specs.Text.{byte}
-use Rattle.lexis.specs.Bytes.{is, blank, mark, sortOf}
+use Rattle.lexis.specs.Bytes.{is, blank, mark, sort_of}
 use Rattle.lexis.specs.Runs.{byte_at, starts_with, same, all}
-use Rattle.lexis.specs.Spelling.{Literal, wordSort}
-use Rattle.lexis.specs.Blanks.{skip, opensComment, tokenStart}
-use Rattle.lexis.specs.Tokens.{token, noToken, spelled, tokenOn, tokenAt, textEnd, unreadable}
+use Rattle.lexis.specs.Spelling.{Literal, word_sort}
+use Rattle.lexis.specs.Blanks.{skip, opens_comment, token_start}
+use Rattle.lexis.specs.Tokens.{token, no_token, spelled, token_on, token_at, text_end, unreadable}
 use Rattle.lexis.specs.declared.Token.{Token}
 use Rattle.lexis.proofs.Cases.{either, and_left, and_right}
 use Rattle.lexis.proofs.RunLaws.{behind, next-read, first_read}
@@ -22,18 +22,18 @@ use Rattle.lexis.proofs.ReadBack.{on-sort, every}
 -- neither a blank nor a comment starts here
 unfoldable pub clear : List ℕ → Bool
 clear [] = true
-clear (b ∷ bs) = not (is blank b || opensComment b bs)
+clear (b ∷ bs) = not (is blank b || opens_comment b bs)
 
 -- bytes of two sorts differ
-differs : (b c k : ℕ) → sortOf b ≡ k → eqb (sortOf c) k ≡ false → eqb b c ≡ false
-differs b c k e n = ne_eqb b c (λ q. eqb-false (sortOf c) k n (rw q at e))
+differs : (b c k : ℕ) → sort_of b ≡ k → eqb (sort_of c) k ≡ false → eqb b c ≡ false
+differs b c k e n = ne_eqb b c (λ q. eqb-false (sort_of c) k n (rw q at e))
 
 -- blanks are skipped, and no more than they
 pub skip-run : (at : ℕ) (ws bs : List ℕ) → all (is blank) ws ≡ true → clear bs ≡ true
     → skip false at (ws ++ bs) ≡ at + length ws
-unfolding skip all clear sortOf
+unfolding skip all clear sort_of
 skip-run at [] [] a c = omega arith
-skip-run at [] (b ∷ bs) a c = rw (not-true (is blank b || opensComment b bs) c) (omega arith)
+skip-run at [] (b ∷ bs) a c = rw (not-true (is blank b || opens_comment b bs) c) (omega arith)
 skip-run at (b ∷ ws) bs a c =
     let e = and_left (is blank b) (all (is blank) ws) a in
     let n = skip-run (at + 1) ws bs (and_right (is blank b) (all (is blank) ws) a) c in
@@ -42,23 +42,23 @@ skip-run at (b ∷ ws) bs a c =
 -- where the text from a place on is blanks, and then no blank and no comment, the next token starts behind the blanks
 module _ (s : List ℕ) (from : ℕ) (ws bs : List ℕ) (h : drop from s ≡ ws ++ bs) (a : all (is blank) ws ≡ true) where
   -- that place is where it starts
-  pub start-read : clear bs ≡ true → tokenStart s from ≡ from + length ws
+  pub start-read : clear bs ≡ true → token_start s from ≡ from + length ws
   start-read c = rw h (skip-run from ws bs a c)
 
   -- it is the token that starts there
-  pub token-behind : clear bs ≡ true → tokenAt s from ≡ tokenOn s (from + length ws)
-  unfolding tokenAt
+  pub token-behind : clear bs ≡ true → token_at s from ≡ token_on s (from + length ws)
+  unfolding token_at
   token-behind c = rw (start-read c)
 
 -- where no blank and no comment starts, the next token starts at once
-pub start-here : (s : List ℕ) (from : ℕ) → clear (drop from s) ≡ true → tokenStart s from ≡ from
+pub start-here : (s : List ℕ) (from : ℕ) → clear (drop from s) ≡ true → token_start s from ≡ from
 unfolding all
 start-here s from c = rw add-zero at (start-read s from [] (drop from s) refl refl c)
 
 -- where only blanks follow, the next token is the text's end
 pub end_read : (s : List ℕ) (from : ℕ) → from ≤ length s → all (is blank) (drop from s) ≡ true
-    → tokenAt s from ≡ token textEnd (length s) (length s)
-unfolding tokenOn clear
+    → token_at s from ≡ token text_end (length s) (length s)
+unfolding token_on clear
 end_read s from l a =
     let d = length-drop from s in
     let e : from + length (drop from s) ≡ length s = omega arith in
@@ -75,14 +75,14 @@ clear_at s from (b ∷ bs) h e n =
 
 -- nothing that can be read starts with a blank, or as a comment does
 module _ (s : List ℕ) (at b : ℕ) (bs : List ℕ) (h : drop at s ≡ b ∷ bs) where
-  blank_none : sortOf b ≡ blank → tokenOn s at ≡ noToken at
-  unfolding spelled starts_with sortOf
+  blank_none : sort_of b ≡ blank → token_on s at ≡ no_token at
+  unfolding spelled starts_with sort_of
   blank_none e =
       let n : eqb 0xE2 b ≡ false = ne_eqb 0xE2 b (λ q. eqb-false b 0xE2 (differs b 0xE2 blank e refl) (sym q)) in
       on-sort s at b bs h blank e ∙ rw (h, first_read s at b bs h, differs b (byte "\"") blank e refl, differs b (byte "[") blank e refl, n)
 
-  comment-none : b ≡ byte "-" → byte_at bs 0 ≡ byte "-" → tokenOn s at ≡ noToken at
-  unfolding spelled starts_with sortOf
+  comment-none : b ≡ byte "-" → byte_at bs 0 ≡ byte "-" → token_on s at ≡ no_token at
+  unfolding spelled starts_with sort_of
   comment-none e f = on-sort s at b bs h mark (rw e) ∙ rw (h, first_read s at b bs h, next-read s at (b ∷ []) bs h, e, f)
 
 -- neither of two tests passes
@@ -92,33 +92,33 @@ not-or false true f g = absurd (g refl)
 not-or false false f g = refl
 
 -- a place at which something can be read is clear
-pub token-clear : (s : List ℕ) (at : ℕ) (bs : List ℕ) → drop at s ≡ bs → eqb (tokenOn s at).sort unreadable ≡ false
+pub token-clear : (s : List ℕ) (at : ℕ) (bs : List ℕ) → drop at s ≡ bs → eqb (token_on s at).sort unreadable ≡ false
     → clear bs ≡ true
 unfolding clear
 token-clear s at [] h n = refl
 token-clear s at (b ∷ bs) h n =
-    not-or (is blank b) (opensComment b bs)
+    not-or (is blank b) (opens_comment b bs)
     (λ e. false≢true (sym n ∙ rw (blank_none s at b bs h (eqb-true _ _ e))))
     (λ e. let x = eqb b (byte "-") in let y = eqb (byte_at bs 0) (byte "-") in
     false≢true (sym n ∙ rw (comment-none s at b bs h (eqb-true _ _ (and_left x y e)) (eqb-true _ _ (and_right x y e)))))
 
 -- behind blanks, a token that can be read is the next token
 pub token-read : (s : List ℕ) (from : ℕ) (ws bs : List ℕ) → drop from s ≡ ws ++ bs → all (is blank) ws ≡ true
-    → {t : Token} → tokenOn s (from + length ws) ≡ t → eqb t.sort unreadable ≡ false → tokenAt s from ≡ t
+    → {t : Token} → token_on s (from + length ws) ≡ t → eqb t.sort unreadable ≡ false → token_at s from ≡ t
 token-read s from ws bs h a e n =
     token-behind s from ws bs h a (token-clear s (from + length ws) bs (behind s from ws bs h) (rw e n)) ∙ e
 
 -- where no blank stands before it, a token that can be read is the next token
-pub token-here : (s : List ℕ) (from : ℕ) {t : Token} → tokenOn s from ≡ t → eqb t.sort unreadable ≡ false
-    → tokenAt s from ≡ t
-unfolding tokenAt
+pub token-here : (s : List ℕ) (from : ℕ) {t : Token} → token_on s from ≡ t → eqb t.sort unreadable ≡ false
+    → token_at s from ≡ t
+unfolding token_at
 token-here s from e n = rw (start-here s from (token-clear s from (drop from s) refl (rw e n))) e
 
 -- a word can be read, where its list and its sort can
 pub word-readable : (ls : List Literal) (w : List ℕ) (sort : ℕ) → every (λ l. not (eqb l.sort unreadable)) ls ≡ true
     → eqb sort unreadable ≡ false
-    → eqb (wordSort ls w sort) unreadable ≡ false
-unfolding every wordSort
+    → eqb (word_sort ls w sort) unreadable ≡ false
+unfolding every word_sort
 word-readable [] w sort k e = e
 word-readable (l ∷ ls) w sort k e =
     let p = not (eqb l.sort unreadable) in

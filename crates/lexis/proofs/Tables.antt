@@ -9,6 +9,6 @@ wrong right n [] = []
 wrong right n (x ∷ xs) = let more = wrong right (n + 1) xs in cond (right x) more (n ∷ more)
 
 -- an answer that may be missing, as a list of numbers
-abbrev pub orNothing : Option ℕ → List ℕ
-orNothing none = []
-orNothing (some n) = n ∷ []
+abbrev pub or_nothing : Option ℕ → List ℕ
+or_nothing none = []
+or_nothing (some n) = n ∷ []

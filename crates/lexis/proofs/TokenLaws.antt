@@ -8,8 +8,8 @@ use lib.Dec.{leb}
 use lib.ListN.{length, drop}
 use borrow.Author.Tests.{leb-true, leb-false, le-leb}
 use Rattle.lexis.specs.Runs.{part}
-use Rattle.lexis.specs.Blanks.{tokenStart}
-use Rattle.lexis.specs.Tokens.{token, noToken, textEnd, unreadable, tokenOn, tokenAt}
+use Rattle.lexis.specs.Blanks.{token_start}
+use Rattle.lexis.specs.Tokens.{token, no_token, text_end, unreadable, token_on, token_at}
 use Rattle.lexis.specs.declared.Token.{Token}
 use Rattle.lexis.proofs.Parts.{part_length}
 use Rattle.lexis.specs.SpellingRules.{Spells}
@@ -21,7 +21,7 @@ use Rattle.lexis.proofs.TokensReach.{Reaches, reaches}
 use Rattle.lexis.proofs.TokensSpelled.{Reads, on-reads}
 
 -- where a token is spelled, the definition's can be read, ends no earlier, and has its sort where it ends with it
-covers : {s : List ℕ} {at sort end : ℕ} → SpelledAt Spells s at sort end → Reaches end sort (tokenOn s at)
+covers : {s : List ℕ} {at sort end : ℕ} → SpelledAt Spells s at sort end → Reaches end sort (token_on s at)
 covers {s} {at} {sort} {end} p =
     let o = p.ordered in
     let l = part_length s at end p.inside in
@@ -29,14 +29,14 @@ covers {s} {at} {sort} {end} p =
     rw e at (reaches p.spelled s at (drop end s) (part-splits s at end o))
 
 -- behind the text's end
-ends_on : (s : List ℕ) (at : ℕ) → length s ≤ at → tokenOn s at ≡ token textEnd at at
-unfolding tokenOn
+ends_on : (s : List ℕ) (at : ℕ) → length s ≤ at → token_on s at ≡ token text_end at at
+unfolding token_on
 ends_on s at l = rw (le-leb (length s) at l)
 
 -- what the definition reads at a place, and the rules
 module _ (s : List ℕ) (at : ℕ) where
   -- nothing is spelled where the text ends or the definition reads nothing
-  no-sort : {t : Token} → tokenOn s at ≡ t → t.sort ≤ unreadable → (sort end : ℕ) → ¬ SpelledAt Spells s at sort end
+  no-sort : {t : Token} → token_on s at ≡ t → t.sort ≤ unreadable → (sort end : ℕ) → ¬ SpelledAt Spells s at sort end
   no-sort e l sort end p =
       let n = ap (λ (t : Token). t.sort) e in
       let r = (covers p).readable in
@@ -48,25 +48,25 @@ module _ (s : List ℕ) (at : ℕ) where
       true-or-false (leb (length s) at) (λ e. absurd (no-sort (ends_on s at (leb-true _ _ e)) (omega arith) sort end p)) (λ e. leb-false _ _ e)
 
   -- nothing longer than the token found is spelled
-  no_longer : {t : Token} → tokenOn s at ≡ t → (sort end : ℕ) → SpelledAt Spells s at sort end → end ≤ t.end
+  no_longer : {t : Token} → token_on s at ≡ t → (sort end : ℕ) → SpelledAt Spells s at sort end → end ≤ t.end
   no_longer e sort end p =
       let n = ap (λ (t : Token). t.end) e in
       let f = (covers p).far in
       omega arith
 
   -- what is read is the next token
-  read_next : {from : ℕ} {t : Token} → Separates s from at → at < length s → tokenOn s at ≡ t → Reads s at t
+  read_next : {from : ℕ} {t : Token} → Separates s from at → at < length s → token_on s at ≡ t → Reads s at t
       → NextIs s from t
   read_next g l e Reads.nothing = NextIs.none g l (no-sort e (omega arith))
   read_next g l e (Reads.something p) = NextIs.longest g (record { one = p; longest = no_longer e })
 
   -- where nothing is spelled, nothing is read
-  none_read : {t : Token} → Reads s at t → ((sort end : ℕ) → ¬ SpelledAt Spells s at sort end) → t ≡ noToken at
+  none_read : {t : Token} → Reads s at t → ((sort end : ℕ) → ¬ SpelledAt Spells s at sort end) → t ≡ no_token at
   none_read Reads.nothing n = refl
   none_read (Reads.something {sort = sort} {end = end} p) n = absurd (n sort end p)
 
   -- the longest that is spelled is what is read
-  longest-read : {sort end : ℕ} {t : Token} → tokenOn s at ≡ t → Reads s at t → LongestAt Spells s at sort end
+  longest-read : {sort end : ℕ} {t : Token} → token_on s at ≡ t → Reads s at t → LongestAt Spells s at sort end
       → t ≡ token sort at end
   longest-read {sort} {end} e Reads.nothing g = absurd (no-sort e (omega arith) sort end g.one)
   longest-read {sort} {end} e (Reads.something {sort = x} {end = y} p) g =
@@ -76,27 +76,27 @@ module _ (s : List ℕ) (at : ℕ) where
       let r : x ≡ sort = alike (covers g.one) q in
       λ i. token (r i) at (q i)
     where
-      alike : Reaches end sort (tokenOn s at) → y ≡ end → x ≡ sort
+      alike : Reaches end sort (token_on s at) → y ≡ end → x ≡ sort
       alike c q = sym (ap (λ (t : Token). t.sort) e) ∙ c.alike (ap (λ (t : Token). t.end) e ∙ q)
 
 -- the token that the definition finds is the next
-pub next-is : (s : List ℕ) (from : ℕ) → NextIs s from (tokenAt s from)
-unfolding tokenAt
+pub next-is : (s : List ℕ) (from : ℕ) → NextIs s from (token_at s from)
+unfolding token_at
 next-is s from =
-    let at = tokenStart s from in
+    let at = token_start s from in
     let g = (separated s from at).0 refl in
     true-or-false (leb (length s) at)
     (λ e. let l = leb-true (length s) at e in rw (ends_on s at l) (NextIs.ends g l))
     (λ e. let l = leb-false (length s) at e in read_next s at g l refl (on-reads s at l))
 
 -- the next token is the one that the definition finds
-pub is-next : {s : List ℕ} {from : ℕ} {t : Token} → NextIs s from t → tokenAt s from ≡ t
-unfolding tokenAt
-is-next {s} {from} (NextIs.ends {at = at} g l) = ap (tokenOn s) ((separated s from at).1 g) ∙ ends_on s at l
-is-next {s} {from} (NextIs.none {at = at} g l n) = ap (tokenOn s) ((separated s from at).1 g) ∙ none_read s at (on-reads s at l) n
+pub is-next : {s : List ℕ} {from : ℕ} {t : Token} → NextIs s from t → token_at s from ≡ t
+unfolding token_at
+is-next {s} {from} (NextIs.ends {at = at} g l) = ap (token_on s) ((separated s from at).1 g) ∙ ends_on s at l
+is-next {s} {from} (NextIs.none {at = at} g l n) = ap (token_on s) ((separated s from at).1 g) ∙ none_read s at (on-reads s at l) n
 is-next {s} {from} (NextIs.longest {at = at} g p) =
-    ap (tokenOn s) ((separated s from at).1 g) ∙ longest-read s at refl (on-reads s at (spelled-inside s at p.one)) p
+    ap (token_on s) ((separated s from at).1 g) ∙ longest-read s at refl (on-reads s at (spelled-inside s at p.one)) p
 
 -- the definition and the rules give one next token
-pub token-is : (s : List ℕ) (from : ℕ) (t : Token) → (tokenAt s from ≡ t) ↔ NextIs s from t
+pub token-is : (s : List ℕ) (from : ℕ) (t : Token) → (token_at s from ≡ t) ↔ NextIs s from t
 token-is s from t = (λ e. rw e at (next-is s from), is-next)

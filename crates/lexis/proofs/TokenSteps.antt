@@ -8,18 +8,18 @@ use lib.Dec.{eqb}
 use lib.ListN.{length, drop, length-drop, drop_of_length-le}
 use borrow.Author.Tests.{eqb-true, eq-eqb, ne_eqb, le-leb, not-true, not-false}
 use Rattle.lexis.specs.Text.{byte}
-use Rattle.lexis.specs.Bytes.{is, sortOf, digit, stringByte}
+use Rattle.lexis.specs.Bytes.{is, sort_of, digit, string_byte}
 use Rattle.lexis.specs.Runs.{past, byte_at, starts_with, shaped}
-use Rattle.lexis.specs.Spelling.{markSpellings, keywords, elementSign, booleans, datePatternSpellings, timePatternSpellings, codeStart, dateShape}
-use Rattle.lexis.specs.Tokens.{token, noToken, spelled, word, number, sign, quoted, codeEnd, bracket, special, tokenOn, tokenAt, textEnd, typeName, name, integer, date, string, code}
-use Rattle.lexis.specs.contracts.Answers.{PlaceIs, TokenIs}
+use Rattle.lexis.specs.Spelling.{mark_spellings, keywords, element_sign, booleans, date_pattern_spellings, time_pattern_spellings, code_start, date_shape}
+use Rattle.lexis.specs.Tokens.{token, no_token, spelled, word, number, sign, quoted, code_end, bracket, special, token_on, token_at, text_end, type_name, name, integer, date, string, code}
+use Rattle.lexis.specs.Clauses.Answers.{PlaceIs, TokenIs}
 use Rattle.lexis.specs.declared.Token.{Token}
 use Rattle.lexis.proofs.Cases.{and_left}
 use Rattle.lexis.proofs.Places.{Found, drop-in, starts-long, token-found}
 use Rattle.lexis.proofs.ReadBack.{on-sort, starting}
 
 -- a number
-module _ (s : List ℕ) (at : ℕ) (r : Bool) (q : r ≡ shaped dateShape (drop at s)) where
+module _ (s : List ℕ) (at : ℕ) (r : Bool) (q : r ≡ shaped date_shape (drop at s)) where
   pub number-date : r ≡ true → token date at (at + 10) ≡ number s at
   number-date e = rw (← q, e)
 
@@ -41,16 +41,16 @@ module _ (s : List ℕ) (at : ℕ) (r : Bool) (q : r ≡ (eqb (byte_at s at) (by
       → token integer at end ≡ sign s at
   sign-integer end e p = rw (← q, e, p.is)
 
-  pub sign-mark : (t : Token) → r ≡ false → t ≡ spelled markSpellings at (drop at s) (noToken at) → t ≡ sign s at
+  pub sign-mark : (t : Token) → r ≡ false → t ≡ spelled mark_spellings at (drop at s) (no_token at) → t ≡ sign s at
   sign-mark t e p = rw (← q, e) p
 
 -- a string
-module _ (s : List ℕ) (at end b : ℕ) (p : PlaceIs s (at + 1) (past stringByte (at + 1) (drop (at + 1) s)) end)
+module _ (s : List ℕ) (at end b : ℕ) (p : PlaceIs s (at + 1) (past string_byte (at + 1) (drop (at + 1) s)) end)
     (q : b ≡ byte_at s end) where
   pub quoted-is : b ≡ byte "\"" → token string at (end + 1) ≡ quoted s at
   quoted-is e = rw (← p.is, ← q, eq-eqb b (byte "\"") e)
 
-  pub quoted-not : (t : Token) → (b ≡ byte "\"" → ⊥) → t ≡ noToken at → t ≡ quoted s at
+  pub quoted-not : (t : Token) → (b ≡ byte "\"" → ⊥) → t ≡ no_token at → t ≡ quoted s at
   quoted-not t n e = rw (← p.is, ← q, ne_eqb b (byte "\"") n) e
 
 -- a byte behind `[at`
@@ -75,50 +75,50 @@ module _ (b : ℕ) (some : Bool) where
 -- in a code: what is left of it ends where the code does
 pub record InCode (s : List ℕ) (x at : ℕ) (some : Bool) : Type 0 where
   pub high : at ≤ length s
-  pub is : codeEnd some at (drop at s) ≡ x
+  pub is : code_end some at (drop at s) ≡ x
 
-pub code-first : (s : List ℕ) (from : ℕ) → from ≤ length s → InCode s (codeEnd false from (drop from s)) from false
+pub code-first : (s : List ℕ) (from : ℕ) → from ≤ length s → InCode s (code_end false from (drop from s)) from false
 code-first s from h = record { high = h; is = refl }
 
 module _ (s : List ℕ) (x at : ℕ) (some : Bool) (inv : InCode s x at some) where
   pub code-none : length s ≤ at → 0 ≡ x
-  unfolding codeEnd
+  unfolding code_end
   code-none h = rw (drop_of_length-le s h) at inv.is
 
   module _ (h : at < length s) (r : Bool) (q : r ≡ (eqb (byte_at s at) (byte "]") && some)) where
     pub code-close : r ≡ true → at + 1 ≡ x
-    unfolding codeEnd sortOf
+    unfolding code_end sort_of
     code-close e =
         let f = sym q ∙ e in
         let b = eqb-true (byte_at s at) (byte "]") (and_left (eqb (byte_at s at) (byte "]")) some f) in
         ended (byte_at s at) (drop (at + 1) s) b f ∙ (rw (drop-in s at h) at inv.is)
       where
         ended : (b : ℕ) (bs : List ℕ)
-            → b ≡ byte "]" → (eqb b (byte "]") && some) ≡ true → at + 1 ≡ codeEnd some at (b ∷ bs)
+            → b ≡ byte "]" → (eqb b (byte "]") && some) ≡ true → at + 1 ≡ code_end some at (b ∷ bs)
         ended b bs e f = rw (f, e)
 
     module _ (k : Bool) (g : k ≡ (is digit (byte_at s at) || eqb (byte_at s at) (byte ".") && some)) where
       pub code-stop : r ≡ false → not k ≡ true → 0 ≡ x
-      unfolding codeEnd
+      unfolding code_end
       code-stop e n = rw (drop-in s at h, ← g, not-true k n, ← q, e) at inv.is
 
       pub code-on : (d : Bool) → not k ≡ false → d ≡ is digit (byte_at s at) → InCode s x (at + 1) d
-      unfolding codeEnd
+      unfolding code_end
       code-on d n p = record { high = omega arith; is = rw p (rw (drop-in s at h, ← g, not-false k n) at inv.is) }
 
 -- a code
-module _ (s : List ℕ) (at : ℕ) (r : Bool) (q : r ≡ starts_with codeStart (drop at s)) where
+module _ (s : List ℕ) (at : ℕ) (r : Bool) (q : r ≡ starts_with code_start (drop at s)) where
   pub code-room : at ≤ length s → not r ≡ false → at + 3 ≤ length s
   code-room h e =
-      let n = starts-long codeStart (drop at s) (sym q ∙ not-false r e) in
+      let n = starts-long code_start (drop at s) (sym q ∙ not-false r e) in
       let m = length-drop at s in
       omega arith
 
-  pub bracket-not : (t : Token) → not r ≡ true → t ≡ noToken at → t ≡ bracket s at
+  pub bracket-not : (t : Token) → not r ≡ true → t ≡ no_token at → t ≡ bracket s at
   bracket-not t e p = rw (← q, not-true r e) p
 
-  module _ (end : ℕ) (p : end ≡ codeEnd false (at + 3) (drop (at + 3) s)) (e : not r ≡ false) where
-    pub bracket-open : (t : Token) → end ≡ 0 → t ≡ noToken at → t ≡ bracket s at
+  module _ (end : ℕ) (p : end ≡ code_end false (at + 3) (drop (at + 3) s)) (e : not r ≡ false) where
+    pub bracket-open : (t : Token) → end ≡ 0 → t ≡ no_token at → t ≡ bracket s at
     bracket-open t z k = rw (← q, not-false r e, ← p, eq-eqb end 0 z) k
 
     pub bracket-code : (end ≡ 0 → ⊥) → token code at end ≡ bracket s at
@@ -133,32 +133,32 @@ module _ (s : List ℕ) (at : ℕ) (t : Token) where
   special-code n e p = rw (ne_eqb (byte_at s at) (byte "\"") n, eq-eqb (byte_at s at) (byte "[") e) p
 
   pub special-sign : (byte_at s at ≡ byte "\"" → ⊥)
-      → (byte_at s at ≡ byte "[" → ⊥) → t ≡ spelled elementSign at (drop at s) (noToken at) → t ≡ special s at
+      → (byte_at s at ≡ byte "[" → ⊥) → t ≡ spelled element_sign at (drop at s) (no_token at) → t ≡ special s at
   special-sign n m p = rw (ne_eqb (byte_at s at) (byte "\"") n, ne_eqb (byte_at s at) (byte "[") m) p
 
 -- the token that starts at a place
-pub on-end : (s : List ℕ) (at : ℕ) → length s ≤ at → token textEnd at at ≡ tokenOn s at
-unfolding tokenOn
+pub on-end : (s : List ℕ) (at : ℕ) → length s ≤ at → token text_end at at ≡ token_on s at
+unfolding token_on
 on-end s at h = rw (le-leb (length s) at h)
 
-module _ (s : List ℕ) (at k : ℕ) (t : Token) (h : at < length s) (q : k ≡ sortOf (byte_at s at)) where
-  on : tokenOn s at ≡ starting k s at
+module _ (s : List ℕ) (at k : ℕ) (t : Token) (h : at < length s) (q : k ≡ sort_of (byte_at s at)) where
+  on : token_on s at ≡ starting k s at
   on = on-sort s at (byte_at s at) (drop (at + 1) s) (drop-in s at h) k (sym q)
 
-  pub on-capital : k ≡ 3 → t ≡ spelled timePatternSpellings at (drop at s) (word s booleans typeName at)
-      → t ≡ tokenOn s at
+  pub on-capital : k ≡ 3 → t ≡ spelled time_pattern_spellings at (drop at s) (word s booleans type_name at)
+      → t ≡ token_on s at
   on-capital e p = rw (on, e) p
 
-  pub on-small : k ≡ 2 → t ≡ spelled datePatternSpellings at (drop at s) (word s keywords name at) → t ≡ tokenOn s at
+  pub on-small : k ≡ 2 → t ≡ spelled date_pattern_spellings at (drop at s) (word s keywords name at) → t ≡ token_on s at
   on-small e p = rw (on, e) p
 
-  pub on-digit : k ≡ 1 → t ≡ number s at → t ≡ tokenOn s at
+  pub on-digit : k ≡ 1 → t ≡ number s at → t ≡ token_on s at
   on-digit e p = rw (on, e) p
 
-  pub on-mark : k ≡ 4 → t ≡ sign s at → t ≡ tokenOn s at
+  pub on-mark : k ≡ 4 → t ≡ sign s at → t ≡ token_on s at
   on-mark e p = rw (on, e) p
 
-  pub on-other : (k ≡ 3 → ⊥) → (k ≡ 2 → ⊥) → (k ≡ 1 → ⊥) → (k ≡ 4 → ⊥) → t ≡ special s at → t ≡ tokenOn s at
+  pub on-other : (k ≡ 3 → ⊥) → (k ≡ 2 → ⊥) → (k ≡ 1 → ⊥) → (k ≡ 4 → ⊥) → t ≡ special s at → t ≡ token_on s at
   on-other a b c d p = rw (on, ne_eqb k 3 a, ne_eqb k 2 b, ne_eqb k 1 c, ne_eqb k 4 d) p
 
 -- a token that was found, as a promise
@@ -175,6 +175,6 @@ promised s from t r e f = record {
     above n l z h = omega arith
 
 -- the next token
-pub token-told : (s : List ℕ) (from : ℕ) (r : Token) → from ≤ length s → r ≡ tokenAt s from
-    → TokenIs s from (tokenAt s from) r
-token-told s from r h q = promised s from (tokenAt s from) r q (token-found s from h)
+pub token-told : (s : List ℕ) (from : ℕ) (r : Token) → from ≤ length s → r ≡ token_at s from
+    → TokenIs s from (token_at s from) r
+token-told s from r h q = promised s from (token_at s from) r q (token-found s from h)

@@ -9,10 +9,10 @@ use lib.ListN.{length, drop, length-append, length-take, take-append-drop}
 use borrow.Author.Tests.{eqb-true, eqb-false, leb-true}
 use lib.Seq.{drop-drop}
 use Rattle.lexis.specs.Text.{byte, bytes}
-use Rattle.lexis.specs.Bytes.{is, digit, small, capital, mark, wordByte, stringByte}
+use Rattle.lexis.specs.Bytes.{is, digit, small, capital, mark, word_byte, string_byte}
 use Rattle.lexis.specs.Runs.{past, byte_at, starts_with, shaped, all, same}
-use Rattle.lexis.specs.Spelling.{Literal, wordSort, markSpellings, keywords, elementSign, booleans, datePatternSpellings, timePatternSpellings, codeStart, dateShape, trueWord, falseWord, matches, existence}
-use Rattle.lexis.specs.Tokens.{token, noToken, spelled, word, number, sign, quoted, codeEnd, bracket, special, tokenOn, typeName, name}
+use Rattle.lexis.specs.Spelling.{Literal, word_sort, mark_spellings, keywords, element_sign, booleans, date_pattern_spellings, time_pattern_spellings, code_start, date_shape, true_word, false_word, matches, existence}
+use Rattle.lexis.specs.Tokens.{token, no_token, spelled, word, number, sign, quoted, code_end, bracket, special, token_on, type_name, name}
 use Rattle.lexis.specs.Tokens
 use Rattle.lexis.specs.declared.Token.{Token}
 use Rattle.lexis.proofs.Cases.{by_cond, and_left, and_right}
@@ -27,15 +27,15 @@ use Rattle.lexis.proofs.NumeralLaws.{digit-some, date-spelled, is-grouped, code-
 
 -- what stands at a place: nothing that can be read, or a token that is spelled there
 pub data Reads (s : List ℕ) (at : ℕ) : Token → Type 0 where
-  nothing : Reads s at (noToken at)
+  nothing : Reads s at (no_token at)
   something : {sort end : ℕ} → SpelledAt Spells s at sort end → Reads s at (token sort at end)
 
 -- the literals of each list
-mark-rules : Each Spells markSpellings
+mark-rules : Each Spells mark_spellings
 mark-rules = (
-  Spells.openBrace,
+  Spells.open_brace,
   (
-    Spells.closeBrace,
+    Spells.close_brace,
     (
       Spells.comma,
       (
@@ -44,7 +44,7 @@ mark-rules = (
           Spells.bar,
           (
             Spells.dots,
-            (Spells.at_most, (Spells.less, (Spells.at_least, (Spells.greater, (Spells.plusMinus, tt))))),
+            (Spells.at_most, (Spells.less, (Spells.at_least, (Spells.greater, (Spells.plus_minus, tt))))),
           ),
         ),
       ),
@@ -52,26 +52,26 @@ mark-rules = (
   ),
 )
 
-date-rules : Each Spells datePatternSpellings
-date-rules = (Spells.datePattern1, (Spells.datePattern2, (Spells.datePattern3, (Spells.datePattern4, (Spells.datePattern5, tt)))))
+date-rules : Each Spells date_pattern_spellings
+date-rules = (Spells.date_pattern1, (Spells.date_pattern2, (Spells.date_pattern3, (Spells.date_pattern4, (Spells.date_pattern5, tt)))))
 
-time-rules : Each Spells timePatternSpellings
-time-rules = (Spells.timePattern1, (Spells.timePattern2, (Spells.timePattern3, (Spells.timePattern4, tt))))
+time-rules : Each Spells time_pattern_spellings
+time-rules = (Spells.time_pattern1, (Spells.time_pattern2, (Spells.time_pattern3, (Spells.time_pattern4, tt))))
 
 -- a word of the list of Booleans or a TYPE, a keyword or a NAME
-type-spelled : {w : List ℕ} → CapitalWord w → Spells (wordSort booleans w typeName) w
-unfolding wordSort
+type-spelled : {w : List ℕ} → CapitalWord w → Spells (word_sort booleans w type_name) w
+unfolding word_sort
 type-spelled {w} c =
-    by_cond (λ x. Spells x w) (same (bytes "True") w) (λ e. subst (Spells trueWord) (same-eq (bytes "True") w e) Spells.isTrue) (λ e.
-    by_cond (λ x. Spells x w) (same (bytes "False") w) (λ f. subst (Spells falseWord) (same-eq (bytes "False") w f) Spells.isFalse) (λ f.
-    Spells.type (record { capital = c; notTrue = λ q. same-ne _ _ e (sym q); notFalse = λ q. same-ne _ _ f (sym q) })))
+    by_cond (λ x. Spells x w) (same (bytes "True") w) (λ e. subst (Spells true_word) (same-eq (bytes "True") w e) Spells.is_true) (λ e.
+    by_cond (λ x. Spells x w) (same (bytes "False") w) (λ f. subst (Spells false_word) (same-eq (bytes "False") w f) Spells.is_false) (λ f.
+    Spells.type (record { capital = c; not_true = λ q. same-ne _ _ e (sym q); not_false = λ q. same-ne _ _ f (sym q) })))
 
-name-spelled : {w : List ℕ} → SmallWord w → Spells (wordSort keywords w name) w
-unfolding wordSort
+name-spelled : {w : List ℕ} → SmallWord w → Spells (word_sort keywords w name) w
+unfolding word_sort
 name-spelled {w} c =
     by_cond (λ x. Spells x w) (same (bytes "matches") w) (λ e. subst (Spells matches) (same-eq (bytes "matches") w e) Spells.matches) (λ e.
     by_cond (λ x. Spells x w) (same (bytes "existence") w) (λ f. subst (Spells existence) (same-eq (bytes "existence") w f) Spells.existence) (λ f.
-    Spells.name (record { small = c; notMatches = λ q. same-ne _ _ e (sym q); notExistence = λ q. same-ne _ _ f (sym q) })))
+    Spells.name (record { small = c; not_matches = λ q. same-ne _ _ e (sym q); not_existence = λ q. same-ne _ _ f (sym q) })))
 
 -- a run of bytes from a place on whose first byte passes
 record RunFrom (test : ℕ → Bool) (s : List ℕ) (at b : ℕ) : Type 0 where
@@ -100,21 +100,21 @@ module _ (s : List ℕ) (at : ℕ) (inside : at < length s) where
       → Reads s at (spelled ls at (drop at s) t)
   list-reads ls t p r = spelled-cases Spells s at (omega arith) ls p t (Reads s at) (λ sort end q. Reads.something q) r
 
-  word-reads : (b : ℕ) (bs : List ℕ) → drop at s ≡ b ∷ bs → (ls : List Literal) (given : ℕ) → wordByte b ≡ true
-      → ((w : List ℕ) → All WordByte w → Spells (wordSort ls (b ∷ w) given) (b ∷ w))
+  word-reads : (b : ℕ) (bs : List ℕ) → drop at s ≡ b ∷ bs → (ls : List Literal) (given : ℕ) → word_byte b ≡ true
+      → ((w : List ℕ) → All WordByte w → Spells (word_sort ls (b ∷ w) given) (b ∷ w))
       → Reads s at (word s ls given at)
   word-reads b bs h ls given e f =
-      let m = run-from wordByte s at b bs h e in
+      let m = run-from word_byte s at b bs h e in
       rw (m.end, part-read s at (b ∷ m.run) m.rest m.both)
-      (reads-split m.rest _ (f m.run ((is_all WordByte wordByte is-word-byte m.run).0 m.pass)) m.both refl)
+      (reads-split m.rest _ (f m.run ((is_all WordByte word_byte is-word-byte m.run).0 m.pass)) m.both refl)
 
   number-reads : (b : ℕ) (bs : List ℕ) → drop at s ≡ b ∷ bs → is digit b ≡ true → Reads s at (number s at)
   number-reads b bs h e =
-      by_cond (Reads s at) (shaped dateShape (drop at s))
-      (λ f. let l = shaped-long dateShape (drop at s) f in
+      by_cond (Reads s at) (shaped date_shape (drop at s))
+      (λ f. let l = shaped-long date_shape (drop at s) f in
       reads-split (drop 10 (drop at s)) (at + 10) (date-spelled (drop at s) f) (sym (take-append-drop 10 (drop at s))) (let n = length-take 10 (drop at s) in omega arith))
       (λ f. let m = run-from (is digit) s at b bs h e in
-      reads-split m.rest _ (Spells.plainInteger (Digits.digits ((is_digit b).0 e) ((is_all Digit (is digit) is_digit m.run).0 m.pass))) m.both m.end)
+      reads-split m.rest _ (Spells.plain_integer (Digits.digits ((is_digit b).0 e) ((is_all Digit (is digit) is_digit m.run).0 m.pass))) m.both m.end)
 
   signed_reads : byte_at s at ≡ byte "-" → is digit (byte_at s (at + 1)) ≡ true
       → Reads s at (token Tokens.integer at (past (is digit) (at + 1) (drop (at + 1) s)))
@@ -123,7 +123,7 @@ module _ (s : List ℕ) (at : ℕ) (inside : at < length s) where
       let g = (is_digit d).0 k in
       let m = run-from (is digit) s (at + 1) d _ (drop-in s (at + 1) (byte_inside s (at + 1) d refl (digit-some g))) k in
       let h : drop at s ≡ (byte "-" ∷ d ∷ m.run) ++ m.rest = drop-in s at inside ∙ (λ i. e i ∷ m.both i) in
-      reads-split m.rest _ (Spells.signedInteger (Digits.digits g ((is_all Digit (is digit) is_digit m.run).0 m.pass))) h (m.end ∙ omega arith)
+      reads-split m.rest _ (Spells.signed_integer (Digits.digits g ((is_all Digit (is digit) is_digit m.run).0 m.pass))) h (m.end ∙ omega arith)
 
   sign_reads : Reads s at (sign s at)
   sign_reads =
@@ -131,23 +131,23 @@ module _ (s : List ℕ) (at : ℕ) (inside : at < length s) where
       let y = is digit (byte_at s (at + 1)) in
       by_cond (Reads s at) (x && y)
       (λ e. signed_reads (eqb-true _ _ (and_left x y e)) (and_right x y e))
-      (λ e. list-reads markSpellings (noToken at) mark-rules Reads.nothing)
+      (λ e. list-reads mark_spellings (no_token at) mark-rules Reads.nothing)
 
   quoted-reads : byte_at s at ≡ byte "\"" → Reads s at (quoted s at)
   quoted-reads e =
-      by_cond (Reads s at) (eqb (byte_at s (past stringByte (at + 1) (drop (at + 1) s))) (byte "\""))
+      by_cond (Reads s at) (eqb (byte_at s (past string_byte (at + 1) (drop (at + 1) s))) (byte "\""))
       (λ f. Reads.something (string-here Spells (λ w. Spells.string) s at inside e (eqb-true _ _ f)))
       (λ f. Reads.nothing)
 
   bracket-reads : Reads s at (bracket s at)
   bracket-reads =
-      by_cond (Reads s at) (starts_with codeStart (drop at s))
+      by_cond (Reads s at) (starts_with code_start (drop at s))
       (λ e.
-      by_cond (Reads s at) (eqb (codeEnd false (at + 3) (drop (at + 3) s)) 0) (λ f. Reads.nothing) (λ f.
+      by_cond (Reads s at) (eqb (code_end false (at + 3) (drop (at + 3) s)) 0) (λ f. Reads.nothing) (λ f.
       let m = code-split false (at + 3) (drop (at + 3) s) (eqb-false _ 0 f) in
       let z = byte "]" in
       let n : drop (at + 3) s ≡ m.run ++ (z ∷ []) ++ m.rest = m.both ∙ sym (append_assoc m.run (z ∷ []) m.rest) in
-      let h : drop at s ≡ (codeStart ++ (m.run ++ (z ∷ []))) ++ m.rest = starts-whole codeStart (drop at s) e ∙ ap (λ l. codeStart ++ l) (drop-drop 3 at s ∙ n) in
+      let h : drop at s ≡ (code_start ++ (m.run ++ (z ∷ []))) ++ m.rest = starts-whole code_start (drop at s) e ∙ ap (λ l. code_start ++ l) (drop-drop 3 at s ∙ n) in
       let l = length-append m.run (z ∷ []) in
       let k = m.end in
       reads-split m.rest _ (Spells.code ((is-grouped m.run).0 m.pass)) h (omega arith)))
@@ -156,21 +156,21 @@ module _ (s : List ℕ) (at : ℕ) (inside : at < length s) where
   special-reads : Reads s at (special s at)
   special-reads =
       by_cond (Reads s at) (eqb (byte_at s at) (byte "\"")) (λ e. quoted-reads (eqb-true _ _ e)) (λ e.
-      by_cond (Reads s at) (eqb (byte_at s at) (byte "[")) (λ f. bracket-reads) (λ f. list-reads elementSign (noToken at) (Spells.element, tt) Reads.nothing))
+      by_cond (Reads s at) (eqb (byte_at s at) (byte "[")) (λ f. bracket-reads) (λ f. list-reads element_sign (no_token at) (Spells.element, tt) Reads.nothing))
 
   -- the token that starts at the place
-  pub on-reads : Reads s at (tokenOn s at)
-  unfolding tokenOn
+  pub on-reads : Reads s at (token_on s at)
+  unfolding token_on
   on-reads =
       let b = byte_at s at in
       let bs = drop (at + 1) s in
       let h = drop-in s at inside in
       by_cond (Reads s at) (leb (length s) at) (λ e. let l = leb-true (length s) at e in absurd (omega arith)) (λ e.
       by_cond (Reads s at) (is capital b)
-      (λ k. list-reads timePatternSpellings _ time-rules
-      (word-reads b bs h booleans typeName (capital-word b k) (λ w a. type-spelled (CapitalWord.capitalWord ((is-capital b).0 k) a)))) (λ k.
+      (λ k. list-reads time_pattern_spellings _ time-rules
+      (word-reads b bs h booleans type_name (capital-word b k) (λ w a. type-spelled (CapitalWord.capital_word ((is-capital b).0 k) a)))) (λ k.
       by_cond (Reads s at) (is small b)
-      (λ l. list-reads datePatternSpellings _ date-rules
-      (word-reads b bs h keywords name (small_word b l) (λ w a. name-spelled (SmallWord.smallWord ((is-small b).0 l) a)))) (λ l.
+      (λ l. list-reads date_pattern_spellings _ date-rules
+      (word-reads b bs h keywords name (small_word b l) (λ w a. name-spelled (SmallWord.small_word ((is-small b).0 l) a)))) (λ l.
       by_cond (Reads s at) (is digit b) (number-reads b bs h) (λ m.
       by_cond (Reads s at) (is mark b) (λ n. sign_reads) (λ n. special-reads)))))

@@ -36,8 +36,8 @@ blanks = bytes " \t\r\n"
 abbrev pub marks : List ℕ
 marks = bytes "{},*|.<>=+/-"
 
-unfoldable pub sortOf : ℕ → ℕ
-sortOf b =
+unfoldable pub sort_of : ℕ → ℕ
+sort_of b =
     cond (among b blanks) blank
     (cond (within (byte "0") (byte "9") b) digit
     (cond (within (byte "a") (byte "z") b) small
@@ -45,20 +45,20 @@ sortOf b =
     (cond (among b marks) mark other))))
 
 abbrev pub is : ℕ → ℕ → Bool
-is sort b = eqb (sortOf b) sort
+is sort b = eqb (sort_of b) sort
 
 -- letters, digits and `_`: what goes on in a TYPE or a NAME
-unfoldable pub wordByte : ℕ → Bool
-wordByte b = is small b || is capital b || is digit b || eqb b (byte "_")
+unfoldable pub word_byte : ℕ → Bool
+word_byte b = is small b || is capital b || is digit b || eqb b (byte "_")
 
 -- what a string holds: 20 to 7E hex except `"` and `\`
-unfoldable pub stringByte : ℕ → Bool
-stringByte b = within 0x20 0x7E b && cond (among b (bytes "\"\\")) false true
+unfoldable pub string_byte : ℕ → Bool
+string_byte b = within 0x20 0x7E b && cond (among b (bytes "\"\\")) false true
 
 -- what a run of data text holds: letters, digits, `_ + - . :`
-unfoldable pub runByte : ℕ → Bool
-runByte b = wordByte b || among b (bytes "+-.:")
+unfoldable pub run_byte : ℕ → Bool
+run_byte b = word_byte b || among b (bytes "+-.:")
 
 -- CR and LF end a comment
-unfoldable pub lineEnd : ℕ → Bool
-lineEnd b = among b (bytes "\r\n")
+unfoldable pub line_end : ℕ → Bool
+line_end b = among b (bytes "\r\n")

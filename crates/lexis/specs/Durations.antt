@@ -7,24 +7,24 @@ use Rattle.lexis.specs.Bytes.{is, digit, within}
 use Rattle.lexis.specs.Runs.{past, byte_at}
 
 -- how many bytes the slot of a letter has with which these bytes begin, 0 where they begin with none: in a pattern the letter
-unfoldable pub letterSlot : ℕ → List ℕ → ℕ
-letterSlot letter [] = 0
-letterSlot letter (b ∷ bs) = cond (eqb b letter) 1 0
+unfoldable pub letter_slot : ℕ → List ℕ → ℕ
+letter_slot letter [] = 0
+letter_slot letter (b ∷ bs) = cond (eqb b letter) 1 0
 
 -- a byte is a small letter, or that letter as a capital
-abbrev pub inEitherCase : ℕ → ℕ → Bool
-inEitherCase letter b = eqb b letter || eqb (b + 32) letter
+abbrev pub in_either_case : ℕ → ℕ → Bool
+in_either_case letter b = eqb b letter || eqb (b + 32) letter
 
 -- behind so many digits: the letter in either case
-unfoldable pub letterBehind : ℕ → ℕ → List ℕ → ℕ
-letterBehind digits letter [] = 0
-letterBehind digits letter (b ∷ bs) = cond (inEitherCase letter b) (digits + 1) 0
+unfoldable pub letter_behind : ℕ → ℕ → List ℕ → ℕ
+letter_behind digits letter [] = 0
+letter_behind digits letter (b ∷ bs) = cond (in_either_case letter b) (digits + 1) 0
 
 -- in a word one to four digits and the letter
-unfoldable pub digitSlot : ℕ → List ℕ → ℕ
-digitSlot letter bs =
+unfoldable pub digit_slot : ℕ → List ℕ → ℕ
+digit_slot letter bs =
     let digits = past (is digit) 0 bs in
-    cond (within 1 4 digits) (letterBehind digits letter (drop digits bs)) 0
+    cond (within 1 4 digits) (letter_behind digits letter (drop digits bs)) 0
 
 -- what a walk over slots has come to: the slots filled, as a flag, and the bytes behind them
 pub record Filled : Type 0 where
@@ -41,34 +41,34 @@ fill slot bit letter x =
     cond (eqb size 0) x (filled (x.flag + bit) (drop size x.rest))
 
 -- slots of these letters in this order, each at most once; the first letter has the bit given, each other twice that before it
-unfoldable pub fillAll : (ℕ → List ℕ → ℕ) → ℕ → List ℕ → Filled → Filled
-fillAll slot bit [] x = x
-fillAll slot bit (letter ∷ letters) x = fillAll slot (bit * 2) letters (fill slot bit letter x)
+unfoldable pub fill_all : (ℕ → List ℕ → ℕ) → ℕ → List ℕ → Filled → Filled
+fill_all slot bit [] x = x
+fill_all slot bit (letter ∷ letters) x = fill_all slot (bit * 2) letters (fill slot bit letter x)
 
-abbrev pub noneLeft : Filled → Bool
-noneLeft x = eqb (length x.rest) 0
+abbrev pub none_left : Filled → Bool
+none_left x = eqb (length x.rest) 0
 
 -- behind T: slots, one at least, and the end
-unfoldable pub behindTime : (ℕ → List ℕ → ℕ) → ℕ → List ℕ → ℕ
-behindTime slot flag bs =
-    let x = fillAll slot 16 (bytes "hms") (filled 0 bs) in
-    cond (noneLeft x && leb 1 x.flag) (flag + x.flag) 0
+unfoldable pub behind_time : (ℕ → List ℕ → ℕ) → ℕ → List ℕ → ℕ
+behind_time slot flag bs =
+    let x = fill_all slot 16 (bytes "hms") (filled 0 bs) in
+    cond (none_left x && leb 1 x.flag) (flag + x.flag) 0
 
 -- behind the slots before T: the end, or T
-unfoldable pub behindDate : (ℕ → List ℕ → ℕ) → Filled → ℕ
-behindDate slot x =
-    cond (noneLeft x) x.flag
-    (cond (eqb (byte_at x.rest 0) (byte "T")) (behindTime slot x.flag (drop 1 x.rest)) 0)
+unfoldable pub behind_date : (ℕ → List ℕ → ℕ) → Filled → ℕ
+behind_date slot x =
+    cond (none_left x) x.flag
+    (cond (eqb (byte_at x.rest 0) (byte "T")) (behind_time slot x.flag (drop 1 x.rest)) 0)
 
 -- P and slots: the slots filled, as a flag; 0 where that is not how the bytes are spelled
 unfoldable pub slots_of : (ℕ → List ℕ → ℕ) → List ℕ → ℕ
 slots_of slot w =
-    cond (eqb (byte_at w 0) (byte "P")) (behindDate slot (fillAll slot 1 (bytes "ymwd") (filled 0 (drop 1 w)))) 0
+    cond (eqb (byte_at w 0) (byte "P")) (behind_date slot (fill_all slot 1 (bytes "ymwd") (filled 0 (drop 1 w)))) 0
 
 -- the flag of the Duration pattern that is spelled so, 0 for none
-unfoldable pub patternSlots : List ℕ → ℕ
-patternSlots w = slots_of letterSlot w
+unfoldable pub pattern_slots : List ℕ → ℕ
+pattern_slots w = slots_of letter_slot w
 
 -- the sort of a Duration pattern, where a value may stand, is 100 and its flag
-abbrev pub durationPattern : ℕ
-durationPattern = 100
+abbrev pub duration_pattern : ℕ
+duration_pattern = 100

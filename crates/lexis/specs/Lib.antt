@@ -9,4 +9,4 @@ pub mod DataTokens
 pub mod SpellingRules
 pub mod DurationRules
 pub mod LongestMatch
-pub mod contracts
+pub mod Clauses

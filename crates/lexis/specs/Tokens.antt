@@ -4,22 +4,22 @@
 -- Assumes nothing.
 use Rattle.std.specs.Prelude.{Bool, false, cond, ◌&&◌, ◌||◌, List, [], ◌∷◌, ℕ, ◌+◌, ◌-◌, eqb, leb, length, drop}
 use Rattle.lexis.specs.Text.{byte}
-use Rattle.lexis.specs.Bytes.{is, digit, small, capital, mark, wordByte, stringByte}
+use Rattle.lexis.specs.Bytes.{is, digit, small, capital, mark, word_byte, string_byte}
 use Rattle.lexis.specs.Runs.{past, byte_at, part, starts_with, shaped}
-use Rattle.lexis.specs.Blanks.{tokenStart}
-use Rattle.lexis.specs.Spelling.{Literal, closeBrace, wordSort, markSpellings, keywords, elementSign, booleans, datePatternSpellings, timePatternSpellings, codeStart, dateShape}
-use Rattle.lexis.specs.Durations.{patternSlots, durationPattern}
+use Rattle.lexis.specs.Blanks.{token_start}
+use Rattle.lexis.specs.Spelling.{Literal, close_brace, word_sort, mark_spellings, keywords, element_sign, booleans, date_pattern_spellings, time_pattern_spellings, code_start, date_shape}
+use Rattle.lexis.specs.Durations.{pattern_slots, duration_pattern}
 use Rattle.lexis.specs.declared.Token.{Token}
 
 -- the sorts of tokens that are spelled in many ways
-abbrev pub textEnd : ℕ
-textEnd = 0
+abbrev pub text_end : ℕ
+text_end = 0
 
 abbrev pub unreadable : ℕ
 unreadable = 1
 
-abbrev pub typeName : ℕ
-typeName = 2
+abbrev pub type_name : ℕ
+type_name = 2
 
 abbrev pub name : ℕ
 name = 3
@@ -47,8 +47,8 @@ abbrev pub inner : List ℕ → Token → List ℕ
 inner s t = part s (t.start + 1) (t.end - 1)
 
 -- nothing that can be read starts at a place: the place is the token's
-abbrev pub noToken : ℕ → Token
-noToken at = token unreadable at at
+abbrev pub no_token : ℕ → Token
+no_token at = token unreadable at at
 
 -- the first of these spellings with which the bytes at a place begin, or else another token
 unfoldable pub spelled : List Literal → ℕ → List ℕ → Token → Token
@@ -60,71 +60,71 @@ spelled (l ∷ ls) at bs t =
 -- a word from a place on: a spelling of the list, or else of the sort given
 abbrev pub word : List ℕ → List Literal → ℕ → ℕ → Token
 word s ls sort at =
-    let end = past wordByte at (drop at s) in
-    token (wordSort ls (part s at end) sort) at end
+    let end = past word_byte at (drop at s) in
+    token (word_sort ls (part s at end) sort) at end
 
 -- date: four digits, `-`, two, `-`, two; integer: digits
 abbrev pub number : List ℕ → ℕ → Token
 number s at =
-    cond (shaped dateShape (drop at s)) (token date at (at + 10)) (token integer at (past (is digit) at (drop at s)))
+    cond (shaped date_shape (drop at s)) (token date at (at + 10)) (token integer at (past (is digit) at (drop at s)))
 
 -- integer: `-` and digits; else a mark
 abbrev pub sign : List ℕ → ℕ → Token
 sign s at =
     cond (eqb (byte_at s at) (byte "-") && is digit (byte_at s (at + 1)))
     (token integer at (past (is digit) (at + 1) (drop (at + 1) s)))
-    (spelled markSpellings at (drop at s) (noToken at))
+    (spelled mark_spellings at (drop at s) (no_token at))
 
 -- string: `"`, bytes of strings, `"`
 abbrev pub quoted : List ℕ → ℕ → Token
 quoted s at =
-    let end = past stringByte (at + 1) (drop (at + 1) s) in
-    cond (eqb (byte_at s end) (byte "\"")) (token string at (end + 1)) (noToken at)
+    let end = past string_byte (at + 1) (drop (at + 1) s) in
+    cond (eqb (byte_at s end) (byte "\"")) (token string at (end + 1)) (no_token at)
 
 -- behind `[at`: digits, then any number of dot and digits, then `]`; the place behind it, or 0. `some` says that a digit stands before.
-unfoldable pub codeEnd : Bool → ℕ → List ℕ → ℕ
-codeEnd some at [] = 0
-codeEnd some at (b ∷ bs) =
-    let more = codeEnd (is digit b) (at + 1) bs in
+unfoldable pub code_end : Bool → ℕ → List ℕ → ℕ
+code_end some at [] = 0
+code_end some at (b ∷ bs) =
+    let more = code_end (is digit b) (at + 1) bs in
     cond (is digit b || eqb b (byte ".") && some) more (cond (eqb b (byte "]") && some) (at + 1) 0)
 
-abbrev pub codeTo : ℕ → ℕ → Token
-codeTo at end = cond (eqb end 0) (noToken at) (token code at end)
+abbrev pub code_to : ℕ → ℕ → Token
+code_to at end = cond (eqb end 0) (no_token at) (token code at end)
 
 -- code: one token with its brackets
 abbrev pub bracket : List ℕ → ℕ → Token
 bracket s at =
-    cond (starts_with codeStart (drop at s)) (codeTo at (codeEnd false (at + 3) (drop (at + 3) s))) (noToken at)
+    cond (starts_with code_start (drop at s)) (code_to at (code_end false (at + 3) (drop (at + 3) s))) (no_token at)
 
 -- a byte of no sort but `other` starts a string, a code or the sign ∈
 abbrev pub special : List ℕ → ℕ → Token
 special s at =
     cond (eqb (byte_at s at) (byte "\"")) (quoted s at)
-    (cond (eqb (byte_at s at) (byte "[")) (bracket s at) (spelled elementSign at (drop at s) (noToken at)))
+    (cond (eqb (byte_at s at) (byte "[")) (bracket s at) (spelled element_sign at (drop at s) (no_token at)))
 
 -- the token that starts at a place
-unfoldable pub tokenOn : List ℕ → ℕ → Token
-tokenOn s at =
-    cond (leb (length s) at) (token textEnd at at)
-    (cond (is capital (byte_at s at)) (spelled timePatternSpellings at (drop at s) (word s booleans typeName at))
-    (cond (is small (byte_at s at)) (spelled datePatternSpellings at (drop at s) (word s keywords name at))
+unfoldable pub token_on : List ℕ → ℕ → Token
+token_on s at =
+    cond (leb (length s) at) (token text_end at at)
+    (cond (is capital (byte_at s at)) (spelled time_pattern_spellings at (drop at s) (word s booleans type_name at))
+    (cond (is small (byte_at s at)) (spelled date_pattern_spellings at (drop at s) (word s keywords name at))
     (cond (is digit (byte_at s at)) (number s at)
     (cond (is mark (byte_at s at)) (sign s at) (special s at)))))
 
 -- the next token, from a place on
-unfoldable pub tokenAt : List ℕ → ℕ → Token
-tokenAt s from = tokenOn s (tokenStart s from)
+unfoldable pub token_at : List ℕ → ℕ → Token
+token_at s from = token_on s (token_start s from)
 
 -- the flag of the Duration pattern that a TYPE is spelled as, 0 for none
-abbrev pub durationFlag : List ℕ → Token → ℕ
-durationFlag s t = cond (eqb t.sort typeName) (patternSlots (spelling s t)) 0
+abbrev pub duration_flag : List ℕ → Token → ℕ
+duration_flag s t = cond (eqb t.sort type_name) (pattern_slots (spelling s t)) 0
 
 -- a token, or the Duration pattern of a flag above 0 in its place where `}` follows
-abbrev pub patternOr : List ℕ → Token → ℕ → Token
-patternOr s t flag =
-    cond (leb 1 flag && eqb (tokenAt s t.end).sort closeBrace)
-    (token (durationPattern + flag) t.start t.end) t
+abbrev pub pattern_or : List ℕ → Token → ℕ → Token
+pattern_or s t flag =
+    cond (leb 1 flag && eqb (token_at s t.end).sort close_brace)
+    (token (duration_pattern + flag) t.start t.end) t
 
 -- the next token where a value may stand: a TYPE that is spelled as a Duration pattern is the pattern where `}` follows
-unfoldable pub contentTokenAt : List ℕ → ℕ → Token
-contentTokenAt s from = let t = tokenAt s from in patternOr s t (durationFlag s t)
+unfoldable pub content_token_at : List ℕ → ℕ → Token
+content_token_at s from = let t = token_at s from in pattern_or s t (duration_flag s t)

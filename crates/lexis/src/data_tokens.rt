@@ -1,9 +1,9 @@
 // Tokens of data text.
 ghost use Rattle.std.specs.Prelude.{◌≡◌, ◌≤◌, ◌<◌, length, drop};
-ghost use Rattle.lexis.specs.Bytes.{wordByte, runByte};
+ghost use Rattle.lexis.specs.Bytes.{word_byte, run_byte};
 ghost use Rattle.lexis.specs.Runs.{past, all};
-ghost use Rattle.lexis.specs.DataTokens.{nameSort, run, dataTokenOn, dataTokenAt, typeTokenAt};
-ghost use Rattle.lexis.specs.contracts.Answers.{words_of, sorting, PlaceIs, WordEnds, StartsAlike, isMark, TokenIs};
+ghost use Rattle.lexis.specs.DataTokens.{name_sort, run, data_token_on, data_token_at, type_token_at};
+ghost use Rattle.lexis.specs.Clauses.Answers.{words_of, sorting, PlaceIs, WordEnds, StartsAlike, is_mark, TokenIs};
 
 use crate::reader::{Tokens, token_from};
 use crate::runs::{Class, past_run};
@@ -17,8 +17,8 @@ use crate::{
 
 // The sort of a run that is a word of the sort given, unless the list spells it; else it is unreadable. `whole` says that it is a word.
 fn name_sort(w: &[u8], f: Words, sort: u8, whole: bool) -> u8
-    requires { whole ≡ all wordByte w.now }
-    ensures { result ≡ nameSort (words_of f) sort w.now }
+    requires { whole ≡ all word_byte w.now }
+    ensures { result ≡ name_sort (words_of f) sort w.now }
 {
     if !whole {
         return UNREADABLE;
@@ -31,7 +31,7 @@ fn name_sort(w: &[u8], f: Words, sort: u8, whole: bool) -> u8
 
 // The sort of a run by its bytes and its first byte, behind `(` or elsewhere.
 fn run_sort(w: &[u8], first: u8, behind: bool, whole: bool) -> u8
-    requires { whole ≡ all wordByte w.now }
+    requires { whole ≡ all word_byte w.now }
     ensures { result ≡ sorting behind w.now first }
 {
     if behind {
@@ -49,7 +49,7 @@ fn run_sort(w: &[u8], first: u8, behind: bool, whole: bool) -> u8
 // The end of the run that goes on where a word ends.
 fn run_end(s: &[u8], at: usize) -> usize
     requires { WordEnds s.now at }
-    ensures { PlaceIs s.now at (past runByte at (drop at s.now)) result }
+    ensures { PlaceIs s.now at (past run_byte at (drop at s.now)) result }
 {
     if !run_mark(byte_at(s, at)) {
         return at;
@@ -75,7 +75,7 @@ fn run(s: &[u8], at: usize, behind: bool) -> Token
 // The token that starts at a place; the text's end is a token.
 pub fn data_token_on(s: &[u8], at: usize, behind: bool) -> Token
     requires { at ≤ length s.now }
-    ensures { result ≡ dataTokenOn (sorting behind) s.now at }
+    ensures { result ≡ data_token_on (sorting behind) s.now at }
 {
     if s.len() <= at {
         return Token {
@@ -96,7 +96,7 @@ pub fn data_token_on(s: &[u8], at: usize, behind: bool) -> Token
 // The next token of data text, from a place on.
 pub fn data_token_at(s: &[u8], from: usize) -> Token
     requires { from ≤ length s.now }
-    ensures { TokenIs s.now from (dataTokenAt s.now from) result }
+    ensures { TokenIs s.now from (data_token_at s.now from) result }
 {
     token_from(s, from, Tokens::Data)
 }
@@ -104,7 +104,7 @@ pub fn data_token_at(s: &[u8], from: usize) -> Token
 // The next token of data text, from a place behind `(` on.
 pub fn type_token_at(s: &[u8], from: usize) -> Token
     requires { from ≤ length s.now }
-    ensures { TokenIs s.now from (typeTokenAt s.now from) result }
+    ensures { TokenIs s.now from (type_token_at s.now from) result }
 {
     token_from(s, from, Tokens::Behind)
 }
@@ -122,7 +122,7 @@ fn behind_space(s: &[u8], from: usize) -> usize
 
 // The byte is the mark of that sort.
 fn is_mark(b: u8, sort: u8) -> bool
-    ensures { result ≡ isMark b sort }
+    ensures { result ≡ is_mark b sort }
 {
     match sort {
         LESS => b == b'<',
@@ -137,7 +137,7 @@ fn is_mark(b: u8, sort: u8) -> bool
 // The next token of data text, from a place on: quick where it is a mark of one of two sorts, at the place or behind a space there.
 pub fn mark_token_at(s: &[u8], from: usize, first: u8, second: u8) -> Token
     requires { from ≤ length s.now }
-    ensures { TokenIs s.now from (dataTokenAt s.now from) result }
+    ensures { TokenIs s.now from (data_token_at s.now from) result }
 {
     let at = behind_space(s, from);
     let b = byte_at(s, at);
@@ -161,7 +161,7 @@ pub fn mark_token_at(s: &[u8], from: usize, first: u8, second: u8) -> Token
 // The next token of data text, from a place on: quick where it is a string or a run of digits, at the place.
 pub fn value_token_at(s: &[u8], from: usize) -> Token
     requires { from ≤ length s.now }
-    ensures { TokenIs s.now from (dataTokenAt s.now from) result }
+    ensures { TokenIs s.now from (data_token_at s.now from) result }
 {
     let b = byte_at(s, from);
     if b == b'"' {

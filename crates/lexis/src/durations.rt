@@ -1,8 +1,8 @@
 // Slots of durations: a pattern's are letters, a word's digits and letters. One walk reads both.
 ghost use Rattle.std.specs.Prelude.{◌≡◌, ◌+◌, ◌≤◌, length, drop};
 ghost use Rattle.lexis.specs.Text.{bytes};
-ghost use Rattle.lexis.specs.Durations.{inEitherCase, letterSlot, digitSlot, filled, fill, fillAll, behindTime, slots_of, patternSlots};
-ghost use Rattle.lexis.specs.contracts.Answers.{slot_by, SlotIs, filledAt, FillRoom, FillIs, FlagIs};
+ghost use Rattle.lexis.specs.Durations.{in_either_case, letter_slot, digit_slot, filled, fill, fill_all, behind_time, slots_of, pattern_slots};
+ghost use Rattle.lexis.specs.Clauses.Answers.{slot_by, SlotIs, filled_at, FillRoom, FillIs, FlagIs};
 
 use crate::runs::{Class, past_run};
 
@@ -21,7 +21,7 @@ const MOST_DIGITS: usize = 4;
 
 // The byte is the letter, or the letter as a capital.
 fn in_either_case(letter: u8, b: u8) -> bool
-    ensures { result ≡ inEitherCase letter b }
+    ensures { result ≡ in_either_case letter b }
 {
     if b == letter {
         return true;
@@ -32,7 +32,7 @@ fn in_either_case(letter: u8, b: u8) -> bool
 // How many bytes a slot of a pattern has at a place, 0 where it does not stand there.
 fn letter_slot(w: &[u8], at: usize, letter: u8) -> usize
     requires { at ≤ length w.now }
-    ensures { SlotIs w.now at (letterSlot letter (drop at w.now)) result }
+    ensures { SlotIs w.now at (letter_slot letter (drop at w.now)) result }
 {
     if at == w.len() {
         return 0;
@@ -46,7 +46,7 @@ fn letter_slot(w: &[u8], at: usize, letter: u8) -> usize
 // How many bytes a slot of a word has at a place, 0 where it does not stand there.
 fn digit_slot(w: &[u8], at: usize, letter: u8) -> usize
     requires { at ≤ length w.now }
-    ensures { SlotIs w.now at (digitSlot letter (drop at w.now)) result }
+    ensures { SlotIs w.now at (digit_slot letter (drop at w.now)) result }
 {
     let end = past_run(w, at, Class::Digit);
     let digits = end - at;
@@ -80,7 +80,7 @@ fn slot(w: &[u8], at: usize, letter: u8, digits: bool) -> usize
 fn fill(w: &[u8], x: Slots, bit: u8, letter: u8, digits: bool) -> Slots
     requires { FillRoom w.now x bit }
     ensures { FillIs w.now (x.flag + bit)
-        (fill (slot_by digits) bit letter (filledAt w.now x)) result }
+        (fill (slot_by digits) bit letter (filled_at w.now x)) result }
 {
     let size = slot(w, x.at, letter, digits);
     if size == 0 {
@@ -96,7 +96,7 @@ fn fill(w: &[u8], x: Slots, bit: u8, letter: u8, digits: bool) -> Slots
 fn fill_dates(w: &[u8], at: usize, digits: bool) -> Slots
     requires { at ≤ length w.now }
     ensures { FillIs w.now 15
-        (fillAll (slot_by digits) 1 (bytes "ymwd") (filled 0 (drop at w.now))) result }
+        (fill_all (slot_by digits) 1 (bytes "ymwd") (filled 0 (drop at w.now))) result }
 {
     let none = Slots { flag: 0, at };
     let years = fill(w, none, 1, b'y', digits);
@@ -109,7 +109,7 @@ fn fill_dates(w: &[u8], at: usize, digits: bool) -> Slots
 fn fill_times(w: &[u8], at: usize, digits: bool) -> Slots
     requires { at ≤ length w.now }
     ensures { FillIs w.now 112
-        (fillAll (slot_by digits) 16 (bytes "hms") (filled 0 (drop at w.now))) result }
+        (fill_all (slot_by digits) 16 (bytes "hms") (filled 0 (drop at w.now))) result }
 {
     let none = Slots { flag: 0, at };
     let hours = fill(w, none, 16, b'h', digits);
@@ -121,7 +121,7 @@ fn fill_times(w: &[u8], at: usize, digits: bool) -> Slots
 fn behind_time(w: &[u8], at: usize, flag: u8, digits: bool) -> u8
     requires at_in_bounds { at ≤ length w.now }
     requires flag_bound { flag ≤ 15 }
-    ensures { FlagIs (behindTime (slot_by digits) flag (drop at w.now)) result }
+    ensures { FlagIs (behind_time (slot_by digits) flag (drop at w.now)) result }
 {
     let x = fill_times(w, at, digits);
     if x.at < w.len() {
@@ -156,14 +156,14 @@ fn slots_of(w: &[u8], digits: bool) -> u8
 
 // The flag of the Duration pattern that is spelled so, 0 for none.
 pub fn pattern_slots(w: &[u8]) -> u8
-    ensures { FlagIs (patternSlots w.now) result }
+    ensures { FlagIs (pattern_slots w.now) result }
 {
     slots_of(w, false)
 }
 
 // The slots that a duration word without a sign fills, as a flag; 0 where it is none.
 pub fn word_slots(w: &[u8]) -> u8
-    ensures { FlagIs (slots_of digitSlot w.now) result }
+    ensures { FlagIs (slots_of digit_slot w.now) result }
 {
     slots_of(w, true)
 }

@@ -1,6 +1,6 @@
 // The lexical layer: where tokens start and end in constraint text and in data text, and of which sort they are.
 ghost use Rattle.std.specs.Prelude.{◌≡◌};
-ghost use Rattle.lexis.specs.Tokens.{noToken};
+ghost use Rattle.lexis.specs.Tokens.{no_token};
 
 pub mod data_tokens;
 pub mod durations;
@@ -83,7 +83,7 @@ pub const DURATION_PATTERN: u8 = 100;
 
 // What stands at a place where nothing can be read: a token without bytes.
 pub fn no_token(at: usize) -> Token
-    ensures { result ≡ noToken at }
+    ensures { result ≡ no_token at }
 {
     Token {
         sort: UNREADABLE,

@@ -1,6 +1,6 @@
 // The token reader: it holds the text that it reads and its place. Each function over it takes it apart or makes it, and leaves the work to `token_of`.
 ghost use Rattle.std.specs.Prelude.{◌≡◌};
-ghost use Rattle.lexis.specs.contracts.Answers.{behindOf, tokenBy};
+ghost use Rattle.lexis.specs.Clauses.Answers.{behind_of, token_by};
 
 use crate::data_tokens::data_token_on;
 use crate::runs::token_start;
@@ -23,7 +23,7 @@ pub struct Reader<'a> {
 
 // The tokens are those behind `(`.
 fn behind(tokens: Tokens) -> bool
-    ensures { result ≡ behindOf tokens }
+    ensures { result ≡ behind_of tokens }
 {
     match tokens {
         Tokens::Constraint => false,
@@ -34,7 +34,7 @@ fn behind(tokens: Tokens) -> bool
 
 // The next token of a text, from a place on.
 fn token_of(s: &[u8], from: usize, tokens: Tokens) -> Token
-    ensures { result ≡ tokenBy tokens s.now from }
+    ensures { result ≡ token_by tokens s.now from }
 {
     if s.len() < from {
         return Token {
@@ -59,14 +59,14 @@ pub fn reader_at<'a>(text: &'a [u8], place: usize) -> Reader<'a>
 
 // The next token, from the reader's place on.
 pub fn next<'a>(r: Reader<'a>, tokens: Tokens) -> Token
-    ensures { result ≡ tokenBy tokens r.entry.text.now r.entry.place }
+    ensures { result ≡ token_by tokens r.entry.text.now r.entry.place }
 {
     token_of(r.text, r.place, tokens)
 }
 
 // The next token of a text from a place on, by a reader.
 pub fn token_from(s: &[u8], from: usize, tokens: Tokens) -> Token
-    ensures { result ≡ tokenBy tokens s.now from }
+    ensures { result ≡ token_by tokens s.now from }
 {
     next(reader_at(s, from), tokens)
 }

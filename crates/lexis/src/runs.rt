@@ -1,8 +1,8 @@
 // Runs of bytes, blanks and comments, and bytes compared with what is spelled.
 ghost use Rattle.std.specs.Prelude.{◌≡◌, ◌+◌, ◌≤◌, ◌<◌, length, drop};
 ghost use Rattle.lexis.specs.Runs.{past, byte_at, same, starts_with, shaped};
-ghost use Rattle.lexis.specs.Blanks.{tokenStart};
-ghost use Rattle.lexis.specs.contracts.Answers.{PlaceIs, test_of, commentOpen, tokenHere, admits, beginsBy};
+ghost use Rattle.lexis.specs.Blanks.{token_start};
+ghost use Rattle.lexis.specs.Clauses.Answers.{PlaceIs, test_of, comment_open, token_here, admits, begins_by};
 
 use crate::sorts::{byte_at, is_blank, is_digit, line_end, run_byte, string_byte, word_byte};
 
@@ -45,7 +45,7 @@ pub fn past_run(s: &[u8], from: usize, c: Class) -> usize
 // Whether a comment is open behind the byte at a place, by whether one is open before it.
 fn comment_open(s: &[u8], at: usize, inside: bool) -> bool
     requires { at < length s.now }
-    ensures { result ≡ commentOpen inside (byte_at s.now at) (drop (at + 1) s.now) }
+    ensures { result ≡ comment_open inside (byte_at s.now at) (drop (at + 1) s.now) }
 {
     if inside {
         return !line_end(s[at]);
@@ -59,7 +59,7 @@ fn comment_open(s: &[u8], at: usize, inside: bool) -> bool
 // Whether a token starts at a byte: no comment is open before it or behind it, and it is no blank. No byte above `-` is a blank or opens a comment.
 fn token_here(s: &[u8], at: usize, inside: bool) -> bool
     requires { at < length s.now }
-    ensures { result ≡ tokenHere inside (byte_at s.now at) (drop (at + 1) s.now) }
+    ensures { result ≡ token_here inside (byte_at s.now at) (drop (at + 1) s.now) }
 {
     if inside {
         return false;
@@ -77,7 +77,7 @@ fn token_here(s: &[u8], at: usize, inside: bool) -> bool
 // Where the next token starts: behind blanks and comments.
 pub fn token_start(s: &[u8], from: usize) -> usize
     requires { from ≤ length s.now }
-    ensures { PlaceIs s.now from (tokenStart s.now from) result }
+    ensures { PlaceIs s.now from (token_start s.now from) result }
 {
     let mut at = from;
     let mut inside = false;
@@ -107,7 +107,7 @@ fn admitted(w: u8, b: u8, shape: bool) -> bool
 // The bytes at a place begin as is spelled, or in that shape.
 fn begins(s: &[u8], at: usize, w: &[u8], shape: bool) -> bool
     requires { at ≤ length s.now }
-    ensures { result ≡ beginsBy (admits shape) w.now (drop at s.now) }
+    ensures { result ≡ begins_by (admits shape) w.now (drop at s.now) }
 {
     if s.len() - at < w.len() {
         return false;

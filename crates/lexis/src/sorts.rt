@@ -1,8 +1,8 @@
 // The sort of a byte, and tests on bytes.
 ghost use Rattle.std.specs.Prelude.{◌≡◌};
-ghost use Rattle.lexis.specs.Bytes.{sortOf, is, blank, digit, small, capital, wordByte, stringByte, runByte, lineEnd};
+ghost use Rattle.lexis.specs.Bytes.{sort_of, is, blank, digit, small, capital, word_byte, string_byte, run_byte, line_end};
 ghost use Rattle.lexis.specs.Runs.{byte_at};
-ghost use Rattle.lexis.specs.contracts.Answers.{runMark};
+ghost use Rattle.lexis.specs.Clauses.Answers.{run_mark};
 
 // The sorts of bytes; any other byte is of the sort 5.
 pub const BLANK: u8 = 0;
@@ -36,7 +36,7 @@ const SORTS: [u8; 256] = *b"\
 
 // The sort of a byte.
 pub fn sort_of(b: u8) -> u8
-    ensures { result ≡ sortOf b }
+    ensures { result ≡ sort_of b }
 {
     SORTS[b as usize]
 }
@@ -66,7 +66,7 @@ pub fn is_blank(b: u8) -> bool
 
 // CR or LF, which end a comment.
 pub fn line_end(b: u8) -> bool
-    ensures { result ≡ lineEnd b }
+    ensures { result ≡ line_end b }
 {
     if b < b'\r' {
         return b == b'\n';
@@ -106,7 +106,7 @@ pub fn is_capital(b: u8) -> bool
 
 // A letter, a digit or `_`.
 pub fn word_byte(b: u8) -> bool
-    ensures { result ≡ wordByte b }
+    ensures { result ≡ word_byte b }
 {
     if b'a' <= b {
         return b <= b'z';
@@ -125,7 +125,7 @@ pub fn word_byte(b: u8) -> bool
 
 // A byte that a string may hold.
 pub fn string_byte(b: u8) -> bool
-    ensures { result ≡ stringByte b }
+    ensures { result ≡ string_byte b }
 {
     if b < b' ' {
         return false;
@@ -141,7 +141,7 @@ pub fn string_byte(b: u8) -> bool
 
 // One of `+ - . :`.
 pub fn run_mark(b: u8) -> bool
-    ensures { result ≡ runMark b }
+    ensures { result ≡ run_mark b }
 {
     if b == b'+' {
         return true;
@@ -157,7 +157,7 @@ pub fn run_mark(b: u8) -> bool
 
 // A byte of a run of data text: a letter, a digit, or one of `_ + - . :`.
 pub fn run_byte(b: u8) -> bool
-    ensures { result ≡ runByte b }
+    ensures { result ≡ run_byte b }
 {
     if word_byte(b) {
         return true;

@@ -1,10 +1,10 @@
 // The tokens that are spelled in one way: marks, the sign ∈, patterns, and words that are no names. But for `spelling`, each function that takes the text is called in one place, so
 // that the compiler makes one function of all of them.
 ghost use Rattle.std.specs.Prelude.{◌≡◌, [], ◌∷◌, ◌<◌, length, drop};
-ghost use Rattle.lexis.specs.Spelling.{literalOf, markSpellings, elementSign, datePatternSpellings, timePatternSpellings, keywords, booleans, wordSort};
-ghost use Rattle.lexis.specs.Tokens.{noToken, spelled};
-ghost use Rattle.lexis.specs.DataTokens.{dataMarks};
-ghost use Rattle.lexis.specs.contracts.Answers.{words_of, OpensMark, OpensPlain};
+ghost use Rattle.lexis.specs.Spelling.{literal_of, mark_spellings, element_sign, date_pattern_spellings, time_pattern_spellings, keywords, booleans, word_sort};
+ghost use Rattle.lexis.specs.Tokens.{no_token, spelled};
+ghost use Rattle.lexis.specs.DataTokens.{data_marks};
+ghost use Rattle.lexis.specs.Clauses.Answers.{words_of, OpensMark, OpensPlain};
 
 use crate::runs::{same_bytes, starts_with};
 use crate::sorts::byte_at;
@@ -24,7 +24,7 @@ pub enum Words {
 // The mark `<` or `<=` at a place.
 fn less_mark(s: &[u8], at: usize) -> Token
     requires { OpensMark s.now at 60 }
-    ensures { result ≡ spelled markSpellings at (drop at s.now) (noToken at) }
+    ensures { result ≡ spelled mark_spellings at (drop at s.now) (no_token at) }
 {
     if byte_at(s, at + 1) == b'=' {
         return Token {
@@ -43,7 +43,7 @@ fn less_mark(s: &[u8], at: usize) -> Token
 // The mark `>` or `>=` at a place.
 fn greater_mark(s: &[u8], at: usize) -> Token
     requires { OpensMark s.now at 62 }
-    ensures { result ≡ spelled markSpellings at (drop at s.now) (noToken at) }
+    ensures { result ≡ spelled mark_spellings at (drop at s.now) (no_token at) }
 {
     if byte_at(s, at + 1) == b'=' {
         return Token {
@@ -62,7 +62,7 @@ fn greater_mark(s: &[u8], at: usize) -> Token
 // The mark `..` at a place, of which the first dot stands there.
 fn dots_mark(s: &[u8], at: usize) -> Token
     requires { OpensMark s.now at 46 }
-    ensures { result ≡ spelled markSpellings at (drop at s.now) (noToken at) }
+    ensures { result ≡ spelled mark_spellings at (drop at s.now) (no_token at) }
 {
     if byte_at(s, at + 1) == b'.' {
         return Token {
@@ -77,7 +77,7 @@ fn dots_mark(s: &[u8], at: usize) -> Token
 // The mark `+/-` at a place, of which the first byte stands there.
 fn plus_minus_mark(s: &[u8], at: usize) -> Token
     requires { OpensMark s.now at 43 }
-    ensures { result ≡ spelled markSpellings at (drop at s.now) (noToken at) }
+    ensures { result ≡ spelled mark_spellings at (drop at s.now) (no_token at) }
 {
     if starts_with(s, at, b"+/-") {
         return Token {
@@ -92,7 +92,7 @@ fn plus_minus_mark(s: &[u8], at: usize) -> Token
 // The mark at a place that is the only one that opens with its byte.
 fn plain_mark(s: &[u8], at: usize) -> Token
     requires { OpensPlain s.now at }
-    ensures { result ≡ spelled markSpellings at (drop at s.now) (noToken at) }
+    ensures { result ≡ spelled mark_spellings at (drop at s.now) (no_token at) }
 {
     let b = s[at];
     match b {
@@ -128,7 +128,7 @@ fn plain_mark(s: &[u8], at: usize) -> Token
 // The first mark of constraint text with which the bytes at a place begin, as a token; where there is none, an unreadable token.
 pub fn mark(s: &[u8], at: usize) -> Token
     requires { at < length s.now }
-    ensures { result ≡ spelled markSpellings at (drop at s.now) (noToken at) }
+    ensures { result ≡ spelled mark_spellings at (drop at s.now) (no_token at) }
 {
     let b = s[at];
     match b {
@@ -143,7 +143,7 @@ pub fn mark(s: &[u8], at: usize) -> Token
 // The spelling w at a place, as a token of a sort; where it does not stand there, the token given.
 fn spelling(s: &[u8], at: usize, w: &[u8], sort: u8, other: Token) -> Token
     requires { at < length s.now }
-    ensures { result ≡ spelled (literalOf sort w.now ∷ []) at (drop at s.now) other }
+    ensures { result ≡ spelled (literal_of sort w.now ∷ []) at (drop at s.now) other }
 {
     if starts_with(s, at, w) {
         return Token {
@@ -158,7 +158,7 @@ fn spelling(s: &[u8], at: usize, w: &[u8], sort: u8, other: Token) -> Token
 // The sign ∈ at a place, as a token.
 pub fn element_sign(s: &[u8], at: usize) -> Token
     requires { at < length s.now }
-    ensures { result ≡ spelled elementSign at (drop at s.now) (noToken at) }
+    ensures { result ≡ spelled element_sign at (drop at s.now) (no_token at) }
 {
     spelling(s, at, b"\xe2\x88\x88", MATCHES, no_token(at))
 }
@@ -166,7 +166,7 @@ pub fn element_sign(s: &[u8], at: usize) -> Token
 // The mark of data text at a place, as a token.
 pub fn data_mark(s: &[u8], at: usize) -> Token
     requires { at < length s.now }
-    ensures { result ≡ spelled dataMarks at (drop at s.now) (noToken at) }
+    ensures { result ≡ spelled data_marks at (drop at s.now) (no_token at) }
 {
     let b = s[at];
     match b {
@@ -202,7 +202,7 @@ pub fn data_mark(s: &[u8], at: usize) -> Token
 // The date pattern at a place, as a token; where there is none, the token given.
 pub fn date_pattern(s: &[u8], at: usize, other: Token) -> Token
     requires { at < length s.now }
-    ensures { result ≡ spelled datePatternSpellings at (drop at s.now) other }
+    ensures { result ≡ spelled date_pattern_spellings at (drop at s.now) other }
 {
     if s[at] != b'y' {
         return other;
@@ -217,7 +217,7 @@ pub fn date_pattern(s: &[u8], at: usize, other: Token) -> Token
 // The time pattern at a place, as a token; where there is none, the token given.
 pub fn time_pattern(s: &[u8], at: usize, other: Token) -> Token
     requires { at < length s.now }
-    ensures { result ≡ spelled timePatternSpellings at (drop at s.now) other }
+    ensures { result ≡ spelled time_pattern_spellings at (drop at s.now) other }
 {
     if s[at] != b'T' {
         return other;
@@ -230,7 +230,7 @@ pub fn time_pattern(s: &[u8], at: usize, other: Token) -> Token
 
 // The sort given where a word has that spelling, else the other one.
 fn sort_if(w: &[u8], spelling: &[u8], sort: u8, other: u8) -> u8
-    ensures { result ≡ wordSort (literalOf sort spelling.now ∷ []) w.now other }
+    ensures { result ≡ word_sort (literal_of sort spelling.now ∷ []) w.now other }
 {
     if same_bytes(spelling, w) {
         return sort;
@@ -240,7 +240,7 @@ fn sort_if(w: &[u8], spelling: &[u8], sort: u8, other: u8) -> u8
 
 // The sort of a keyword, else the one given.
 fn keyword_sort(w: &[u8], sort: u8) -> u8
-    ensures { result ≡ wordSort keywords w.now sort }
+    ensures { result ≡ word_sort keywords w.now sort }
 {
     let second = sort_if(w, b"existence", EXISTENCE, sort);
     sort_if(w, b"matches", MATCHES, second)
@@ -248,7 +248,7 @@ fn keyword_sort(w: &[u8], sort: u8) -> u8
 
 // The sort of a Boolean, else the one given.
 fn boolean_sort(w: &[u8], sort: u8) -> u8
-    ensures { result ≡ wordSort booleans w.now sort }
+    ensures { result ≡ word_sort booleans w.now sort }
 {
     let second = sort_if(w, b"False", FALSE_WORD, sort);
     sort_if(w, b"True", TRUE_WORD, second)
@@ -256,7 +256,7 @@ fn boolean_sort(w: &[u8], sort: u8) -> u8
 
 // The sort of a whole word: the list's where the list spells it, else the one given.
 pub fn word_sort(w: &[u8], f: Words, sort: u8) -> u8
-    ensures { result ≡ wordSort (words_of f) w.now sort }
+    ensures { result ≡ word_sort (words_of f) w.now sort }
 {
     match f {
         Words::Keywords => keyword_sort(w, sort),

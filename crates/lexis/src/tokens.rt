@@ -3,10 +3,10 @@ ghost use Rattle.std.specs.Prelude.{◌≡◌, false, ◌&&◌, ◌||◌, ◌+�
 ghost use Rattle.lexis.specs.Text.{byte};
 ghost use Rattle.lexis.specs.Bytes.{is, digit};
 ghost use Rattle.lexis.specs.Runs.{byte_at};
-ghost use Rattle.lexis.specs.Spelling.{closeBrace, keywords, booleans, datePatternSpellings, timePatternSpellings};
-ghost use Rattle.lexis.specs.Tokens.{typeName, name, word, number, sign, quoted, codeEnd, bracket, special, tokenOn, tokenAt, patternOr, contentTokenAt, spelled, spelling};
-ghost use Rattle.lexis.specs.Durations.{patternSlots};
-ghost use Rattle.lexis.specs.contracts.Answers.{words_of, TokenIs, TypeThere};
+ghost use Rattle.lexis.specs.Spelling.{close_brace, keywords, booleans, date_pattern_spellings, time_pattern_spellings};
+ghost use Rattle.lexis.specs.Tokens.{type_name, name, word, number, sign, quoted, code_end, bracket, special, token_on, token_at, pattern_or, content_token_at, spelled, spelling};
+ghost use Rattle.lexis.specs.Durations.{pattern_slots};
+ghost use Rattle.lexis.specs.Clauses.Answers.{words_of, TokenIs, TypeThere};
 
 use crate::durations::pattern_slots;
 use crate::reader::{Tokens, token_from};
@@ -36,7 +36,7 @@ fn word(s: &[u8], at: usize, f: Words, sort: u8) -> Token
 fn capital_token(s: &[u8], at: usize) -> Token
     requires { at < length s.now }
     ensures { result
-        ≡ spelled timePatternSpellings at (drop at s.now) (word s.now booleans typeName at) }
+        ≡ spelled time_pattern_spellings at (drop at s.now) (word s.now booleans type_name at) }
 {
     let t = word(s, at, Words::Booleans, TYPE_NAME);
     time_pattern(s, at, t)
@@ -46,7 +46,7 @@ fn capital_token(s: &[u8], at: usize) -> Token
 fn small_token(s: &[u8], at: usize) -> Token
     requires { at < length s.now }
     ensures { result
-        ≡ spelled datePatternSpellings at (drop at s.now) (word s.now keywords name at) }
+        ≡ spelled date_pattern_spellings at (drop at s.now) (word s.now keywords name at) }
 {
     let t = word(s, at, Words::Keywords, NAME);
     date_pattern(s, at, t)
@@ -142,7 +142,7 @@ fn code_close(b: u8, some: bool) -> bool
 // Behind `[at`: the place behind the code's closing bracket, or 0 where no code ends.
 fn code_end(s: &[u8], from: usize) -> usize
     requires { from ≤ length s.now }
-    ensures { result ≡ codeEnd false from (drop from s.now) }
+    ensures { result ≡ code_end false from (drop from s.now) }
 {
     let mut at = from;
     let mut some = false;
@@ -195,7 +195,7 @@ fn special(s: &[u8], at: usize) -> Token
 // The token that starts at a place, by the sort of the byte there; the text's end is a token.
 pub fn token_on(s: &[u8], at: usize) -> Token
     requires { at ≤ length s.now }
-    ensures { result ≡ tokenOn s.now at }
+    ensures { result ≡ token_on s.now at }
 {
     if s.len() <= at {
         return Token {
@@ -217,7 +217,7 @@ pub fn token_on(s: &[u8], at: usize) -> Token
 // The next token of constraint text, from a place on.
 pub fn token_at(s: &[u8], from: usize) -> Token
     requires { from ≤ length s.now }
-    ensures { TokenIs s.now from (tokenAt s.now from) result }
+    ensures { TokenIs s.now from (token_at s.now from) result }
 {
     token_from(s, from, Tokens::Constraint)
 }
@@ -225,7 +225,7 @@ pub fn token_at(s: &[u8], from: usize) -> Token
 // The next token from a place on is `}`.
 fn closes(s: &[u8], from: usize) -> bool
     requires { from ≤ length s.now }
-    ensures { result ≡ eqb (tokenAt s.now from).sort closeBrace }
+    ensures { result ≡ eqb (token_at s.now from).sort close_brace }
 {
     let t = token_at(s, from);
     t.sort == CLOSE_BRACE
@@ -234,7 +234,7 @@ fn closes(s: &[u8], from: usize) -> bool
 // The Duration pattern that a TYPE is spelled as, where `}` follows, or else the TYPE.
 fn pattern_or_type(s: &[u8], t: Token) -> Token
     requires { TypeThere s.now t }
-    ensures { result ≡ patternOr s.now t (patternSlots (spelling s.now t)) }
+    ensures { result ≡ pattern_or s.now t (pattern_slots (spelling s.now t)) }
 {
     let start = t.start;
     let end = t.end;
@@ -258,7 +258,7 @@ fn pattern_or_type(s: &[u8], t: Token) -> Token
 // The next token of constraint text where a value may stand, from a place on.
 pub fn content_token_at(s: &[u8], from: usize) -> Token
     requires { from ≤ length s.now }
-    ensures { TokenIs s.now from (contentTokenAt s.now from) result }
+    ensures { TokenIs s.now from (content_token_at s.now from) result }
 {
     let t = token_at(s, from);
     if t.sort != TYPE_NAME {

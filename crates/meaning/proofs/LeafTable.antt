@@ -5,12 +5,12 @@ use mathlib.Core.Option.{none, some}
 use mathlib.Core.List.{List, [], ◌∷◌}
 use Rattle.lexis.specs.Text.{bytes}
 use Rattle.lexis.proofs.Tables.{wrong}
-use Rattle.meaning.specs.Constraints.{no_more, any, nested, leaf, single, ranges, texts, booleans, integers, datePattern, dates, timePattern, durationPattern}
+use Rattle.meaning.specs.Constraints.{no_more, any, nested, leaf, single, ranges, texts, booleans, integers, date_pattern, dates, time_pattern, duration_pattern}
 use Rattle.meaning.specs.Data.{datum, member, string, word, block}
 use Rattle.meaning.specs.Data
 use Rattle.meaning.specs.Verdicts.{valid, fails}
-use Rattle.meaning.proofs.Computes.{meaningComputes}
-use Rattle.meaning.proofs.Trees.{range, item, objectWith, attributeWith}
+use Rattle.meaning.proofs.Computes.{meaning_computes}
+use Rattle.meaning.proofs.Trees.{range, item, object_with, attribute_with}
 use Rattle.meaning.proofs.Examples.{Case, judges, under, right}
 
 pub cases : List Case
@@ -49,17 +49,17 @@ cases =
     ∷ under (texts (item 3 (bytes "a") ∷ [])) (word 3 (bytes "P4w")) (fails 20 3 3)
     ∷ under (texts (item 3 (bytes "a") ∷ [])) (string 3 (bytes "a")) valid
     ∷ under (texts (item 3 (bytes "a") ∷ [])) (string 3 []) (fails 24 3 3)
-    ∷ under (single datePattern 3 3) (word 3 (bytes "True")) (fails 20 3 3)
-    ∷ under (single datePattern 3 3) (word 3 (bytes "5")) (fails 20 3 3)
-    ∷ under (single datePattern 3 3) (word 3 (bytes "2004")) valid
-    ∷ under (single datePattern 3 3) (word 3 (bytes "2004-05")) valid
-    ∷ under (single datePattern 3 3) (word 3 (bytes "2004-05-20")) valid
-    ∷ under (single datePattern 3 3) (word 3 (bytes "08")) (fails 20 3 3)
-    ∷ under (single datePattern 3 3) (word 3 (bytes "10:30")) (fails 20 3 3)
-    ∷ under (single datePattern 3 3) (word 3 (bytes "08:30:00Z")) (fails 20 3 3)
-    ∷ under (single datePattern 3 3) (word 3 (bytes "P4w")) (fails 20 3 3)
-    ∷ under (single datePattern 3 3) (string 3 (bytes "a")) (fails 20 3 3)
-    ∷ under (single datePattern 3 3) (string 3 []) (fails 20 3 3)
+    ∷ under (single date_pattern 3 3) (word 3 (bytes "True")) (fails 20 3 3)
+    ∷ under (single date_pattern 3 3) (word 3 (bytes "5")) (fails 20 3 3)
+    ∷ under (single date_pattern 3 3) (word 3 (bytes "2004")) valid
+    ∷ under (single date_pattern 3 3) (word 3 (bytes "2004-05")) valid
+    ∷ under (single date_pattern 3 3) (word 3 (bytes "2004-05-20")) valid
+    ∷ under (single date_pattern 3 3) (word 3 (bytes "08")) (fails 20 3 3)
+    ∷ under (single date_pattern 3 3) (word 3 (bytes "10:30")) (fails 20 3 3)
+    ∷ under (single date_pattern 3 3) (word 3 (bytes "08:30:00Z")) (fails 20 3 3)
+    ∷ under (single date_pattern 3 3) (word 3 (bytes "P4w")) (fails 20 3 3)
+    ∷ under (single date_pattern 3 3) (string 3 (bytes "a")) (fails 20 3 3)
+    ∷ under (single date_pattern 3 3) (string 3 []) (fails 20 3 3)
     ∷ under (ranges dates (range 3 20_040_520 20_040_520 ∷ [])) (word 3 (bytes "True")) (fails 20 3 3)
     ∷ under (ranges dates (range 3 20_040_520 20_040_520 ∷ [])) (word 3 (bytes "5")) (fails 20 3 3)
     ∷ under (ranges dates (range 3 20_040_520 20_040_520 ∷ [])) (word 3 (bytes "2004")) (fails 24 3 3)
@@ -71,28 +71,28 @@ cases =
     ∷ under (ranges dates (range 3 20_040_520 20_040_520 ∷ [])) (word 3 (bytes "P4w")) (fails 20 3 3)
     ∷ under (ranges dates (range 3 20_040_520 20_040_520 ∷ [])) (string 3 (bytes "a")) (fails 20 3 3)
     ∷ under (ranges dates (range 3 20_040_520 20_040_520 ∷ [])) (string 3 []) (fails 20 3 3)
-    ∷ under (single timePattern 3 4) (word 3 (bytes "True")) (fails 20 3 3)
-    ∷ under (single timePattern 3 4) (word 3 (bytes "5")) (fails 20 3 3)
-    ∷ under (single timePattern 3 4) (word 3 (bytes "2004")) (fails 20 3 3)
-    ∷ under (single timePattern 3 4) (word 3 (bytes "2004-05")) (fails 20 3 3)
-    ∷ under (single timePattern 3 4) (word 3 (bytes "2004-05-20")) (fails 20 3 3)
-    ∷ under (single timePattern 3 4) (word 3 (bytes "08")) valid
-    ∷ under (single timePattern 3 4) (word 3 (bytes "10:30")) valid
-    ∷ under (single timePattern 3 4) (word 3 (bytes "08:30:00Z")) valid
-    ∷ under (single timePattern 3 4) (word 3 (bytes "P4w")) (fails 20 3 3)
-    ∷ under (single timePattern 3 4) (string 3 (bytes "a")) (fails 20 3 3)
-    ∷ under (single timePattern 3 4) (string 3 []) (fails 20 3 3)
-    ∷ under (single durationPattern 3 44) (word 3 (bytes "True")) (fails 20 3 3)
-    ∷ under (single durationPattern 3 44) (word 3 (bytes "5")) (fails 20 3 3)
-    ∷ under (single durationPattern 3 44) (word 3 (bytes "2004")) (fails 20 3 3)
-    ∷ under (single durationPattern 3 44) (word 3 (bytes "2004-05")) (fails 20 3 3)
-    ∷ under (single durationPattern 3 44) (word 3 (bytes "2004-05-20")) (fails 20 3 3)
-    ∷ under (single durationPattern 3 44) (word 3 (bytes "08")) (fails 20 3 3)
-    ∷ under (single durationPattern 3 44) (word 3 (bytes "10:30")) (fails 20 3 3)
-    ∷ under (single durationPattern 3 44) (word 3 (bytes "08:30:00Z")) (fails 20 3 3)
-    ∷ under (single durationPattern 3 44) (word 3 (bytes "P4w")) valid
-    ∷ under (single durationPattern 3 44) (string 3 (bytes "a")) (fails 20 3 3)
-    ∷ under (single durationPattern 3 44) (string 3 []) (fails 20 3 3)
+    ∷ under (single time_pattern 3 4) (word 3 (bytes "True")) (fails 20 3 3)
+    ∷ under (single time_pattern 3 4) (word 3 (bytes "5")) (fails 20 3 3)
+    ∷ under (single time_pattern 3 4) (word 3 (bytes "2004")) (fails 20 3 3)
+    ∷ under (single time_pattern 3 4) (word 3 (bytes "2004-05")) (fails 20 3 3)
+    ∷ under (single time_pattern 3 4) (word 3 (bytes "2004-05-20")) (fails 20 3 3)
+    ∷ under (single time_pattern 3 4) (word 3 (bytes "08")) valid
+    ∷ under (single time_pattern 3 4) (word 3 (bytes "10:30")) valid
+    ∷ under (single time_pattern 3 4) (word 3 (bytes "08:30:00Z")) valid
+    ∷ under (single time_pattern 3 4) (word 3 (bytes "P4w")) (fails 20 3 3)
+    ∷ under (single time_pattern 3 4) (string 3 (bytes "a")) (fails 20 3 3)
+    ∷ under (single time_pattern 3 4) (string 3 []) (fails 20 3 3)
+    ∷ under (single duration_pattern 3 44) (word 3 (bytes "True")) (fails 20 3 3)
+    ∷ under (single duration_pattern 3 44) (word 3 (bytes "5")) (fails 20 3 3)
+    ∷ under (single duration_pattern 3 44) (word 3 (bytes "2004")) (fails 20 3 3)
+    ∷ under (single duration_pattern 3 44) (word 3 (bytes "2004-05")) (fails 20 3 3)
+    ∷ under (single duration_pattern 3 44) (word 3 (bytes "2004-05-20")) (fails 20 3 3)
+    ∷ under (single duration_pattern 3 44) (word 3 (bytes "08")) (fails 20 3 3)
+    ∷ under (single duration_pattern 3 44) (word 3 (bytes "10:30")) (fails 20 3 3)
+    ∷ under (single duration_pattern 3 44) (word 3 (bytes "08:30:00Z")) (fails 20 3 3)
+    ∷ under (single duration_pattern 3 44) (word 3 (bytes "P4w")) valid
+    ∷ under (single duration_pattern 3 44) (string 3 (bytes "a")) (fails 20 3 3)
+    ∷ under (single duration_pattern 3 44) (string 3 []) (fails 20 3 3)
     -- Booleans
     ∷ under (single booleans 3 1) (word 3 (bytes "True")) valid
     ∷ under (single booleans 3 1) (word 3 (bytes "False")) (fails 24 3 3)
@@ -287,112 +287,112 @@ cases =
     ∷ under (texts (item 3 (bytes "bc") ∷ item 4 (bytes "b") ∷ [])) (string 3 (bytes "c")) (fails 24 3 3)
     ∷ under (texts (item 3 (bytes "bc") ∷ item 4 (bytes "b") ∷ [])) (word 3 (bytes "True")) (fails 20 3 3)
     -- date patterns: lettered parts must be there, `??` may, `XX` may not
-    ∷ under (single datePattern 3 1) (word 3 (bytes "2004")) (fails 24 3 3)
-    ∷ under (single datePattern 3 1) (word 3 (bytes "2004-05")) (fails 24 3 3)
-    ∷ under (single datePattern 3 1) (word 3 (bytes "2004-05-20")) valid
-    ∷ under (single datePattern 3 1) (word 3 (bytes "0000")) (fails 24 3 3)
-    ∷ under (single datePattern 3 1) (word 3 (bytes "9999-12-31")) valid
-    ∷ under (single datePattern 3 1) (word 3 (bytes "20040520")) (fails 20 3 3)
-    ∷ under (single datePattern 3 1) (string 3 (bytes "2004")) (fails 20 3 3)
-    ∷ under (single datePattern 3 2) (word 3 (bytes "2004")) (fails 24 3 3)
-    ∷ under (single datePattern 3 2) (word 3 (bytes "2004-05")) valid
-    ∷ under (single datePattern 3 2) (word 3 (bytes "2004-05-20")) valid
-    ∷ under (single datePattern 3 2) (word 3 (bytes "0000")) (fails 24 3 3)
-    ∷ under (single datePattern 3 2) (word 3 (bytes "9999-12-31")) valid
-    ∷ under (single datePattern 3 2) (word 3 (bytes "20040520")) (fails 20 3 3)
-    ∷ under (single datePattern 3 2) (string 3 (bytes "2004")) (fails 20 3 3)
-    ∷ under (single datePattern 3 3) (word 3 (bytes "2004")) valid
-    ∷ under (single datePattern 3 3) (word 3 (bytes "2004-05")) valid
-    ∷ under (single datePattern 3 3) (word 3 (bytes "2004-05-20")) valid
-    ∷ under (single datePattern 3 3) (word 3 (bytes "0000")) valid
-    ∷ under (single datePattern 3 3) (word 3 (bytes "9999-12-31")) valid
-    ∷ under (single datePattern 3 3) (word 3 (bytes "20040520")) (fails 20 3 3)
-    ∷ under (single datePattern 3 3) (string 3 (bytes "2004")) (fails 20 3 3)
-    ∷ under (single datePattern 3 4) (word 3 (bytes "2004")) (fails 24 3 3)
-    ∷ under (single datePattern 3 4) (word 3 (bytes "2004-05")) valid
-    ∷ under (single datePattern 3 4) (word 3 (bytes "2004-05-20")) (fails 24 3 3)
-    ∷ under (single datePattern 3 4) (word 3 (bytes "0000")) (fails 24 3 3)
-    ∷ under (single datePattern 3 4) (word 3 (bytes "9999-12-31")) (fails 24 3 3)
-    ∷ under (single datePattern 3 4) (word 3 (bytes "20040520")) (fails 20 3 3)
-    ∷ under (single datePattern 3 4) (string 3 (bytes "2004")) (fails 20 3 3)
-    ∷ under (single datePattern 3 5) (word 3 (bytes "2004")) valid
-    ∷ under (single datePattern 3 5) (word 3 (bytes "2004-05")) valid
-    ∷ under (single datePattern 3 5) (word 3 (bytes "2004-05-20")) (fails 24 3 3)
-    ∷ under (single datePattern 3 5) (word 3 (bytes "0000")) valid
-    ∷ under (single datePattern 3 5) (word 3 (bytes "9999-12-31")) (fails 24 3 3)
-    ∷ under (single datePattern 3 5) (word 3 (bytes "20040520")) (fails 20 3 3)
-    ∷ under (single datePattern 3 5) (string 3 (bytes "2004")) (fails 20 3 3)
+    ∷ under (single date_pattern 3 1) (word 3 (bytes "2004")) (fails 24 3 3)
+    ∷ under (single date_pattern 3 1) (word 3 (bytes "2004-05")) (fails 24 3 3)
+    ∷ under (single date_pattern 3 1) (word 3 (bytes "2004-05-20")) valid
+    ∷ under (single date_pattern 3 1) (word 3 (bytes "0000")) (fails 24 3 3)
+    ∷ under (single date_pattern 3 1) (word 3 (bytes "9999-12-31")) valid
+    ∷ under (single date_pattern 3 1) (word 3 (bytes "20040520")) (fails 20 3 3)
+    ∷ under (single date_pattern 3 1) (string 3 (bytes "2004")) (fails 20 3 3)
+    ∷ under (single date_pattern 3 2) (word 3 (bytes "2004")) (fails 24 3 3)
+    ∷ under (single date_pattern 3 2) (word 3 (bytes "2004-05")) valid
+    ∷ under (single date_pattern 3 2) (word 3 (bytes "2004-05-20")) valid
+    ∷ under (single date_pattern 3 2) (word 3 (bytes "0000")) (fails 24 3 3)
+    ∷ under (single date_pattern 3 2) (word 3 (bytes "9999-12-31")) valid
+    ∷ under (single date_pattern 3 2) (word 3 (bytes "20040520")) (fails 20 3 3)
+    ∷ under (single date_pattern 3 2) (string 3 (bytes "2004")) (fails 20 3 3)
+    ∷ under (single date_pattern 3 3) (word 3 (bytes "2004")) valid
+    ∷ under (single date_pattern 3 3) (word 3 (bytes "2004-05")) valid
+    ∷ under (single date_pattern 3 3) (word 3 (bytes "2004-05-20")) valid
+    ∷ under (single date_pattern 3 3) (word 3 (bytes "0000")) valid
+    ∷ under (single date_pattern 3 3) (word 3 (bytes "9999-12-31")) valid
+    ∷ under (single date_pattern 3 3) (word 3 (bytes "20040520")) (fails 20 3 3)
+    ∷ under (single date_pattern 3 3) (string 3 (bytes "2004")) (fails 20 3 3)
+    ∷ under (single date_pattern 3 4) (word 3 (bytes "2004")) (fails 24 3 3)
+    ∷ under (single date_pattern 3 4) (word 3 (bytes "2004-05")) valid
+    ∷ under (single date_pattern 3 4) (word 3 (bytes "2004-05-20")) (fails 24 3 3)
+    ∷ under (single date_pattern 3 4) (word 3 (bytes "0000")) (fails 24 3 3)
+    ∷ under (single date_pattern 3 4) (word 3 (bytes "9999-12-31")) (fails 24 3 3)
+    ∷ under (single date_pattern 3 4) (word 3 (bytes "20040520")) (fails 20 3 3)
+    ∷ under (single date_pattern 3 4) (string 3 (bytes "2004")) (fails 20 3 3)
+    ∷ under (single date_pattern 3 5) (word 3 (bytes "2004")) valid
+    ∷ under (single date_pattern 3 5) (word 3 (bytes "2004-05")) valid
+    ∷ under (single date_pattern 3 5) (word 3 (bytes "2004-05-20")) (fails 24 3 3)
+    ∷ under (single date_pattern 3 5) (word 3 (bytes "0000")) valid
+    ∷ under (single date_pattern 3 5) (word 3 (bytes "9999-12-31")) (fails 24 3 3)
+    ∷ under (single date_pattern 3 5) (word 3 (bytes "20040520")) (fails 20 3 3)
+    ∷ under (single date_pattern 3 5) (string 3 (bytes "2004")) (fails 20 3 3)
     -- time patterns, with every zone
-    ∷ under (single timePattern 3 1) (word 3 (bytes "08")) (fails 24 3 3)
-    ∷ under (single timePattern 3 1) (word 3 (bytes "08:30")) (fails 24 3 3)
-    ∷ under (single timePattern 3 1) (word 3 (bytes "08:30:59")) valid
-    ∷ under (single timePattern 3 1) (word 3 (bytes "23Z")) (fails 24 3 3)
-    ∷ under (single timePattern 3 1) (word 3 (bytes "08:30+05")) (fails 24 3 3)
-    ∷ under (single timePattern 3 1) (word 3 (bytes "08:30:59-12:59")) valid
-    ∷ under (single timePattern 3 1) (word 3 (bytes "24")) (fails 20 3 3)
-    ∷ under (single timePattern 3 1) (word 3 (bytes "2004")) (fails 20 3 3)
-    ∷ under (single timePattern 3 1) (string 3 (bytes "08:30")) (fails 20 3 3)
-    ∷ under (single timePattern 3 2) (word 3 (bytes "08")) (fails 24 3 3)
-    ∷ under (single timePattern 3 2) (word 3 (bytes "08:30")) valid
-    ∷ under (single timePattern 3 2) (word 3 (bytes "08:30:59")) (fails 24 3 3)
-    ∷ under (single timePattern 3 2) (word 3 (bytes "23Z")) (fails 24 3 3)
-    ∷ under (single timePattern 3 2) (word 3 (bytes "08:30+05")) valid
-    ∷ under (single timePattern 3 2) (word 3 (bytes "08:30:59-12:59")) (fails 24 3 3)
-    ∷ under (single timePattern 3 2) (word 3 (bytes "24")) (fails 20 3 3)
-    ∷ under (single timePattern 3 2) (word 3 (bytes "2004")) (fails 20 3 3)
-    ∷ under (single timePattern 3 2) (string 3 (bytes "08:30")) (fails 20 3 3)
-    ∷ under (single timePattern 3 3) (word 3 (bytes "08")) valid
-    ∷ under (single timePattern 3 3) (word 3 (bytes "08:30")) valid
-    ∷ under (single timePattern 3 3) (word 3 (bytes "08:30:59")) (fails 24 3 3)
-    ∷ under (single timePattern 3 3) (word 3 (bytes "23Z")) valid
-    ∷ under (single timePattern 3 3) (word 3 (bytes "08:30+05")) valid
-    ∷ under (single timePattern 3 3) (word 3 (bytes "08:30:59-12:59")) (fails 24 3 3)
-    ∷ under (single timePattern 3 3) (word 3 (bytes "24")) (fails 20 3 3)
-    ∷ under (single timePattern 3 3) (word 3 (bytes "2004")) (fails 20 3 3)
-    ∷ under (single timePattern 3 3) (string 3 (bytes "08:30")) (fails 20 3 3)
-    ∷ under (single timePattern 3 4) (word 3 (bytes "08")) valid
-    ∷ under (single timePattern 3 4) (word 3 (bytes "08:30")) valid
-    ∷ under (single timePattern 3 4) (word 3 (bytes "08:30:59")) valid
-    ∷ under (single timePattern 3 4) (word 3 (bytes "23Z")) valid
-    ∷ under (single timePattern 3 4) (word 3 (bytes "08:30+05")) valid
-    ∷ under (single timePattern 3 4) (word 3 (bytes "08:30:59-12:59")) valid
-    ∷ under (single timePattern 3 4) (word 3 (bytes "24")) (fails 20 3 3)
-    ∷ under (single timePattern 3 4) (word 3 (bytes "2004")) (fails 20 3 3)
-    ∷ under (single timePattern 3 4) (string 3 (bytes "08:30")) (fails 20 3 3)
+    ∷ under (single time_pattern 3 1) (word 3 (bytes "08")) (fails 24 3 3)
+    ∷ under (single time_pattern 3 1) (word 3 (bytes "08:30")) (fails 24 3 3)
+    ∷ under (single time_pattern 3 1) (word 3 (bytes "08:30:59")) valid
+    ∷ under (single time_pattern 3 1) (word 3 (bytes "23Z")) (fails 24 3 3)
+    ∷ under (single time_pattern 3 1) (word 3 (bytes "08:30+05")) (fails 24 3 3)
+    ∷ under (single time_pattern 3 1) (word 3 (bytes "08:30:59-12:59")) valid
+    ∷ under (single time_pattern 3 1) (word 3 (bytes "24")) (fails 20 3 3)
+    ∷ under (single time_pattern 3 1) (word 3 (bytes "2004")) (fails 20 3 3)
+    ∷ under (single time_pattern 3 1) (string 3 (bytes "08:30")) (fails 20 3 3)
+    ∷ under (single time_pattern 3 2) (word 3 (bytes "08")) (fails 24 3 3)
+    ∷ under (single time_pattern 3 2) (word 3 (bytes "08:30")) valid
+    ∷ under (single time_pattern 3 2) (word 3 (bytes "08:30:59")) (fails 24 3 3)
+    ∷ under (single time_pattern 3 2) (word 3 (bytes "23Z")) (fails 24 3 3)
+    ∷ under (single time_pattern 3 2) (word 3 (bytes "08:30+05")) valid
+    ∷ under (single time_pattern 3 2) (word 3 (bytes "08:30:59-12:59")) (fails 24 3 3)
+    ∷ under (single time_pattern 3 2) (word 3 (bytes "24")) (fails 20 3 3)
+    ∷ under (single time_pattern 3 2) (word 3 (bytes "2004")) (fails 20 3 3)
+    ∷ under (single time_pattern 3 2) (string 3 (bytes "08:30")) (fails 20 3 3)
+    ∷ under (single time_pattern 3 3) (word 3 (bytes "08")) valid
+    ∷ under (single time_pattern 3 3) (word 3 (bytes "08:30")) valid
+    ∷ under (single time_pattern 3 3) (word 3 (bytes "08:30:59")) (fails 24 3 3)
+    ∷ under (single time_pattern 3 3) (word 3 (bytes "23Z")) valid
+    ∷ under (single time_pattern 3 3) (word 3 (bytes "08:30+05")) valid
+    ∷ under (single time_pattern 3 3) (word 3 (bytes "08:30:59-12:59")) (fails 24 3 3)
+    ∷ under (single time_pattern 3 3) (word 3 (bytes "24")) (fails 20 3 3)
+    ∷ under (single time_pattern 3 3) (word 3 (bytes "2004")) (fails 20 3 3)
+    ∷ under (single time_pattern 3 3) (string 3 (bytes "08:30")) (fails 20 3 3)
+    ∷ under (single time_pattern 3 4) (word 3 (bytes "08")) valid
+    ∷ under (single time_pattern 3 4) (word 3 (bytes "08:30")) valid
+    ∷ under (single time_pattern 3 4) (word 3 (bytes "08:30:59")) valid
+    ∷ under (single time_pattern 3 4) (word 3 (bytes "23Z")) valid
+    ∷ under (single time_pattern 3 4) (word 3 (bytes "08:30+05")) valid
+    ∷ under (single time_pattern 3 4) (word 3 (bytes "08:30:59-12:59")) valid
+    ∷ under (single time_pattern 3 4) (word 3 (bytes "24")) (fails 20 3 3)
+    ∷ under (single time_pattern 3 4) (word 3 (bytes "2004")) (fails 20 3 3)
+    ∷ under (single time_pattern 3 4) (string 3 (bytes "08:30")) (fails 20 3 3)
     -- duration patterns: each slot that is filled must be there, the sign is free
-    ∷ under (single durationPattern 3 12) (word 3 (bytes "P4w")) valid
-    ∷ under (single durationPattern 3 12) (word 3 (bytes "P12W3D")) valid
-    ∷ under (single durationPattern 3 12) (word 3 (bytes "-P3d")) valid
-    ∷ under (single durationPattern 3 12) (word 3 (bytes "PT5m")) (fails 24 3 3)
-    ∷ under (single durationPattern 3 12) (word 3 (bytes "P1w2dT3h")) (fails 24 3 3)
-    ∷ under (single durationPattern 3 12) (word 3 (bytes "P5M")) (fails 24 3 3)
-    ∷ under (single durationPattern 3 12) (word 3 (bytes "P0y4w")) (fails 24 3 3)
-    ∷ under (single durationPattern 3 12) (string 3 (bytes "P4w")) (fails 20 3 3)
-    ∷ under (single durationPattern 3 12) (word 3 (bytes "2004")) (fails 20 3 3)
-    ∷ under (single durationPattern 3 32) (word 3 (bytes "P4w")) (fails 24 3 3)
-    ∷ under (single durationPattern 3 32) (word 3 (bytes "P12W3D")) (fails 24 3 3)
-    ∷ under (single durationPattern 3 32) (word 3 (bytes "-P3d")) (fails 24 3 3)
-    ∷ under (single durationPattern 3 32) (word 3 (bytes "PT5m")) valid
-    ∷ under (single durationPattern 3 32) (word 3 (bytes "P1w2dT3h")) (fails 24 3 3)
-    ∷ under (single durationPattern 3 32) (word 3 (bytes "P5M")) (fails 24 3 3)
-    ∷ under (single durationPattern 3 32) (word 3 (bytes "P0y4w")) (fails 24 3 3)
-    ∷ under (single durationPattern 3 32) (string 3 (bytes "P4w")) (fails 20 3 3)
-    ∷ under (single durationPattern 3 32) (word 3 (bytes "2004")) (fails 20 3 3)
-    ∷ under (single durationPattern 3 2) (word 3 (bytes "P4w")) (fails 24 3 3)
-    ∷ under (single durationPattern 3 2) (word 3 (bytes "P12W3D")) (fails 24 3 3)
-    ∷ under (single durationPattern 3 2) (word 3 (bytes "-P3d")) (fails 24 3 3)
-    ∷ under (single durationPattern 3 2) (word 3 (bytes "PT5m")) (fails 24 3 3)
-    ∷ under (single durationPattern 3 2) (word 3 (bytes "P1w2dT3h")) (fails 24 3 3)
-    ∷ under (single durationPattern 3 2) (word 3 (bytes "P5M")) valid
-    ∷ under (single durationPattern 3 2) (word 3 (bytes "P0y4w")) (fails 24 3 3)
-    ∷ under (single durationPattern 3 2) (string 3 (bytes "P4w")) (fails 20 3 3)
-    ∷ under (single durationPattern 3 2) (word 3 (bytes "2004")) (fails 20 3 3)
+    ∷ under (single duration_pattern 3 12) (word 3 (bytes "P4w")) valid
+    ∷ under (single duration_pattern 3 12) (word 3 (bytes "P12W3D")) valid
+    ∷ under (single duration_pattern 3 12) (word 3 (bytes "-P3d")) valid
+    ∷ under (single duration_pattern 3 12) (word 3 (bytes "PT5m")) (fails 24 3 3)
+    ∷ under (single duration_pattern 3 12) (word 3 (bytes "P1w2dT3h")) (fails 24 3 3)
+    ∷ under (single duration_pattern 3 12) (word 3 (bytes "P5M")) (fails 24 3 3)
+    ∷ under (single duration_pattern 3 12) (word 3 (bytes "P0y4w")) (fails 24 3 3)
+    ∷ under (single duration_pattern 3 12) (string 3 (bytes "P4w")) (fails 20 3 3)
+    ∷ under (single duration_pattern 3 12) (word 3 (bytes "2004")) (fails 20 3 3)
+    ∷ under (single duration_pattern 3 32) (word 3 (bytes "P4w")) (fails 24 3 3)
+    ∷ under (single duration_pattern 3 32) (word 3 (bytes "P12W3D")) (fails 24 3 3)
+    ∷ under (single duration_pattern 3 32) (word 3 (bytes "-P3d")) (fails 24 3 3)
+    ∷ under (single duration_pattern 3 32) (word 3 (bytes "PT5m")) valid
+    ∷ under (single duration_pattern 3 32) (word 3 (bytes "P1w2dT3h")) (fails 24 3 3)
+    ∷ under (single duration_pattern 3 32) (word 3 (bytes "P5M")) (fails 24 3 3)
+    ∷ under (single duration_pattern 3 32) (word 3 (bytes "P0y4w")) (fails 24 3 3)
+    ∷ under (single duration_pattern 3 32) (string 3 (bytes "P4w")) (fails 20 3 3)
+    ∷ under (single duration_pattern 3 32) (word 3 (bytes "2004")) (fails 20 3 3)
+    ∷ under (single duration_pattern 3 2) (word 3 (bytes "P4w")) (fails 24 3 3)
+    ∷ under (single duration_pattern 3 2) (word 3 (bytes "P12W3D")) (fails 24 3 3)
+    ∷ under (single duration_pattern 3 2) (word 3 (bytes "-P3d")) (fails 24 3 3)
+    ∷ under (single duration_pattern 3 2) (word 3 (bytes "PT5m")) (fails 24 3 3)
+    ∷ under (single duration_pattern 3 2) (word 3 (bytes "P1w2dT3h")) (fails 24 3 3)
+    ∷ under (single duration_pattern 3 2) (word 3 (bytes "P5M")) valid
+    ∷ under (single duration_pattern 3 2) (word 3 (bytes "P0y4w")) (fails 24 3 3)
+    ∷ under (single duration_pattern 3 2) (string 3 (bytes "P4w")) (fails 20 3 3)
+    ∷ under (single duration_pattern 3 2) (word 3 (bytes "2004")) (fails 20 3 3)
     -- a duration pattern of all slots
-    ∷ under (single durationPattern 3 127) (word 3 (bytes "P1y2m3w4dT5h6m7s")) valid
-    ∷ under (single durationPattern 3 127) (word 3 (bytes "-P9999Y9999M9999W9999DT9999H9999M9999S")) valid
-    ∷ under (single durationPattern 3 127) (word 3 (bytes "P0d")) valid
-    ∷ under (single durationPattern 3 127) (word 3 (bytes "PT1s")) valid
-    ∷ under (single durationPattern 3 127) (word 3 (bytes "5")) (fails 20 3 3)
+    ∷ under (single duration_pattern 3 127) (word 3 (bytes "P1y2m3w4dT5h6m7s")) valid
+    ∷ under (single duration_pattern 3 127) (word 3 (bytes "-P9999Y9999M9999W9999DT9999H9999M9999S")) valid
+    ∷ under (single duration_pattern 3 127) (word 3 (bytes "P0d")) valid
+    ∷ under (single duration_pattern 3 127) (word 3 (bytes "PT1s")) valid
+    ∷ under (single duration_pattern 3 127) (word 3 (bytes "5")) (fails 20 3 3)
     -- durations under other leaves
     ∷ under (ranges integers (range 3 2_147_483_648 2_147_483_657 ∷ [])) (word 3 (bytes "P4w")) (fails 20 3 3)
     ∷ under (ranges integers (range 3 2_147_483_648 2_147_483_657 ∷ [])) (word 3 (bytes "-PT5M")) (fails 20 3 3)
@@ -467,5 +467,5 @@ cases =
     ∷ []
 
 pub none-wrong : wrong right 0 cases ≡ []
-unfolding wrong right cases meaningComputes
+unfolding wrong right cases meaning_computes
 none-wrong = refl

@@ -5,7 +5,7 @@ use Prim.Native.Nat.{ℕ, zero, suc, ◌+◌}
 use lib.ListN.{length, length-append, take, drop}
 use lib.Seq.{take_at, drop_at}
 use Rattle.meaning.specs.Constraints.{Range, Text, Leaf, single, ranges, texts, Object, object, Attributes, no_more, attribute, Value, any, nested, leaf}
-use Rattle.meaning.specs.Counting.{leafRecords, objectRecords, attributeRecords, valueRecords, rangeNumbers, textNumbers, leafNumbers, objectNumbers, attributeNumbers, valueNumbers, up_from}
+use Rattle.meaning.specs.Counting.{leaf_records, object_records, attribute_records, value_records, range_numbers, text_numbers, leaf_numbers, object_numbers, attribute_numbers, value_numbers, up_from}
 use Rattle.meaning.proofs.Numbers.{up-append}
 
 -- each number is the record's place in pre-order, counted from n
@@ -28,7 +28,7 @@ unfoldable mutual
 
   pub NumberedAttributes : Attributes → ℕ → Type 0
   NumberedAttributes no_more n = Unit {0}
-  NumberedAttributes (attribute h v more) n = (h.number ≡ n) × NumberedValue v (n + 1) × NumberedAttributes more (n + 1 + valueRecords v)
+  NumberedAttributes (attribute h v more) n = (h.number ≡ n) × NumberedValue v (n + 1) × NumberedAttributes more (n + 1 + value_records v)
 
   pub NumberedValue : Value → ℕ → Type 0
   NumberedValue any n = Unit {0}
@@ -36,31 +36,31 @@ unfoldable mutual
   NumberedValue (leaf l) n = NumberedLeaf l n
 
 -- there are as many numbers as records
-ranges-counted : (l : List Range) → length (rangeNumbers l) ≡ length l
+ranges-counted : (l : List Range) → length (range_numbers l) ≡ length l
 ranges-counted [] = refl
 ranges-counted (x ∷ xs) = ap suc (ranges-counted xs)
 
-texts-counted : (l : List Text) → length (textNumbers l) ≡ length l
+texts-counted : (l : List Text) → length (text_numbers l) ≡ length l
 texts-counted [] = refl
 texts-counted (x ∷ xs) = ap suc (texts-counted xs)
 
-leaf-counted : (l : Leaf) → length (leafNumbers l) ≡ leafRecords l
+leaf-counted : (l : Leaf) → length (leaf_numbers l) ≡ leaf_records l
 leaf-counted (single sort n flag) = refl
 leaf-counted (ranges sort l) = ranges-counted l
 leaf-counted (texts l) = texts-counted l
 
 mutual
-  unfolding objectRecords objectNumbers attributeRecords attributeNumbers valueRecords valueNumbers
+  unfolding object_records object_numbers attribute_records attribute_numbers value_records value_numbers
 
-  pub object-counted : (o : Object) → length (objectNumbers o) ≡ objectRecords o
+  pub object-counted : (o : Object) → length (object_numbers o) ≡ object_records o
   object-counted (object h xs) = ap suc (attributes-counted xs)
 
-  attributes-counted : (xs : Attributes) → length (attributeNumbers xs) ≡ attributeRecords xs
+  attributes-counted : (xs : Attributes) → length (attribute_numbers xs) ≡ attribute_records xs
   attributes-counted no_more = refl
   attributes-counted (attribute h v more) =
-      ap suc (length-append (valueNumbers v) (attributeNumbers more) ∙ ap₂ ◌+◌ (value-counted v) (attributes-counted more))
+      ap suc (length-append (value_numbers v) (attribute_numbers more) ∙ ap₂ ◌+◌ (value-counted v) (attributes-counted more))
 
-  value-counted : (v : Value) → length (valueNumbers v) ≡ valueRecords v
+  value-counted : (v : Value) → length (value_numbers v) ≡ value_records v
   value-counted any = refl
   value-counted (nested o) = object-counted o
   value-counted (leaf l) = leaf-counted l
@@ -79,34 +79,34 @@ up_split a b n xs ys h e =
       sym (drop_at xs ys a h) ∙ ap (drop a) g ∙ drop_at (up_from n a) (up_from (n + a) b) a l,
     )
 
-ranges-numbered : (l : List Range) (n : ℕ) → rangeNumbers l ≡ up_from n (length l) → NumberedRanges l n
+ranges-numbered : (l : List Range) (n : ℕ) → range_numbers l ≡ up_from n (length l) → NumberedRanges l n
 ranges-numbered [] n e = tt
 ranges-numbered (x ∷ xs) n e = (cc, ranges-numbered xs (n + 1) (cc))
 
-texts-numbered : (l : List Text) (n : ℕ) → textNumbers l ≡ up_from n (length l) → NumberedTexts l n
+texts-numbered : (l : List Text) (n : ℕ) → text_numbers l ≡ up_from n (length l) → NumberedTexts l n
 texts-numbered [] n e = tt
 texts-numbered (x ∷ xs) n e = (cc, texts-numbered xs (n + 1) (cc))
 
-leaf-numbered : (l : Leaf) (n : ℕ) → leafNumbers l ≡ up_from n (leafRecords l) → NumberedLeaf l n
+leaf-numbered : (l : Leaf) (n : ℕ) → leaf_numbers l ≡ up_from n (leaf_records l) → NumberedLeaf l n
 leaf-numbered (single sort k flag) n e = cc
 leaf-numbered (ranges sort l) n e = ranges-numbered l n e
 leaf-numbered (texts l) n e = texts-numbered l n e
 
 mutual
-  unfolding NumberedObject objectRecords objectNumbers NumberedAttributes attributeRecords attributeNumbers NumberedValue valueRecords valueNumbers
+  unfolding NumberedObject object_records object_numbers NumberedAttributes attribute_records attribute_numbers NumberedValue value_records value_numbers
 
   -- a tree whose numbers go up one by one from n is numbered from n
-  pub object-numbered : (o : Object) (n : ℕ) → objectNumbers o ≡ up_from n (objectRecords o) → NumberedObject o n
+  pub object-numbered : (o : Object) (n : ℕ) → object_numbers o ≡ up_from n (object_records o) → NumberedObject o n
   object-numbered (object h xs) n e = (cc, attributes-numbered xs (n + 1) (cc))
 
-  attributes-numbered : (xs : Attributes) (n : ℕ) → attributeNumbers xs ≡ up_from n (attributeRecords xs)
+  attributes-numbered : (xs : Attributes) (n : ℕ) → attribute_numbers xs ≡ up_from n (attribute_records xs)
       → NumberedAttributes xs n
   attributes-numbered no_more n e = tt
   attributes-numbered (attribute h v more) n e =
-      let s = up_split (valueRecords v) (attributeRecords more) (n + 1) (valueNumbers v) (attributeNumbers more) (value-counted v) (cc) in
-      (cc, value-numbered v (n + 1) s.0, attributes-numbered more (n + 1 + valueRecords v) s.1)
+      let s = up_split (value_records v) (attribute_records more) (n + 1) (value_numbers v) (attribute_numbers more) (value-counted v) (cc) in
+      (cc, value-numbered v (n + 1) s.0, attributes-numbered more (n + 1 + value_records v) s.1)
 
-  value-numbered : (v : Value) (n : ℕ) → valueNumbers v ≡ up_from n (valueRecords v) → NumberedValue v n
+  value-numbered : (v : Value) (n : ℕ) → value_numbers v ≡ up_from n (value_records v) → NumberedValue v n
   value-numbered any n e = tt
   value-numbered (nested o) n e = object-numbered o n e
   value-numbered (leaf l) n e = leaf-numbered l n e

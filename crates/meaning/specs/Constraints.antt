@@ -16,7 +16,7 @@ pub record Text : Type 0 where
 
 -- the sorts of leaves of one record, whose flag says which Booleans or which pattern
 pub data SingleSort : Type 0 where
-  booleans datePattern timePattern durationPattern : SingleSort
+  booleans date_pattern time_pattern duration_pattern : SingleSort
 
 -- the sorts of lists of closed pairs
 pub data RangeSort : Type 0 where

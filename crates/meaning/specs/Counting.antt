@@ -4,73 +4,73 @@ use Rattle.std.specs.Prelude.{List, [], ◌∷◌, ◌++◌, ℕ, zero, suc, ◌
 use Rattle.meaning.specs.Constraints.{Range, Text, Leaf, single, ranges, texts, Object, object, Attributes, no_more, attribute, Value, any, nested, leaf}
 
 -- how many records a leaf has: one for each item
-abbrev pub leafRecords : Leaf → ℕ
-leafRecords (single sort n flag) = 1
-leafRecords (ranges sort l) = length l
-leafRecords (texts l) = length l
+abbrev pub leaf_records : Leaf → ℕ
+leaf_records (single sort n flag) = 1
+leaf_records (ranges sort l) = length l
+leaf_records (texts l) = length l
 
 unfoldable mutual
-  pub objectRecords : Object → ℕ
-  objectRecords (object h xs) = suc (attributeRecords xs)
+  pub object_records : Object → ℕ
+  object_records (object h xs) = suc (attribute_records xs)
 
-  pub attributeRecords : Attributes → ℕ
-  attributeRecords no_more = 0
-  attributeRecords (attribute h v more) = suc (valueRecords v + attributeRecords more)
+  pub attribute_records : Attributes → ℕ
+  attribute_records no_more = 0
+  attribute_records (attribute h v more) = suc (value_records v + attribute_records more)
 
-  pub valueRecords : Value → ℕ
-  valueRecords any = 0
-  valueRecords (nested o) = objectRecords o
-  valueRecords (leaf l) = leafRecords l
+  pub value_records : Value → ℕ
+  value_records any = 0
+  value_records (nested o) = object_records o
+  value_records (leaf l) = leaf_records l
 
 -- the bytes that go to the pool, in text order
-abbrev pub textPool : List Text → List ℕ
-textPool [] = []
-textPool (x ∷ xs) = x.text ++ textPool xs
+abbrev pub text_pool : List Text → List ℕ
+text_pool [] = []
+text_pool (x ∷ xs) = x.text ++ text_pool xs
 
-abbrev pub leafPool : Leaf → List ℕ
-leafPool (single sort n flag) = []
-leafPool (ranges sort l) = []
-leafPool (texts l) = textPool l
+abbrev pub leaf_pool : Leaf → List ℕ
+leaf_pool (single sort n flag) = []
+leaf_pool (ranges sort l) = []
+leaf_pool (texts l) = text_pool l
 
 unfoldable mutual
-  pub objectPool : Object → List ℕ
-  objectPool (object h xs) = h.type ++ (h.code ++ attributePool xs)
+  pub object_pool : Object → List ℕ
+  object_pool (object h xs) = h.type ++ (h.code ++ attribute_pool xs)
 
-  pub attributePool : Attributes → List ℕ
-  attributePool no_more = []
-  attributePool (attribute h v more) = h.name ++ (valuePool v ++ attributePool more)
+  pub attribute_pool : Attributes → List ℕ
+  attribute_pool no_more = []
+  attribute_pool (attribute h v more) = h.name ++ (value_pool v ++ attribute_pool more)
 
-  pub valuePool : Value → List ℕ
-  valuePool any = []
-  valuePool (nested o) = objectPool o
-  valuePool (leaf l) = leafPool l
+  pub value_pool : Value → List ℕ
+  value_pool any = []
+  value_pool (nested o) = object_pool o
+  value_pool (leaf l) = leaf_pool l
 
 -- the numbers of the records, in pre-order: an object before its attributes, an attribute before its value, an item before the next
-abbrev pub rangeNumbers : List Range → List ℕ
-rangeNumbers [] = []
-rangeNumbers (x ∷ xs) = x.number ∷ rangeNumbers xs
+abbrev pub range_numbers : List Range → List ℕ
+range_numbers [] = []
+range_numbers (x ∷ xs) = x.number ∷ range_numbers xs
 
-abbrev pub textNumbers : List Text → List ℕ
-textNumbers [] = []
-textNumbers (x ∷ xs) = x.number ∷ textNumbers xs
+abbrev pub text_numbers : List Text → List ℕ
+text_numbers [] = []
+text_numbers (x ∷ xs) = x.number ∷ text_numbers xs
 
-abbrev pub leafNumbers : Leaf → List ℕ
-leafNumbers (single sort n flag) = n ∷ []
-leafNumbers (ranges sort l) = rangeNumbers l
-leafNumbers (texts l) = textNumbers l
+abbrev pub leaf_numbers : Leaf → List ℕ
+leaf_numbers (single sort n flag) = n ∷ []
+leaf_numbers (ranges sort l) = range_numbers l
+leaf_numbers (texts l) = text_numbers l
 
 unfoldable mutual
-  pub objectNumbers : Object → List ℕ
-  objectNumbers (object h xs) = h.number ∷ attributeNumbers xs
+  pub object_numbers : Object → List ℕ
+  object_numbers (object h xs) = h.number ∷ attribute_numbers xs
 
-  pub attributeNumbers : Attributes → List ℕ
-  attributeNumbers no_more = []
-  attributeNumbers (attribute h v more) = h.number ∷ (valueNumbers v ++ attributeNumbers more)
+  pub attribute_numbers : Attributes → List ℕ
+  attribute_numbers no_more = []
+  attribute_numbers (attribute h v more) = h.number ∷ (value_numbers v ++ attribute_numbers more)
 
-  pub valueNumbers : Value → List ℕ
-  valueNumbers any = []
-  valueNumbers (nested o) = objectNumbers o
-  valueNumbers (leaf l) = leafNumbers l
+  pub value_numbers : Value → List ℕ
+  value_numbers any = []
+  value_numbers (nested o) = object_numbers o
+  value_numbers (leaf l) = leaf_numbers l
 
 -- so many numbers, one after the other, from n on
 abbrev pub up_from : ℕ → ℕ → List ℕ

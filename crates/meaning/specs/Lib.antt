@@ -7,4 +7,4 @@ pub mod Sorts
 pub mod Admission
 pub mod Judging
 pub mod Moving
-pub mod contracts
+pub mod Clauses

@@ -3,18 +3,18 @@
 -- document 02, 1: "A value is admitted when each slot it fills is in the pattern .. New kind 9; .. the flag is 1 to 127".
 -- Assumes nothing.
 use Rattle.std.specs.Prelude.{Bool, false, ◌&&◌, ◌||◌, List, [], ◌∷◌, ℕ, eqb, leb}
-use Rattle.values.specs.Integers.{integerOf, twosComplement}
-use Rattle.values.specs.Dates.{dateOf}
-use Rattle.values.specs.Times.{timeOf}
-use Rattle.values.specs.Durations.{durationOf}
-use Rattle.values.specs.Patterns.{fitsDate, fitsTime, fitsDuration}
-use Rattle.values.specs.Words.{booleanOf}
-use Rattle.meaning.specs.Constraints.{Range, SingleSort, booleans, datePattern, timePattern, durationPattern, RangeSort, integers, dates}
+use Rattle.values.specs.Integers.{integer_of, twos_complement}
+use Rattle.values.specs.Dates.{date_of}
+use Rattle.values.specs.Times.{time_of}
+use Rattle.values.specs.Durations.{duration_of}
+use Rattle.values.specs.Patterns.{fits_date, fits_time, fits_duration}
+use Rattle.values.specs.Words.{boolean_of}
+use Rattle.meaning.specs.Constraints.{Range, SingleSort, booleans, date_pattern, time_pattern, duration_pattern, RangeSort, integers, dates}
 use Rattle.meaning.specs.Findings.{Finding, try}
 
 -- the flag of Booleans has True as 1 and False as 2
-abbrev pub inFlag : ℕ → ℕ → Bool
-inFlag flag v = eqb flag v || eqb flag 3
+abbrev pub in_flag : ℕ → ℕ → Bool
+in_flag flag v = eqb flag v || eqb flag 3
 
 abbrev pub in_range : ℕ → Range → Bool
 in_range v x = leb x.low v && leb v x.high
@@ -29,13 +29,13 @@ pub record SingleRow : Type 0 where
   pub greatest : ℕ
   pub under : ℕ → List ℕ → Finding
 
-abbrev pub singleRow : SingleSort → SingleRow
-singleRow booleans = record { kind = 3; greatest = 3; under = λ flag w. try (booleanOf w) (inFlag flag) }
-singleRow datePattern =
-    record { kind = 6; greatest = 5; under = λ flag w. try (dateOf w) (λ d. fitsDate flag d.parts) }
-singleRow timePattern = record { kind = 8; greatest = 4; under = λ flag w. try (timeOf w) (fitsTime flag) }
-singleRow durationPattern =
-    record { kind = 9; greatest = 127; under = λ flag w. try (durationOf w) (fitsDuration flag) }
+abbrev pub single_row : SingleSort → SingleRow
+single_row booleans = record { kind = 3; greatest = 3; under = λ flag w. try (boolean_of w) (in_flag flag) }
+single_row date_pattern =
+    record { kind = 6; greatest = 5; under = λ flag w. try (date_of w) (λ d. fits_date flag d.parts) }
+single_row time_pattern = record { kind = 8; greatest = 4; under = λ flag w. try (time_of w) (fits_time flag) }
+single_row duration_pattern =
+    record { kind = 9; greatest = 127; under = λ flag w. try (duration_of w) (fits_duration flag) }
 
 -- the kind of its records, an end as a record has it, which is also the way back, and how a word stands to the items
 pub record RangeRow : Type 0 where
@@ -43,11 +43,11 @@ pub record RangeRow : Type 0 where
   pub end : ℕ → ℕ
   pub under : List Range → List ℕ → Finding
 
-abbrev pub rangeRow : RangeSort → RangeRow
-rangeRow integers = record { kind = 4; end = twosComplement; under = λ l w. try (integerOf w) (λ v. in_some v l) }
-rangeRow dates =
-    record { kind = 7; end = λ x. x; under = λ l w. try (dateOf w) (λ d. eqb d.parts 3 && in_some d.day l) }
+abbrev pub range_row : RangeSort → RangeRow
+range_row integers = record { kind = 4; end = twos_complement; under = λ l w. try (integer_of w) (λ v. in_some v l) }
+range_row dates =
+    record { kind = 7; end = λ x. x; under = λ l w. try (date_of w) (λ d. eqb d.parts 3 && in_some d.day l) }
 
 -- the kind of the records of strings
-abbrev pub textKind : ℕ
-textKind = 5
+abbrev pub text_kind : ℕ
+text_kind = 5

@@ -16,7 +16,7 @@ use Rattle.refusals.specs.Expecting.{expect}
 -- a cause and its number, a limit and its value, a sort asked for from a place of a text on and the token taken, or the fault
 pub data Case : Type 0 where
   numbered : (cause : Cause) (number : ℕ) → Case
-  limitIs : (limit value : ℕ) → Case
+  limit_is : (limit value : ℕ) → Case
   takes : (text : List ℕ) (sort from start end : ℕ) → Case
   faults : (text : List ℕ) (sort from : ℕ) (cause : Cause) (place : ℕ) → Case
 
@@ -43,28 +43,28 @@ which BrokenRecord = 17
 which NotAnObject = 18
 which NoName = 19
 
-abbrev pub isToken : Reading Token → ℕ → ℕ → ℕ → Bool
-isToken (refused r) sort start end = false
-isToken (got t p) sort start end = eqb t.sort sort && eqb t.start start && eqb t.end end && eqb p end
+abbrev pub is_token : Reading Token → ℕ → ℕ → ℕ → Bool
+is_token (refused r) sort start end = false
+is_token (got t p) sort start end = eqb t.sort sort && eqb t.start start && eqb t.end end && eqb p end
 
-abbrev pub isFault : Reading Token → Cause → ℕ → Bool
-isFault (refused r) cause place = eqb (which r.cause) (which cause) && eqb r.place place
-isFault (got t p) cause place = false
+abbrev pub is_fault : Reading Token → Cause → ℕ → Bool
+is_fault (refused r) cause place = eqb (which r.cause) (which cause) && eqb r.place place
+is_fault (got t p) cause place = false
 
 unfoldable pub right : Case → Bool
 right (numbered cause number) = eqb (number_of cause) number
-right (limitIs limit value) = eqb limit value
-right (takes s sort from start end) = isToken (expect s sort from) sort start end
-right (faults s sort from cause place) = isFault (expect s sort from) cause place
+right (limit_is limit value) = eqb limit value
+right (takes s sort from start end) = is_token (expect s sort from) sort start end
+right (faults s sort from cause place) = is_fault (expect s sort from) cause place
 
 -- the number and the place of a refusal; and tests of an outcome, of its refusal and of what it gives
-abbrev pub isRefusal : Refusal → ℕ → ℕ → Bool
-isRefusal r number place = eqb (number_of r.cause) number && eqb r.place place
+abbrev pub is_refusal : Refusal → ℕ → ℕ → Bool
+is_refusal r number place = eqb (number_of r.cause) number && eqb r.place place
 
 abbrev pub is_refused : {E A : Type 0} → Outcome E A → (E → Bool) → Bool
 is_refused (Outcomes.refused e) test = test e
 is_refused (gave a) test = false
 
-abbrev pub isGiven : {E A : Type 0} → Outcome E A → (A → Bool) → Bool
-isGiven (Outcomes.refused e) test = false
-isGiven (gave a) test = test a
+abbrev pub is_given : {E A : Type 0} → Outcome E A → (A → Bool) → Bool
+is_given (Outcomes.refused e) test = false
+is_given (gave a) test = test a

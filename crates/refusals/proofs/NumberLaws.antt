@@ -9,44 +9,44 @@ use Rattle.refusals.specs.Numbers
 
 pub row_of : (c : Cause) → (p : PlaceSort) × NumberRow c (number_of c) p
 unfolding number_of
-row_of TextTooLong = (_, Numbers.textTooLong)
+row_of TextTooLong = (_, Numbers.text_too_long)
 row_of Unreadable = (_, Numbers.unreadable)
-row_of CannotFollow = (_, Numbers.cannotFollow)
-row_of EndsEarly = (_, Numbers.endsEarly)
-row_of TooDeep = (_, Numbers.tooDeep)
-row_of TooLong = (_, Numbers.tooLong)
+row_of CannotFollow = (_, Numbers.cannot_follow)
+row_of EndsEarly = (_, Numbers.ends_early)
+row_of TooDeep = (_, Numbers.too_deep)
+row_of TooLong = (_, Numbers.too_long)
 row_of Impossible = (_, Numbers.impossible)
-row_of OutOfRange = (_, Numbers.outOfRange)
-row_of BadWord = (_, Numbers.badWord)
-row_of EmptyInterval = (_, Numbers.emptyInterval)
-row_of TooManyItems = (_, Numbers.tooManyItems)
-row_of TooManyRecords = (_, Numbers.tooManyRecords)
+row_of OutOfRange = (_, Numbers.out_of_range)
+row_of BadWord = (_, Numbers.bad_word)
+row_of EmptyInterval = (_, Numbers.empty_interval)
+row_of TooManyItems = (_, Numbers.too_many_items)
+row_of TooManyRecords = (_, Numbers.too_many_records)
 row_of Overlap = (_, Numbers.overlap)
-row_of RepeatedName = (_, Numbers.repeatedName)
-row_of PoolTooLarge = (_, Numbers.poolTooLarge)
-row_of OutputTooShort = (_, Numbers.tableTooLong)
-row_of NotATable = (_, Numbers.notATable)
-row_of BrokenRecord = (_, Numbers.brokenRecord)
-row_of NotAnObject = (_, Numbers.notAnObject)
-row_of NoName = (_, Numbers.noName)
+row_of RepeatedName = (_, Numbers.repeated_name)
+row_of PoolTooLarge = (_, Numbers.pool_too_large)
+row_of OutputTooShort = (_, Numbers.table_too_long)
+row_of NotATable = (_, Numbers.not_aTable)
+row_of BrokenRecord = (_, Numbers.broken_record)
+row_of NotAnObject = (_, Numbers.not_an_object)
+row_of NoName = (_, Numbers.no_name)
 
 -- the rows of a text's faults: from 2 to 9, each at a token
 pub text-row : (c : Cause) → 2 ≤ number_of c → number_of c < 10 → NumberRow c (number_of c) Numbers.token
 unfolding number_of
 text-row TextTooLong l m = absurd (omega arith)
 text-row Unreadable l m = Numbers.unreadable
-text-row CannotFollow l m = Numbers.cannotFollow
-text-row EndsEarly l m = Numbers.endsEarly
-text-row TooDeep l m = Numbers.tooDeep
-text-row TooLong l m = Numbers.tooLong
+text-row CannotFollow l m = Numbers.cannot_follow
+text-row EndsEarly l m = Numbers.ends_early
+text-row TooDeep l m = Numbers.too_deep
+text-row TooLong l m = Numbers.too_long
 text-row Impossible l m = Numbers.impossible
-text-row OutOfRange l m = Numbers.outOfRange
-text-row BadWord l m = Numbers.badWord
-text-row EmptyInterval l m = Numbers.emptyInterval
-text-row TooManyItems l m = Numbers.tooManyItems
-text-row TooManyRecords l m = Numbers.tooManyRecords
+text-row OutOfRange l m = Numbers.out_of_range
+text-row BadWord l m = Numbers.bad_word
+text-row EmptyInterval l m = Numbers.empty_interval
+text-row TooManyItems l m = Numbers.too_many_items
+text-row TooManyRecords l m = Numbers.too_many_records
 text-row Overlap l m = Numbers.overlap
-text-row RepeatedName l m = Numbers.repeatedName
+text-row RepeatedName l m = Numbers.repeated_name
 text-row PoolTooLarge l m = absurd (omega arith)
 text-row OutputTooShort l m = absurd (omega arith)
 text-row NotATable l m = absurd (omega arith)

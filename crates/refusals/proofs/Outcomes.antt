@@ -16,7 +16,7 @@ use Rattle.refusals.specs.declared.Cause.TheVariants.{OutputTooShort}
 use Rattle.refusals.specs.declared.Refusal.{Refusal}
 use Rattle.refusals.specs.Reading
 use Rattle.refusals.specs.Reading.{Reading, got}
-use Rattle.refusals.specs.Outcomes.{Outcome, refused, gave, orFault, unless, afterReading, Written, fitting, write}
+use Rattle.refusals.specs.Outcomes.{Outcome, refused, gave, or_fault, unless, after_reading, Written, fitting, write}
 
 -- the cases of an outcome differ, and each holds one value
 module _ {E A : Type 0} where
@@ -63,7 +63,7 @@ front-stored bs out h = let e : 0 + length bs ≡ length bs = omega arith in rw 
 
 -- where something was given, no test before found a fault
 module _ {E A : Type 0} (a : A) where
-  pub no-fault : (f : Option E) (more : Outcome E A) → orFault f more ≡ gave a → (f ≡ none) × (more ≡ gave a)
+  pub no-fault : (f : Option E) (more : Outcome E A) → or_fault f more ≡ gave a → (f ≡ none) × (more ≡ gave a)
   no-fault none more h = (refl, h)
   no-fault (some e) more h = absurd (not-gave h)
 
@@ -94,12 +94,12 @@ pub record Read {A B : Type 0} (r : Reading A) (more : A → Outcome Refusal B) 
   pub follows : more value ≡ o
 
 module _ {A B : Type 0} where
-  pub was_read : (r : Reading A) (more : A → Outcome Refusal B) (b : B) → afterReading r more ≡ gave b
+  pub was_read : (r : Reading A) (more : A → Outcome Refusal B) (b : B) → after_reading r more ≡ gave b
       → Read r more (gave b)
   was_read (Reading.refused y) more b h = absurd (not-gave h)
   was_read (got a p) more b h = record { value = a; place = p; is = refl; follows = h }
 
-  pub refused-or-read : (r : Reading A) (more : A → Outcome Refusal B) (e : Refusal) → afterReading r more ≡ refused e
+  pub refused-or-read : (r : Reading A) (more : A → Outcome Refusal B) (e : Refusal) → after_reading r more ≡ refused e
       → (r ≡ Reading.refused e) ⊎ Read r more (refused e)
   refused-or-read (Reading.refused y) more e h = inl (ap Reading.refused (same-refusal h))
   refused-or-read (got a p) more e h = inr (record { value = a; place = p; is = refl; follows = h })

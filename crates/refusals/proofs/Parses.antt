@@ -7,15 +7,15 @@ use native.Mathlib.Omega.{arith}
 use lib.Dec.{eqb}
 use lib.ListN.{length}
 use borrow.Author.Tests.{eqb-true}
-use Rattle.lexis.specs.Tokens.{tokenAt}
+use Rattle.lexis.specs.Tokens.{token_at}
 use Rattle.lexis.specs.declared.Token.{Token}
 use Rattle.lexis.proofs.Cases.{by_cond}
 use Rattle.lexis.proofs.Places.{Found, token-found}
 use Rattle.refusals.specs.Reading.{Reading, refused, got}
 use Rattle.refusals.specs.Reading
 use Rattle.refusals.specs.Refusals.{number_of}
-use Rattle.refusals.specs.Parsing.{Parse, stopped, flawed, parsed, and_then, soundly, noting, syntax, asRead, wanted, firstIn}
-use Rattle.refusals.specs.Expecting.{syntaxCause, syntaxFault, expect}
+use Rattle.refusals.specs.Parsing.{Parse, stopped, flawed, parsed, and_then, soundly, noting, syntax, as_read, wanted, first_in}
+use Rattle.refusals.specs.Expecting.{syntax_cause, syntax_fault, expect}
 use Rattle.refusals.specs.declared.Cause.{Cause}
 use Rattle.refusals.specs.declared.Refusal.{Refusal}
 use Rattle.refusals.proofs.Readings.{Holds, ConstraintRefusal, refuse-holds, got-holds, cond-holds, holds-map}
@@ -24,50 +24,50 @@ use Rattle.refusals.proofs.Tokens.{Passed, strict_of, syntax-two}
 -- what reading tells of a part and the next
 module _ {A B : Type 0} where
   pub first_then : (w : Parse A) (go : A → ℕ → Parse B)
-      → firstIn (and_then w go) ≡ Reading.readThen (firstIn w) (λ a p. firstIn (go a p))
+      → first_in (and_then w go) ≡ Reading.read_then (first_in w) (λ a p. first_in (go a p))
   first_then (stopped x) go = refl
   first_then (flawed x w) go = refl
   first_then (parsed a p) go = refl
 
-  pub then-refused : (w : Parse A) (go : A → ℕ → Parse B) (x : Refusal) → firstIn w ≡ refused x
-      → firstIn (and_then w go) ≡ refused x
-  then-refused w go x e = first_then w go ∙ ap (λ r. Reading.readThen r (λ a p. firstIn (go a p))) e
+  pub then-refused : (w : Parse A) (go : A → ℕ → Parse B) (x : Refusal) → first_in w ≡ refused x
+      → first_in (and_then w go) ≡ refused x
+  then-refused w go x e = first_then w go ∙ ap (λ r. Reading.read_then r (λ a p. first_in (go a p))) e
 
-  pub then-got : (w : Parse A) (go : A → ℕ → Parse B) (a : A) (p : ℕ) → firstIn w ≡ got a p
-      → firstIn (and_then w go) ≡ firstIn (go a p)
-  then-got w go a p e = first_then w go ∙ ap (λ r. Reading.readThen r (λ a p. firstIn (go a p))) e
+  pub then-got : (w : Parse A) (go : A → ℕ → Parse B) (a : A) (p : ℕ) → first_in w ≡ got a p
+      → first_in (and_then w go) ≡ first_in (go a p)
+  then-got w go a p e = first_then w go ∙ ap (λ r. Reading.read_then r (λ a p. first_in (go a p))) e
 
   pub first-soundly : (w : Parse A) (go : Bool → A → ℕ → Parse B)
-      → firstIn (soundly w go) ≡ Reading.readThen (firstIn w) (λ a p. firstIn (go true a p))
+      → first_in (soundly w go) ≡ Reading.read_then (first_in w) (λ a p. first_in (go true a p))
   first-soundly (stopped x) go = refl
   first-soundly (flawed x w) go = refl
   first-soundly (parsed a p) go = refl
 
 -- the same for a choice, a test, a part with no faults but syntax faults, and parts of which it is known what reading tells
-pub told-cond : {A : Type 0} (b : Bool) (x y : Parse A) (u v : Reading A) → firstIn x ≡ u → firstIn y ≡ v
-    → firstIn (cond b x y) ≡ cond b u v
+pub told-cond : {A : Type 0} (b : Bool) (x y : Parse A) (u v : Reading A) → first_in x ≡ u → first_in y ≡ v
+    → first_in (cond b x y) ≡ cond b u v
 told-cond true x y u v e f = e
 told-cond false x y u v e f = f
 
 pub told-noting : {A : Type 0} (fault : Bool) (cause : Cause) (place : ℕ) (more : Parse A) (r : Reading A)
-    → firstIn more ≡ r
-    → firstIn (noting fault cause place more) ≡ Reading.readUnless fault cause place r
+    → first_in more ≡ r
+    → first_in (noting fault cause place more) ≡ Reading.read_unless fault cause place r
 told-noting true cause place more r e = refl
 told-noting false cause place more r e = e
 
-pub told-read : {A : Type 0} (r : Reading A) → firstIn (asRead r) ≡ r
+pub told-read : {A : Type 0} (r : Reading A) → first_in (as_read r) ≡ r
 told-read (refused x) = refl
 told-read (got a p) = refl
 
 pub told-then : {A B : Type 0} (w : Parse A) (go : A → ℕ → Parse B) (r : Reading A) (k : A → ℕ → Reading B)
-    → firstIn w ≡ r
-    → ((a : A) (p : ℕ) → firstIn (go a p) ≡ k a p) → firstIn (and_then w go) ≡ Reading.readThen r k
-told-then w go r k e f = first_then w go ∙ λ i. Reading.readThen (e i) (λ a p. f a p i)
+    → first_in w ≡ r
+    → ((a : A) (p : ℕ) → first_in (go a p) ≡ k a p) → first_in (and_then w go) ≡ Reading.read_then r k
+told-then w go r k e f = first_then w go ∙ λ i. Reading.read_then (e i) (λ a p. f a p i)
 
 pub told-soundly : {A B : Type 0} (w : Parse A) (go : Bool → A → ℕ → Parse B) (r : Reading A) (k : A → ℕ → Reading B)
-    → firstIn w ≡ r
-    → ((a : A) (p : ℕ) → firstIn (go true a p) ≡ k a p) → firstIn (soundly w go) ≡ Reading.readThen r k
-told-soundly w go r k e f = first-soundly w go ∙ λ i. Reading.readThen (e i) (λ a p. f a p i)
+    → first_in w ≡ r
+    → ((a : A) (p : ℕ) → first_in (go true a p) ≡ k a p) → first_in (soundly w go) ≡ Reading.read_then r k
+told-soundly w go r k e f = first-soundly w go ∙ λ i. Reading.read_then (e i) (λ a p. f a p i)
 
 -- what holds of a value that is read, with the place behind it
 unfoldable pub Yields : {A : Type 0} → (A → ℕ → Type 0) → Parse A → Type 0
@@ -105,13 +105,13 @@ module _ {A : Type 0} (P : A → ℕ → Type 0) where
   any-yields (flawed x w) go k = tt
   any-yields (parsed b p) go k = k b p
 
-  yields-holds : (w : Parse A) → Yields P w → Holds (λ x. Unit {0}) P (firstIn w)
+  yields-holds : (w : Parse A) → Yields P w → Holds (λ x. Unit {0}) P (first_in w)
   unfolding Yields Holds
   yields-holds (stopped x) h = tt
   yields-holds (flawed x w) h = tt
   yields-holds (parsed a p) h = h
 
-  pub yielded : (w : Parse A) (a : A) (p : ℕ) → Yields P w → firstIn w ≡ got a p → P a p
+  pub yielded : (w : Parse A) (a : A) (p : ℕ) → Yields P w → first_in w ≡ got a p → P a p
   unfolding Holds
   yielded w a p h e = rw e at (yields-holds w h)
 
@@ -200,7 +200,7 @@ module _ {A : Type 0} (s : List ℕ) (P : Bool → ℕ → A → ℕ → Type 0)
 
   -- what reading tells is a fault of the text, or has the property
   pub ordered-holds : (sound : Bool) (low : ℕ) (w : Parse A) → Ordered s P sound low w
-      → Holds (FaultFrom s low) (P sound low) (firstIn w)
+      → Holds (FaultFrom s low) (P sound low) (first_in w)
   unfolding Ordered Holds
   ordered-holds sound low (stopped x) h = h
   ordered-holds sound low (flawed x w) h = h.0
@@ -219,33 +219,33 @@ pub ordered-wanted : {A : Type 0} (s : List ℕ) (P : Bool → ℕ → A → ℕ
     (go : Token → ℕ → Parse A)
     → low ≤ rank from 0
     → from ≤ length s
-    → (eqb (tokenAt s from).sort sort ≡ true → Ordered s P sound low (go (tokenAt s from) (tokenAt s from).end))
+    → (eqb (token_at s from).sort sort ≡ true → Ordered s P sound low (go (token_at s from) (token_at s from).end))
     → Ordered s P sound low (and_then (wanted s sort from) go)
 unfolding expect
 ordered-wanted s P sound low sort from go l h k =
-    by_cond (λ (r : Reading Token). Ordered s P sound low (and_then (asRead r) go)) (eqb (tokenAt s from).sort sort) k (λ e. ordered-syntax s P sound low from (tokenAt s from) l (token-found s from h))
+    by_cond (λ (r : Reading Token). Ordered s P sound low (and_then (as_read r) go)) (eqb (token_at s from).sort sort) k (λ e. ordered-syntax s P sound low from (token_at s from) l (token-found s from h))
 
 -- a syntax fault, a token, and a part with no faults but syntax faults
 module _ (s : List ℕ) (low from : ℕ) (l : low ≤ rank from 0) where
   pub syntax-holds : {A : Type 0} (t : Token) (P : A → ℕ → Type 0) → Found s from t
-      → Holds (FaultFrom s low) P (syntaxFault t)
+      → Holds (FaultFrom s low) P (syntax_fault t)
   syntax-holds t P f =
       let e = syntax-two t in
-      refuse-holds (FaultFrom s low) P (syntaxCause t) t.start (record { behind = omega (arith, f.start); inside = omega (arith, f.order, f.inside); least = omega arith; most = omega arith })
+      refuse-holds (FaultFrom s low) P (syntax_cause t) t.start (record { behind = omega (arith, f.start); inside = omega (arith, f.order, f.inside); least = omega arith; most = omega arith })
 
   pub expect-passes : (sort : ℕ) → 1 < sort → from ≤ length s
       → Holds (FaultFrom s low) (Passed s from) (expect s sort from)
   unfolding expect
   expect-passes sort k h =
       let f = token-found s from h in
-      cond-holds (FaultFrom s low) (Passed s from) (eqb (tokenAt s from).sort sort) _ _
-      (λ e. got-holds (FaultFrom s low) (Passed s from) (tokenAt s from) _ (record { start = f.start; order = strict_of sort k (tokenAt s from) s from f (eqb-true _ _ e); behind = refl; inside = f.inside }))
-      (λ e. syntax-holds (tokenAt s from) (Passed s from) f)
+      cond-holds (FaultFrom s low) (Passed s from) (eqb (token_at s from).sort sort) _ _
+      (λ e. got-holds (FaultFrom s low) (Passed s from) (token_at s from) _ (record { start = f.start; order = strict_of sort k (token_at s from) s from f (eqb-true _ _ e); behind = refl; inside = f.inside }))
+      (λ e. syntax-holds (token_at s from) (Passed s from) f)
 
 pub ordered-read : {A B : Type 0} (s : List ℕ) (P : Bool → ℕ → A → ℕ → Type 0) (Q : B → ℕ → Type 0) (sound : Bool)
     (low : ℕ) (r : Reading B) (go : B → ℕ → Parse A)
     → Holds (FaultFrom s low) Q r → ((b : B) (p : ℕ) → Q b p → Ordered s P sound low (go b p))
-    → Ordered s P sound low (and_then (asRead r) go)
+    → Ordered s P sound low (and_then (as_read r) go)
 unfolding Ordered Holds
 ordered-read s P Q sound low (refused x) go h k = h
 ordered-read s P Q sound low (got b p) go h k = k b p h
@@ -260,7 +260,7 @@ pub record Passes {A : Type 0} (s : List ℕ) (from : ℕ) (P : A → ℕ → Ty
 
 -- what reading tells of such a part
 pub passes-holds : {A : Type 0} (s : List ℕ) (from : ℕ) (P : A → ℕ → Type 0) (w : Parse A)
-    → Ordered s (Passes s from P) true 0 w → Holds (ConstraintRefusal s) P (firstIn w)
+    → Ordered s (Passes s from P) true 0 w → Holds (ConstraintRefusal s) P (first_in w)
 unfolding Ordered Holds
 passes-holds s from P (stopped x) h = (h.inside, λ e. let m = h.most in omega arith)
 passes-holds s from P (flawed x w) h = (h.0.inside, λ e. let m = h.0.most in omega arith)
@@ -298,9 +298,9 @@ module _ {A : Type 0} (s : List ℕ) (P : A → ℕ → Type 0) where
   then-order Q low w go h k sound = ordered-then s _ _ sound low w go (h sound) (λ o l b p c q. order-lower (rank p 0) l (go b p) q.0 (k b p q.1) o)
 
   -- what reading tells is a fault of the text, or has the property
-  pub order-holds : (low : ℕ) (w : Parse A) → InOrder s low P w → Holds (FaultFrom s low) P (firstIn w)
+  pub order-holds : (low : ℕ) (w : Parse A) → InOrder s low P w → Holds (FaultFrom s low) P (first_in w)
   unfolding InOrder
-  order-holds low w h = holds-map (FaultFrom s low) _ P (firstIn w) (λ a p q. q.1) (ordered-holds s _ true low w (h true))
+  order-holds low w h = holds-map (FaultFrom s low) _ P (first_in w) (λ a p q. q.1) (ordered-holds s _ true low w (h true))
 
 -- what follows of a value
 pub order-map : {A : Type 0} (s : List ℕ) (low : ℕ) (P Q : A → ℕ → Type 0) (w : Parse A)

@@ -5,7 +5,7 @@ use mathlib.Core.Logic.{◌≢◌}
 use mathlib.Core.List.{List}
 use Prim.Native.Nat.{ℕ, ◌≤◌}
 use lib.ListN.{length}
-use Rattle.refusals.specs.Reading.{Reading, refused, got, refuse, readThen}
+use Rattle.refusals.specs.Reading.{Reading, refused, got, refuse, read_then}
 use Rattle.refusals.specs.Refusals.{number_of, refusal}
 use Rattle.refusals.specs.declared.Cause.{Cause}
 use Rattle.refusals.specs.declared.Refusal.{Refusal}
@@ -33,7 +33,7 @@ module _ {A : Type 0} (F : Refusal → Type 0) (P : A → ℕ → Type 0) where
   cond-holds false x y f g = g refl
 
   pub then-holds : {B : Type 0} (Q : B → ℕ → Type 0) (r : Reading B) (go : B → ℕ → Reading A) → Holds F Q r
-      → ((b : B) (p : ℕ) → Q b p → Holds F P (go b p)) → Holds F P (readThen r go)
+      → ((b : B) (p : ℕ) → Q b p → Holds F P (go b p)) → Holds F P (read_then r go)
   unfolding Holds
   then-holds Q (refused x) go h k = h
   then-holds Q (got b p) go h k = k b p h

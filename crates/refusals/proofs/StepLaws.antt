@@ -6,13 +6,13 @@ use Prim.Native.Nat.{ℕ}
 use native.Mathlib.Omega.{arith}
 use lib.Dec.{eqb}
 use borrow.Author.Tests.{eq-eqb, ne_eqb, eqb-true}
-use Rattle.lexis.specs.Tokens.{tokenAt}
-use Rattle.lexis.specs.contracts.Answers.{TokenIs}
+use Rattle.lexis.specs.Tokens.{token_at}
+use Rattle.lexis.specs.Clauses.Answers.{TokenIs}
 use Rattle.lexis.specs.declared.Token.{Token}
 use Rattle.refusals.specs.Reading.{Reading, refused, got}
 use Rattle.refusals.specs.Refusals.{refusal}
-use Rattle.refusals.specs.Expecting.{syntaxCause, taken, expect}
-use Rattle.refusals.specs.contracts.Answers.{causeOf, tokenReading, expectedOf, TokenPast, ExpectIs}
+use Rattle.refusals.specs.Expecting.{syntax_cause, taken, expect}
+use Rattle.refusals.specs.Clauses.Answers.{cause_of, token_reading, expected_of, TokenPast, ExpectIs}
 use Rattle.refusals.specs.declared.Cause.{Cause}
 use Rattle.refusals.specs.declared.Cause.TheVariants.{Unreadable, CannotFollow, EndsEarly}
 use Rattle.refusals.specs.declared.Refusal.{Refusal}
@@ -21,56 +21,56 @@ use Rattle.refusals.specs.declared.steps.Expected.TheVariants.{Fault, Taken}
 
 -- the cause of a fault, by the token's sort
 module _ (sort : ℕ) where
-  pub cause-end : sort ≡ 0 → EndsEarly ≡ causeOf sort
+  pub cause-end : sort ≡ 0 → EndsEarly ≡ cause_of sort
   cause-end e = rw (eq-eqb sort 0 e)
 
-  pub cause-unreadable : (sort ≡ 0 → ⊥) → sort ≡ 1 → Unreadable ≡ causeOf sort
+  pub cause-unreadable : (sort ≡ 0 → ⊥) → sort ≡ 1 → Unreadable ≡ cause_of sort
   cause-unreadable n e = rw (ne_eqb sort 0 n, eq-eqb sort 1 e)
 
-  pub cause-follow : (sort ≡ 0 → ⊥) → (sort ≡ 1 → ⊥) → CannotFollow ≡ causeOf sort
+  pub cause-follow : (sort ≡ 0 → ⊥) → (sort ≡ 1 → ⊥) → CannotFollow ≡ cause_of sort
   cause-follow n m = rw (ne_eqb sort 0 n, ne_eqb sort 1 m)
 
 -- the refusal of a token with that cause
-pub fault-is : (t : Token) (k : Cause) → k ≡ causeOf t.sort
-    → refusal k t.start ≡ refusal (syntaxCause t) t.start
+pub fault-is : (t : Token) (k : Cause) → k ≡ cause_of t.sort
+    → refusal k t.start ≡ refusal (syntax_cause t) t.start
 fault-is t k e = ap (λ x. refusal x t.start) e
 
 -- a token of the sort asked for, and another
 module _ (t : Token) (sort : ℕ) where
-  pub taken-there : t.sort ≡ sort → Taken t ≡ expectedOf t sort
+  pub taken-there : t.sort ≡ sort → Taken t ≡ expected_of t sort
   taken-there e = rw (eq-eqb t.sort sort e)
 
-  pub taken_not : (t.sort ≡ sort → ⊥) → (x : Refusal) → x ≡ refusal (syntaxCause t) t.start
-      → Fault x ≡ expectedOf t sort
+  pub taken_not : (t.sort ≡ sort → ⊥) → (x : Refusal) → x ≡ refusal (syntax_cause t) t.start
+      → Fault x ≡ expected_of t sort
   taken_not n x e = rw (ne_eqb t.sort sort n, e)
 
 -- the answer is the reading of the token u that stands from a place on
-pub taken_is : (s : List ℕ) (sort from : ℕ) (u t : Token) → TokenIs s from u t → (r : Expected) → r ≡ expectedOf t sort
+pub taken_is : (s : List ℕ) (sort from : ℕ) (u t : Token) → TokenIs s from u t → (r : Expected) → r ≡ expected_of t sort
     → ExpectIs s sort from (taken u sort) r
 taken_is s sort from u t tok r e = rw e (by (eqb t.sort sort) refl)
   where
     by : (b : Bool) → eqb t.sort sort ≡ b
-        → ExpectIs s sort from (taken u sort) (cond b (Taken t) (Fault (refusal (syntaxCause t) t.start)))
+        → ExpectIs s sort from (taken u sort) (cond b (Taken t) (Fault (refusal (syntax_cause t) t.start)))
     by true h = record {
       is = rw (← tok.is, h);
       past = (tok.start, tok.order, tok.inside, λ k. let q = eqb-true t.sort sort h in tok.strict (omega arith));
     }
     by false h = record { is = rw (← tok.is, h); past = tt }
 
-pub expect-is : (s : List ℕ) (sort from : ℕ) (t : Token) → TokenIs s from (tokenAt s from) t → (r : Expected)
-    → r ≡ expectedOf t sort
+pub expect-is : (s : List ℕ) (sort from : ℕ) (t : Token) → TokenIs s from (token_at s from) t → (r : Expected)
+    → r ≡ expected_of t sort
     → ExpectIs s sort from (expect s sort from) r
 unfolding expect
-expect-is s sort from t tok r e = taken_is s sort from (tokenAt s from) t tok r e
+expect-is s sort from t tok r e = taken_is s sort from (token_at s from) t tok r e
 
 -- what an answer says of the reading that it is
 module _ {s : List ℕ} {sort from : ℕ} {reading : Reading Token} {r : Expected}
     (e : ExpectIs s sort from reading r) where
   pub expected-fault : (x : Refusal) → r ≡ Fault x → reading ≡ refused x
-  expected-fault x g = sym e.is ∙ ap tokenReading g
+  expected-fault x g = sym e.is ∙ ap token_reading g
 
   pub expected-token : (t : Token) → r ≡ Taken t → reading ≡ got t t.end
-  expected-token t g = sym e.is ∙ ap tokenReading g
+  expected-token t g = sym e.is ∙ ap token_reading g
 
   pub expected-past : (t : Token) → r ≡ Taken t → TokenPast s sort from (Taken t)
   expected-past t g = rw g at e.past

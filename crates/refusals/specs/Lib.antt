@@ -5,4 +5,4 @@ pub mod Reading
 pub mod Outcomes
 pub mod Expecting
 pub mod Parsing
-pub mod contracts
+pub mod Clauses

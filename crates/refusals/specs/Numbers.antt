@@ -11,11 +11,11 @@ pub data PlaceSort : Type 0 where
   -- a token of the text, whose end is one too
   token : PlaceSort
   -- the text's end
-  textEnd : PlaceSort
+  text_end : PlaceSort
   -- 0, for a table as a whole
-  wholeTable : PlaceSort
+  whole_table : PlaceSort
   -- the number of a record behind the header
-  tableRecord : PlaceSort
+  table_record : PlaceSort
   -- the number asked
   asked : PlaceSort
   -- 0, for the table that merging would write
@@ -25,36 +25,36 @@ pub data PlaceSort : Type 0 where
 
 -- a cause, its number and what its place is
 pub data NumberRow : Cause → (number : ℕ) → PlaceSort → Type 0 where
-  textTooLong : NumberRow TextTooLong 1 limit
+  text_too_long : NumberRow TextTooLong 1 limit
   unreadable : NumberRow Unreadable 2 token
-  cannotFollow : NumberRow CannotFollow 2 token
-  endsEarly : NumberRow EndsEarly 2 token
-  tooDeep : NumberRow TooDeep 3 token
-  tooLong : NumberRow TooLong 4 token
+  cannot_follow : NumberRow CannotFollow 2 token
+  ends_early : NumberRow EndsEarly 2 token
+  too_deep : NumberRow TooDeep 3 token
+  too_long : NumberRow TooLong 4 token
   impossible : NumberRow Impossible 5 token
-  outOfRange : NumberRow OutOfRange 5 token
-  badWord : NumberRow BadWord 5 token
-  emptyInterval : NumberRow EmptyInterval 6 token
-  tooManyItems : NumberRow TooManyItems 7 token
-  tooManyRecords : NumberRow TooManyRecords 8 token
-  tooManyMerged : NumberRow TooManyRecords 8 merged
+  out_of_range : NumberRow OutOfRange 5 token
+  bad_word : NumberRow BadWord 5 token
+  empty_interval : NumberRow EmptyInterval 6 token
+  too_many_items : NumberRow TooManyItems 7 token
+  too_many_records : NumberRow TooManyRecords 8 token
+  too_many_merged : NumberRow TooManyRecords 8 merged
   overlap : NumberRow Overlap 9 token
-  repeatedName : NumberRow RepeatedName 9 token
-  poolTooLarge : NumberRow PoolTooLarge 10 merged
-  tableTooLong : NumberRow OutputTooShort 11 textEnd
-  mergedTooLong : NumberRow OutputTooShort 11 needed
-  notATable : NumberRow NotATable 12 wholeTable
-  brokenRecord : NumberRow BrokenRecord 13 tableRecord
-  notAnObject : NumberRow NotAnObject 14 asked
-  noName : NumberRow NoName 14 asked
+  repeated_name : NumberRow RepeatedName 9 token
+  pool_too_large : NumberRow PoolTooLarge 10 merged
+  table_too_long : NumberRow OutputTooShort 11 text_end
+  merged_too_long : NumberRow OutputTooShort 11 needed
+  not_aTable : NumberRow NotATable 12 whole_table
+  broken_record : NumberRow BrokenRecord 13 table_record
+  not_an_object : NumberRow NotAnObject 14 asked
+  no_name : NumberRow NoName 14 asked
 
 -- why a data text is refused: "the whole data text (1 to 5, 9)"
 pub data OfDataText : Cause → Type 0 where
-  textTooLong : OfDataText TextTooLong
+  text_too_long : OfDataText TextTooLong
   unreadable : OfDataText Unreadable
-  cannotFollow : OfDataText CannotFollow
-  endsEarly : OfDataText EndsEarly
-  tooDeep : OfDataText TooDeep
-  tooLong : OfDataText TooLong
-  badWord : OfDataText BadWord
-  repeatedName : OfDataText RepeatedName
+  cannot_follow : OfDataText CannotFollow
+  ends_early : OfDataText EndsEarly
+  too_deep : OfDataText TooDeep
+  too_long : OfDataText TooLong
+  bad_word : OfDataText BadWord
+  repeated_name : OfDataText RepeatedName

@@ -14,18 +14,18 @@ pub data Outcome (E A : Type 0) : Type 0 where
   gave : A → Outcome E A
 
 -- a fault, if there is one, or else what follows
-abbrev pub orFault : {E A : Type 0} → Option E → Outcome E A → Outcome E A
-orFault none more = more
-orFault (some e) more = refused e
+abbrev pub or_fault : {E A : Type 0} → Option E → Outcome E A → Outcome E A
+or_fault none more = more
+or_fault (some e) more = refused e
 
 -- a fault, where the test finds one, or else what follows
 abbrev pub unless : {E A : Type 0} → Bool → E → Outcome E A → Outcome E A
 unless fault e more = cond fault (refused e) more
 
 -- the refusal of a text that is read, or else what follows from the value
-abbrev pub afterReading : {A B : Type 0} → Reading A → (A → Outcome Refusal B) → Outcome Refusal B
-afterReading (Reading.refused r) more = refused r
-afterReading (got a place) more = more a
+abbrev pub after_reading : {A B : Type 0} → Reading A → (A → Outcome Refusal B) → Outcome Refusal B
+after_reading (Reading.refused r) more = refused r
+after_reading (got a place) more = more a
 
 -- the bytes that a job writes, and what it reports
 pub record Written (A : Type 0) : Type 0 where

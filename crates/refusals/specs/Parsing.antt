@@ -6,7 +6,7 @@ use Rattle.refusals.specs.declared.Cause.{Cause}
 use Rattle.refusals.specs.declared.Refusal.{Refusal}
 use Rattle.refusals.specs.Refusals.{refusal}
 use Rattle.refusals.specs.Reading.{Reading, refused, got}
-use Rattle.refusals.specs.Expecting.{syntaxCause, expect}
+use Rattle.refusals.specs.Expecting.{syntax_cause, expect}
 
 pub data Parse (A : Type 0) : Type 0 where
   stopped : Refusal → Parse A
@@ -31,25 +31,25 @@ noting fault cause place more = cond fault (flawed (refusal cause place) more) m
 
 -- a syntax fault
 abbrev pub syntax : {A : Type 0} → Token → Parse A
-syntax t = stopped (refusal (syntaxCause t) t.start)
+syntax t = stopped (refusal (syntax_cause t) t.start)
 
 -- a part in which only syntax faults can stand, as it is read
-abbrev pub asRead : {A : Type 0} → Reading A → Parse A
-asRead (refused x) = stopped x
-asRead (got a p) = parsed a p
+abbrev pub as_read : {A : Type 0} → Reading A → Parse A
+as_read (refused x) = stopped x
+as_read (got a p) = parsed a p
 
 -- a token of the sort asked for in a constraint text
 abbrev pub wanted : List ℕ → ℕ → ℕ → Parse Token
-wanted s sort from = asRead (expect s sort from)
+wanted s sort from = as_read (expect s sort from)
 
 -- what reading tells: the first fault, or the value
-abbrev pub firstIn : {A : Type 0} → Parse A → Reading A
-firstIn (stopped x) = refused x
-firstIn (flawed x w) = refused x
-firstIn (parsed a p) = got a p
+abbrev pub first_in : {A : Type 0} → Parse A → Reading A
+first_in (stopped x) = refused x
+first_in (flawed x w) = refused x
+first_in (parsed a p) = got a p
 
 -- all faults
-abbrev pub faultsIn : {A : Type 0} → Parse A → List Refusal
-faultsIn (stopped x) = x ∷ []
-faultsIn (flawed x w) = x ∷ faultsIn w
-faultsIn (parsed a p) = []
+abbrev pub faults_in : {A : Type 0} → Parse A → List Refusal
+faults_in (stopped x) = x ∷ []
+faults_in (flawed x w) = x ∷ faults_in w
+faults_in (parsed a p) = []

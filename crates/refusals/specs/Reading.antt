@@ -12,10 +12,10 @@ abbrev pub refuse : {A : Type 0} → Cause → ℕ → Reading A
 refuse cause place = refused (refusal cause place)
 
 -- one reading after another: the first refusal is told
-abbrev pub readThen : {A B : Type 0} → Reading A → (A → ℕ → Reading B) → Reading B
-readThen (refused r) go = refused r
-readThen (got a p) go = go a p
+abbrev pub read_then : {A B : Type 0} → Reading A → (A → ℕ → Reading B) → Reading B
+read_then (refused r) go = refused r
+read_then (got a p) go = go a p
 
 -- a fault, where the test finds one, or else what follows
-abbrev pub readUnless : {A : Type 0} → Bool → Cause → ℕ → Reading A → Reading A
-readUnless fault cause place more = cond fault (refuse cause place) more
+abbrev pub read_unless : {A : Type 0} → Bool → Cause → ℕ → Reading A → Reading A
+read_unless fault cause place more = cond fault (refuse cause place) more

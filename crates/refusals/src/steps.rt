@@ -2,8 +2,8 @@
 ghost use Rattle.std.specs.Prelude.{◌≡◌, ◌≤◌, length};
 ghost use Rattle.refusals.specs.declared.Cause.TheVariants.{TooLong};
 ghost use Rattle.refusals.specs.Refusals.{refusal};
-ghost use Rattle.refusals.specs.Expecting.{syntaxCause, expect};
-ghost use Rattle.refusals.specs.contracts.Answers.{causeOf, expectedOf, ExpectIs};
+ghost use Rattle.refusals.specs.Expecting.{syntax_cause, expect};
+ghost use Rattle.refusals.specs.Clauses.Answers.{cause_of, expected_of, ExpectIs};
 
 use crate::{Cause, Refusal};
 use lexis::tokens::token_at;
@@ -18,7 +18,7 @@ pub enum Expected {
 
 // Why a token is a syntax fault.
 fn syntax_cause(sort: u8) -> Cause
-    ensures { result ≡ causeOf sort }
+    ensures { result ≡ cause_of sort }
 {
     if sort == TEXT_END {
         return Cause::EndsEarly;
@@ -31,7 +31,7 @@ fn syntax_cause(sort: u8) -> Cause
 
 // The refusal of a token that cannot follow.
 pub fn syntax_fault(t: Token) -> Refusal
-    ensures { result ≡ refusal (syntaxCause t) t.start }
+    ensures { result ≡ refusal (syntax_cause t) t.start }
 {
     let cause = syntax_cause(t.sort);
     Refusal {
@@ -52,7 +52,7 @@ pub fn too_long(t: Token) -> Refusal
 
 // A token, where one of a sort is asked for.
 pub fn taken(t: Token, sort: u8) -> Expected
-    ensures { result ≡ expectedOf t sort }
+    ensures { result ≡ expected_of t sort }
 {
     if t.sort == sort {
         return Expected::Taken(t);

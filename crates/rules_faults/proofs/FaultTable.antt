@@ -4,10 +4,10 @@ use mathlib.Core.List.{List, [], ◌∷◌, ◌++◌}
 use Prim.Native.Nat.{ℕ}
 use lib.ListN.{replicate}
 use Rattle.lexis.specs.Text.{bytes}
-use Rattle.refusals.specs.Limits.{levelLimit}
+use Rattle.refusals.specs.Limits.{level_limit}
 use Rattle.refusals.specs.declared.Refusal.{Refusal}
 use Rattle.refusals.specs.Refusals.{number_of}
-use Rattle.dadl.proofs.Computes.{dataComputes}
+use Rattle.dadl.proofs.Computes.{data_computes}
 use Rattle.rules_faults.specs.DataFaults.{faults}
 
 -- numbers and places
@@ -21,34 +21,34 @@ around [] s = s
 around (x ∷ xs) s = (bytes "<a=" ++ around xs s) ++ bytes ">"
 
 -- past bad words and names that stood before, up to the text's end
-pub past-faults : told (faults levelLimit (bytes "<a=<_x> a=<5> b=<024> a=")) ≡ 5 ∷ 4 ∷ 9 ∷ 8 ∷ 5 ∷ 17 ∷ 9 ∷ 22 ∷ 2 ∷ 24 ∷ []
-unfolding dataComputes faults
+pub past-faults : told (faults level_limit (bytes "<a=<_x> a=<5> b=<024> a=")) ≡ 5 ∷ 4 ∷ 9 ∷ 8 ∷ 5 ∷ 17 ∷ 9 ∷ 22 ∷ 2 ∷ 24 ∷ []
+unfolding data_computes faults
 past-faults = refl
 
 -- behind `(`: a run that is no TYPE, a mark, and a string
-pub no-type : told (faults levelLimit (bytes "(a)<>")) ≡ 2 ∷ 1 ∷ []
-unfolding dataComputes faults
+pub no-type : told (faults level_limit (bytes "(a)<>")) ≡ 2 ∷ 1 ∷ []
+unfolding data_computes faults
 no-type = refl
 
-pub mark-for-type : told (faults levelLimit (bytes "(=)<>")) ≡ 2 ∷ 1 ∷ []
-unfolding dataComputes faults
+pub mark-for-type : told (faults level_limit (bytes "(=)<>")) ≡ 2 ∷ 1 ∷ []
+unfolding data_computes faults
 mark-for-type = refl
 
-pub string-for-type : told (faults levelLimit (bytes "<a=(\"A\")<>>")) ≡ 2 ∷ 4 ∷ []
-unfolding dataComputes faults
+pub string-for-type : told (faults level_limit (bytes "<a=(\"A\")<>>")) ≡ 2 ∷ 4 ∷ []
+unfolding data_computes faults
 string-for-type = refl
 
 -- a name, a type and a string that are too long, and the name again
-pub past-lengths : told (faults levelLimit (bytes "<b" ++ replicate 63 0x62 ++ bytes "=(T" ++ replicate 63 0x54 ++ bytes ")<> b" ++ replicate 63 0x62 ++ bytes "=<\"" ++ replicate 256 0x20 ++ bytes "\">>")) ≡ 4 ∷ 1 ∷ 4 ∷ 67 ∷ 4 ∷ 135 ∷ 9 ∷ 135 ∷ 4 ∷ 201 ∷ []
-unfolding dataComputes faults
+pub past-lengths : told (faults level_limit (bytes "<b" ++ replicate 63 0x62 ++ bytes "=(T" ++ replicate 63 0x54 ++ bytes ")<> b" ++ replicate 63 0x62 ++ bytes "=<\"" ++ replicate 256 0x20 ++ bytes "\">>")) ≡ 4 ∷ 1 ∷ 4 ∷ 67 ∷ 4 ∷ 135 ∷ 9 ∷ 135 ∷ 4 ∷ 201 ∷ []
+unfolding data_computes faults
 past-lengths = refl
 
 -- into the 17th level and the 18th
-pub past-levels : told (faults levelLimit (around (replicate 18 []) (bytes "<_>"))) ≡ 3 ∷ 48 ∷ 5 ∷ 55 ∷ []
-unfolding dataComputes faults
+pub past-levels : told (faults level_limit (around (replicate 18 []) (bytes "<_>"))) ≡ 3 ∷ 48 ∷ 5 ∷ 55 ∷ []
+unfolding data_computes faults
 past-levels = refl
 
 -- nothing is scanned behind a syntax fault
-pub up-to-syntax : told (faults levelLimit (bytes "<a=<_x> a <_x>>")) ≡ 5 ∷ 4 ∷ 9 ∷ 8 ∷ 2 ∷ 10 ∷ []
-unfolding dataComputes faults
+pub up-to-syntax : told (faults level_limit (bytes "<a=<_x> a <_x>>")) ≡ 5 ∷ 4 ∷ 9 ∷ 8 ∷ 2 ∷ 10 ∷ []
+unfolding data_computes faults
 up-to-syntax = refl

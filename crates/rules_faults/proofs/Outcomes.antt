@@ -9,12 +9,12 @@ use native.Mathlib.Decide.{dec_le}
 use lib.Dec.{ltb}
 use lib.ListN.{length}
 use borrow.Author.Tests.{ltb-true}
-use Rattle.refusals.specs.Limits.{textLimit}
+use Rattle.refusals.specs.Limits.{text_limit}
 use Rattle.refusals.specs.Reading.{Reading, refused, got}
 use Rattle.refusals.specs.declared.Cause.TheVariants.{TextTooLong}
 use Rattle.refusals.specs.declared.Refusal.{Refusal}
 use Rattle.refusals.specs.Refusals.{refusal, number_of}
-use Rattle.refusals.specs.Parsing.{Parse, stopped, flawed, parsed, noting, firstIn, faultsIn}
+use Rattle.refusals.specs.Parsing.{Parse, stopped, flawed, parsed, noting, first_in, faults_in}
 use Rattle.refusals.proofs.Parses.{rank_of, FaultFrom, fault-lower, Ordered}
 use Rattle.rules_faults.specs.Faults.{Precedes, Least, Alike}
 
@@ -25,7 +25,7 @@ Outcome (got a p) fs = fs ≡ []
 
 -- a fault is 1, told at the limit where the text is longer, or lies in the text
 abbrev pub Lies : List ℕ → Refusal → Type 0
-Lies s x = ((x ≡ refusal TextTooLong textLimit) × (textLimit < length s)) ⊎ FaultFrom s 0 x
+Lies s x = ((x ≡ refusal TextTooLong text_limit) × (text_limit < length s)) ⊎ FaultFrom s 0 x
 
 no_member : {x : Refusal} → ¬ Memᴰ x []
 no_member = elim [ ]
@@ -35,8 +35,8 @@ after : (s : List ℕ) (x y : Refusal) → number_of x.cause < 10 → FaultFrom 
 after s x y n f = by (dec_le y.place x.place)
   where
     by : Dec (y.place ≤ x.place) → Precedes x y
-    by (yes h) = Precedes.smallerNumber (λ e. omega (arith, f.least)) (omega (arith, f.behind, f.most)) (omega (arith, f.behind, f.most))
-    by (no h) = Precedes.smallerPlace (λ e. omega (arith, f.least)) (omega arith)
+    by (yes h) = Precedes.smaller_number (λ e. omega (arith, f.least)) (omega (arith, f.behind, f.most)) (omega (arith, f.behind, f.most))
+    by (no h) = Precedes.smaller_place (λ e. omega (arith, f.least)) (omega arith)
 
 -- a fault is from its own rank on
 itself : (s : List ℕ) (low : ℕ) (x : Refusal) → FaultFrom s low x → FaultFrom s (rank_of x) x
@@ -44,7 +44,7 @@ itself s low x f = record { behind = omega arith; inside = f.inside; least = f.l
 
 module _ {A : Type 0} (s : List ℕ) (P : Bool → ℕ → A → ℕ → Type 0) where
   -- each fault of a parse in order is from its rank on
-  each : (sound : Bool) (low : ℕ) (w : Parse A) → Ordered s P sound low w → (y : Refusal) → Memᴰ y (faultsIn w)
+  each : (sound : Bool) (low : ℕ) (w : Parse A) → Ordered s P sound low w → (y : Refusal) → Memᴰ y (faults_in w)
       → FaultFrom s low y
   unfolding Ordered
   each sound low (stopped x) h y (Memᴰ.head e) = rw e h
@@ -52,7 +52,7 @@ module _ {A : Type 0} (s : List ℕ) (P : Bool → ℕ → A → ℕ → Type 0)
   each sound low (flawed x w) h y (Memᴰ.tail m) = fault-lower s (rank_of x) low y h.0.behind (each false (rank_of x) w h.1 y m)
 
   -- what reading tells is the least
-  outcome : (sound : Bool) (low : ℕ) (w : Parse A) → Ordered s P sound low w → Outcome (firstIn w) (faultsIn w)
+  outcome : (sound : Bool) (low : ℕ) (w : Parse A) → Ordered s P sound low w → Outcome (first_in w) (faults_in w)
   unfolding Ordered
   outcome sound low (stopped x) h =
       record { one = Memᴰ.head refl; least = λ y m. after s x y h.most (each sound (rank_of x) (stopped x) (itself s low x h) y m) }
@@ -62,14 +62,14 @@ module _ {A : Type 0} (s : List ℕ) (P : Bool → ℕ → A → ℕ → Type 0)
 
   -- the same where the text may be too long
   long-outcome : (long : Bool) (w : Parse A) → Ordered s P true 0 w
-      → Outcome (firstIn (noting long TextTooLong textLimit w)) (faultsIn (noting long TextTooLong textLimit w))
+      → Outcome (first_in (noting long TextTooLong text_limit w)) (faults_in (noting long TextTooLong text_limit w))
   unfolding number_of
   long-outcome true w h = record { one = Memᴰ.head refl; least = λ y m. Precedes.first refl }
   long-outcome false w h = outcome true 0 w h
 
-  long-lies : (long : Bool) → (long ≡ true → textLimit < length s) → (w : Parse A) → Ordered s P true 0 w
+  long-lies : (long : Bool) → (long ≡ true → text_limit < length s) → (w : Parse A) → Ordered s P true 0 w
       → (x : Refusal)
-      → Memᴰ x (faultsIn (noting long TextTooLong textLimit w)) → Lies s x
+      → Memᴰ x (faults_in (noting long TextTooLong text_limit w)) → Lies s x
   long-lies true l w h x (Memᴰ.head e) = inl (e, l refl)
   long-lies true l w h x (Memᴰ.tail m) = inr (each true 0 w h x m)
   long-lies false l w h x m = inr (each true 0 w h x m)
@@ -92,23 +92,23 @@ module _ {A : Type 0} (s : List ℕ) (r : Reading A) (fs : List Refusal)
   outcome-least : (x : Refusal) → r ≡ refused x → Least x fs
   outcome-least x e = outcome-at (refused x) e
 
-  one_place : (x : Refusal) → Memᴰ x fs → number_of x.cause ≡ 1 → x.place ≡ textLimit
+  one_place : (x : Refusal) → Memᴰ x fs → number_of x.cause ≡ 1 → x.place ≡ text_limit
   one_place x m n = go (lies x m)
     where
-      go : Lies s x → x.place ≡ textLimit
+      go : Lies s x → x.place ≡ text_limit
       go (inl e) = ap (λ (y : Refusal). y.place) e.0
       go (inr l) = absurd (omega (arith, l.least))
 
   alike : (x y : Refusal) → Memᴰ x fs → Memᴰ y fs → Precedes x y → Precedes y x → Alike x y
   alike x y a b (Precedes.first h) (Precedes.first k) = record { number = h ∙ sym k; place = one_place x a h ∙ sym (one_place y b k) }
-  alike x y a b (Precedes.first h) (Precedes.smallerPlace n k) = absurd (n h)
-  alike x y a b (Precedes.first h) (Precedes.smallerNumber n e k) = absurd (n h)
-  alike x y a b (Precedes.smallerPlace n h) (Precedes.first k) = absurd (n k)
-  alike x y a b (Precedes.smallerPlace n h) (Precedes.smallerPlace m k) = absurd (omega arith)
-  alike x y a b (Precedes.smallerPlace n h) (Precedes.smallerNumber m e k) = absurd (omega arith)
-  alike x y a b (Precedes.smallerNumber n e h) (Precedes.first k) = absurd (n k)
-  alike x y a b (Precedes.smallerNumber n e h) (Precedes.smallerPlace m k) = absurd (omega arith)
-  alike x y a b (Precedes.smallerNumber n e h) (Precedes.smallerNumber m g k) = record { number = omega arith; place = e }
+  alike x y a b (Precedes.first h) (Precedes.smaller_place n k) = absurd (n h)
+  alike x y a b (Precedes.first h) (Precedes.smaller_number n e k) = absurd (n h)
+  alike x y a b (Precedes.smaller_place n h) (Precedes.first k) = absurd (n k)
+  alike x y a b (Precedes.smaller_place n h) (Precedes.smaller_place m k) = absurd (omega arith)
+  alike x y a b (Precedes.smaller_place n h) (Precedes.smaller_number m e k) = absurd (omega arith)
+  alike x y a b (Precedes.smaller_number n e h) (Precedes.first k) = absurd (n k)
+  alike x y a b (Precedes.smaller_number n e h) (Precedes.smaller_place m k) = absurd (omega arith)
+  alike x y a b (Precedes.smaller_number n e h) (Precedes.smaller_number m g k) = record { number = omega arith; place = e }
 
   -- where a text has faults, it is refused with the number and at the place of the least
   outcome-refused : (x : Refusal) → Least x fs → (y : Refusal) × (r ≡ refused y) × Alike x y
@@ -121,19 +121,19 @@ module _ {A : Type 0} (s : List ℕ) (r : Reading A) (fs : List Refusal)
 -- a text whose faults come in order
 module _ {A : Type 0} (s : List ℕ) (P : Bool → ℕ → A → ℕ → Type 0) (w : Parse A) (h : Ordered s P true 0 w) where
   abbrev long : Bool
-  long = ltb textLimit (length s)
+  long = ltb text_limit (length s)
 
   abbrev whole : Parse A
-  whole = noting long TextTooLong textLimit w
+  whole = noting long TextTooLong text_limit w
 
-  pub text-lies : (x : Refusal) → Memᴰ x (faultsIn whole) → Lies s x
-  text-lies = long-lies s P long (ltb-true textLimit (length s)) w h
+  pub text-lies : (x : Refusal) → Memᴰ x (faults_in whole) → Lies s x
+  text-lies = long-lies s P long (ltb-true text_limit (length s)) w h
 
-  pub text-faultless : ((a : A) × (p : ℕ) × (firstIn whole ≡ got a p)) ↔ (faultsIn whole ≡ [])
-  text-faultless = outcome-faultless s (firstIn whole) (faultsIn whole) text-lies (long-outcome s P long w h)
+  pub text-faultless : ((a : A) × (p : ℕ) × (first_in whole ≡ got a p)) ↔ (faults_in whole ≡ [])
+  text-faultless = outcome-faultless s (first_in whole) (faults_in whole) text-lies (long-outcome s P long w h)
 
-  pub text-least : (x : Refusal) → firstIn whole ≡ refused x → Least x (faultsIn whole)
-  text-least = outcome-least s (firstIn whole) (faultsIn whole) text-lies (long-outcome s P long w h)
+  pub text-least : (x : Refusal) → first_in whole ≡ refused x → Least x (faults_in whole)
+  text-least = outcome-least s (first_in whole) (faults_in whole) text-lies (long-outcome s P long w h)
 
-  pub text-refused : (x : Refusal) → Least x (faultsIn whole) → (y : Refusal) × (firstIn whole ≡ refused y) × Alike x y
-  text-refused = outcome-refused s (firstIn whole) (faultsIn whole) text-lies (long-outcome s P long w h)
+  pub text-refused : (x : Refusal) → Least x (faults_in whole) → (y : Refusal) × (first_in whole ≡ refused y) × Alike x y
+  text-refused = outcome-refused s (first_in whole) (faults_in whole) text-lies (long-outcome s P long w h)

@@ -7,8 +7,8 @@ use Rattle.refusals.specs.Refusals.{number_of}
 -- one fault is told rather than another: 1 before all, then the smaller place, then the smaller number
 pub data Precedes (x y : Refusal) : Type 0 where
   first : number_of x.cause ≡ 1 → Precedes x y
-  smallerPlace : number_of y.cause ≢ 1 → x.place < y.place → Precedes x y
-  smallerNumber : number_of y.cause ≢ 1 → x.place ≡ y.place → number_of x.cause ≤ number_of y.cause
+  smaller_place : number_of y.cause ≢ 1 → x.place < y.place → Precedes x y
+  smaller_number : number_of y.cause ≢ 1 → x.place ≡ y.place → number_of x.cause ≤ number_of y.cause
       → Precedes x y
 
 -- the least of some faults

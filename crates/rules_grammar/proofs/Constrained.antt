@@ -11,32 +11,32 @@ use borrow.Author.Tests.{eqb-true, eqb-false, ltb-false, le-ltb, ne_eqb}
 use Rattle.lexis.specs.Text.{bytes}
 use Rattle.lexis.specs.Runs.{listed, same}
 use Rattle.lexis.specs.Bytes.{within}
-use Rattle.lexis.specs.Spelling.{matches, existence, openBrace, closeBrace, dots, star, bar, trueWord, falseWord}
-use Rattle.lexis.specs.Tokens.{tokenAt, contentTokenAt, textEnd, typeName, name, code, integer, string, spelling, inner}
+use Rattle.lexis.specs.Spelling.{matches, existence, open_brace, close_brace, dots, star, bar, true_word, false_word}
+use Rattle.lexis.specs.Tokens.{token_at, content_token_at, text_end, type_name, name, code, integer, string, spelling, inner}
 use Rattle.lexis.specs.declared.Token.{Token}
 use Rattle.lexis.proofs.Cases.{and_left, and_right}
 use Rattle.lexis.proofs.Places.{Found, token-found}
-use Rattle.refusals.specs.Limits.{textLimit, levelLimit, recordLimit, nameLimit, codeLimit}
-use Rattle.refusals.specs.Reading.{Reading, refused, got, refuse, readThen}
+use Rattle.refusals.specs.Limits.{text_limit, level_limit, record_limit, name_limit, code_limit}
+use Rattle.refusals.specs.Reading.{Reading, refused, got, refuse, read_then}
 use Rattle.refusals.specs.declared.Cause.TheVariants.{TextTooLong, TooDeep, TooLong, TooManyRecords, RepeatedName, EndsEarly}
 use Rattle.refusals.specs.declared.Refusal.{Refusal}
-use Rattle.refusals.specs.Expecting.{syntaxCause, expect}
+use Rattle.refusals.specs.Expecting.{syntax_cause, expect}
 use Rattle.refusals.proofs.Readings.{Holds}
 use Rattle.refusals.proofs.Tokens.{strict_of}
 use Rattle.meaning.specs.Constraints.{Object, object, AttributeHead, Attributes, no_more, attribute, Value, any, nested, leaf, Leaf, prohibited, optional, required}
-use Rattle.cadl_items.specs.contracts.Told
+use Rattle.cadl_items.specs.Clauses.Told
 use Rattle.cadl_items.proofs.LeafReading.{LeafRead, leaf-holds}
-use Rattle.cadl_objects.specs.Existence.{opening, is_zero, isOne, fromNought, fromOne, bounds, existenceFrom}
-use Rattle.cadl_objects.specs.Objects.{Attribute, pastAttribute, head_of}
+use Rattle.cadl_objects.specs.Existence.{opening, is_zero, is_one, from_nought, from_one, bounds, existence_from}
+use Rattle.cadl_objects.specs.Objects.{Attribute, past_attribute, head_of}
 use Rattle.cadl_objects.specs.Objects
-use Rattle.cadl_objects.specs.contracts.Told.{objectType, objectCode, attributeName, value, attributeFrom, attributes, objectFrom}
-use Rattle.cadl_objects.specs.Texts.{constraintOf}
+use Rattle.cadl_objects.specs.Clauses.Told.{object_type, object_code, attribute_name, value, attribute_from, attributes, object_from}
+use Rattle.cadl_objects.specs.Texts.{constraint_of}
 use Rattle.cadl_items.proofs.LeafParts.{leaf-is}
 use Rattle.cadl_objects.proofs.TreeParts.{body, type-is, code_is, name-is, value-is, attribute-is, attributes-is, object-is, object-none, constraint-is}
 use Rattle.cadl_objects.proofs.TreeReading.{ObjectRead, object-holds}
-use Rattle.rules_grammar.specs.DataGrammar.{Distinct, noName, newName}
+use Rattle.rules_grammar.specs.DataGrammar.{Distinct, no_name, new_name}
 use Rattle.rules_grammar.specs.LeafGrammar.{NextToken, next}
-use Rattle.rules_grammar.specs.ConstraintGrammar.{Opens, opens, SpelledInteger, digit, DerivesBounds, DerivesExistence, unwritten, written, DerivesCode, uncoded, coded, attributeNames, objectLevels, attributeLevels, valueLevels, behindAttribute, WithinLimit, DerivesObject, anObject, DerivesBody, anyMembers, DerivesAttributes, lastOne, oneMore, DerivesAttribute, anAttribute, DerivesValue, anything, oneObject, oneLeaf, DerivesConstraint, wholeText}
+use Rattle.rules_grammar.specs.ConstraintGrammar.{Opens, opens, SpelledInteger, digit, DerivesBounds, DerivesExistence, unwritten, written, DerivesCode, uncoded, coded, attribute_names, object_levels, attribute_levels, value_levels, behind_attribute, WithinLimit, DerivesObject, an_object, DerivesBody, any_members, DerivesAttributes, last_one, one_more, DerivesAttribute, an_attribute, DerivesValue, anything, one_object, one_leaf, DerivesConstraint, whole_text}
 use Rattle.rules_grammar.specs.ConstraintGrammar
 use Rattle.rules_grammar.proofs.NextLaws.{next-token, token-read, sort-read, content-token, content-same, content-read}
 use Rattle.lexis.proofs.TestLaws.{same-eq}
@@ -46,131 +46,131 @@ use Rattle.rules_grammar.proofs.Derived.{not_listed, listed-not, other, head-new
 
 -- what each part of the reader gives: a derivation of the part
 data OpenGiven (s : List ℕ) (from : ℕ) : Token → ℕ → Type 0 where
-  openGiven : {b : Token} → Opens s from b → OpenGiven s from b b.end
+  open_given : {b : Token} → Opens s from b → OpenGiven s from b b.end
 
 data NameGiven (s : List ℕ) (sort : ℕ) (c from : ℕ) : Token → ℕ → Type 0 where
-  nameGiven : {t : Token} → NextToken s from sort t → WithinLimit c (spelling s t) → NameGiven s sort c from t t.end
+  name_given : {t : Token} → NextToken s from sort t → WithinLimit c (spelling s t) → NameGiven s sort c from t t.end
 
 data NewGiven (s : List ℕ) (seen : List (List ℕ)) (c from : ℕ) : Token → ℕ → Type 0 where
-  newGiven : {t : Token} → NextToken s from name t → WithinLimit c (spelling s t) → ¬ Memᴰ (spelling s t) seen
+  new_given : {t : Token} → NextToken s from name t → WithinLimit c (spelling s t) → ¬ Memᴰ (spelling s t) seen
       → NewGiven s seen c from t t.end
 
 data ObjectGiven (s : List ℕ) (levels : ℕ) (c from : ℕ) : Object → ℕ → Type 0 where
-  objectGiven : {o : Object} {p : ℕ} → DerivesObject s c from o p → objectLevels o ≤ levels
+  object_given : {o : Object} {p : ℕ} → DerivesObject s c from o p → object_levels o ≤ levels
       → ObjectGiven s levels c from o p
 
 data ValueGiven (s : List ℕ) (levels : ℕ) (c from : ℕ) : Value → ℕ → Type 0 where
-  valueGiven : {v : Value} {p : ℕ} → DerivesValue s c from v p → valueLevels v ≤ levels → ValueGiven s levels c from v p
+  value_given : {v : Value} {p : ℕ} → DerivesValue s c from v p → value_levels v ≤ levels → ValueGiven s levels c from v p
 
 data AttributeGiven (s : List ℕ) (levels : ℕ) (seen : List (List ℕ)) (c from : ℕ) : Attribute → ℕ → Type 0 where
-  attributeGiven : {a : Attribute} {p : ℕ}
+  attribute_given : {a : Attribute} {p : ℕ}
       → DerivesAttribute s c from (head_of c a) a.value p
       → ¬ Memᴰ a.name seen
-      → valueLevels a.value ≤ levels
+      → value_levels a.value ≤ levels
       → AttributeGiven s levels seen c from a p
 
 data AttributesGiven (s : List ℕ) (levels : ℕ) (seen : List (List ℕ)) (c from : ℕ) : Attributes → ℕ → Type 0 where
-  attributesGiven : {xs : Attributes} {p : ℕ} {z : Token}
+  attributes_given : {xs : Attributes} {p : ℕ} {z : Token}
       → DerivesAttributes s c from xs p
-      → NextToken s p closeBrace z
-      → Distinct seen (attributeNames xs)
-      → attributeLevels xs ≤ levels
+      → NextToken s p close_brace z
+      → Distinct seen (attribute_names xs)
+      → attribute_levels xs ≤ levels
       → AttributesGiven s levels seen c from xs z.end
 
 data BodyGiven (s : List ℕ) (levels : ℕ) (c from : ℕ) : Attributes → ℕ → Type 0 where
-  bodyGiven : {xs : Attributes} {p : ℕ} → DerivesBody s c from xs p → Distinct [] (attributeNames xs)
-      → attributeLevels xs ≤ levels → BodyGiven s levels c from xs p
+  body_given : {xs : Attributes} {p : ℕ} → DerivesBody s c from xs p → Distinct [] (attribute_names xs)
+      → attribute_levels xs ≤ levels → BodyGiven s levels c from xs p
 
 module _ (s : List ℕ) where
   opening-gives : (from : ℕ) → Gives (OpenGiven s from) (opening s from)
   unfolding opening
   opening-gives from = then-gives (OpenGiven s from) (Took s matches from) (expect s matches from) _ (expect-gives s matches from) (λ t p x. go x)
     where
-      both : {m b : Token} {p : ℕ} → NextToken s from matches m → Took s openBrace m.end b p → OpenGiven s from b p
-      both n (took x) = openGiven (opens n x)
+      both : {m b : Token} {p : ℕ} → NextToken s from matches m → Took s open_brace m.end b p → OpenGiven s from b p
+      both n (took x) = open_given (opens n x)
 
-      go : {m : Token} {p : ℕ} → Took s matches from m p → Gives (OpenGiven s from) (expect s openBrace p)
-      go (took {t = m} n) = gives-map (Took s openBrace m.end) (OpenGiven s from) _ (λ b q y. both n y) (expect-gives s openBrace m.end)
+      go : {m : Token} {p : ℕ} → Took s matches from m p → Gives (OpenGiven s from) (expect s open_brace p)
+      go (took {t = m} n) = gives-map (Took s open_brace m.end) (OpenGiven s from) _ (λ b q y. both n y) (expect-gives s open_brace m.end)
 
   digit-of : (w : List ℕ) (from : ℕ)
-      → (eqb (tokenAt s from).sort integer && same w (spelling s (tokenAt s from))) ≡ true
-      → SpelledInteger s from w (tokenAt s from)
+      → (eqb (token_at s from).sort integer && same w (spelling s (token_at s from))) ≡ true
+      → SpelledInteger s from w (token_at s from)
   digit-of w from e =
-      let t = tokenAt s from in
+      let t = token_at s from in
       digit (next-token (eqb-true _ _ (and_left (eqb t.sort integer) (same w (spelling s t)) e))) (same-eq w (spelling s t) (and_right (eqb t.sort integer) (same w (spelling s t)) e))
 
   bounds-gives : (from : ℕ) → Gives (DerivesBounds s from) (bounds s from)
-  unfolding bounds fromNought fromOne
+  unfolding bounds from_nought from_one
   bounds-gives from =
-      let t = tokenAt s from in
-      let d = tokenAt s t.end in
-      let u = tokenAt s d.end in
+      let t = token_at s from in
+      let d = token_at s t.end in
+      let u = token_at s d.end in
       let P = DerivesBounds s from in
       cond-gives P (is_zero s t) _ _
       (λ e. let x = digit-of (bytes "0") from e in
       cond-gives P (eqb d.sort dots) _ _
-      (λ f. cond-gives P (is_zero s u) _ _ (λ g. got-gives P prohibited u.end (ConstraintGrammar.noughtToNought x (next-token (eqb-true _ _ f)) (digit-of (bytes "0") d.end g)))
-      (λ g. cond-gives P (isOne s u) _ _ (λ h. got-gives P optional u.end (ConstraintGrammar.noughtToOne x (next-token (eqb-true _ _ f)) (digit-of (bytes "1") d.end h)))
-      (λ h. refuse-gives P (syntaxCause u) u.start)))
+      (λ f. cond-gives P (is_zero s u) _ _ (λ g. got-gives P prohibited u.end (ConstraintGrammar.nought_to_nought x (next-token (eqb-true _ _ f)) (digit-of (bytes "0") d.end g)))
+      (λ g. cond-gives P (is_one s u) _ _ (λ h. got-gives P optional u.end (ConstraintGrammar.nought_to_one x (next-token (eqb-true _ _ f)) (digit-of (bytes "1") d.end h)))
+      (λ h. refuse-gives P (syntax_cause u) u.start)))
       (λ f. got-gives P prohibited t.end (ConstraintGrammar.nought x)))
-      (λ e. cond-gives P (isOne s t) _ _
+      (λ e. cond-gives P (is_one s t) _ _
       (λ k. let x = digit-of (bytes "1") from k in
       cond-gives P (eqb d.sort dots) _ _
-      (λ f. cond-gives P (isOne s u) _ _ (λ h. got-gives P required u.end (ConstraintGrammar.oneToOne x (next-token (eqb-true _ _ f)) (digit-of (bytes "1") d.end h)))
-      (λ h. refuse-gives P (syntaxCause u) u.start))
+      (λ f. cond-gives P (is_one s u) _ _ (λ h. got-gives P required u.end (ConstraintGrammar.one_to_one x (next-token (eqb-true _ _ f)) (digit-of (bytes "1") d.end h)))
+      (λ h. refuse-gives P (syntax_cause u) u.start))
       (λ f. got-gives P required t.end (ConstraintGrammar.one x)))
-      (λ k. refuse-gives P (syntaxCause t) t.start))
+      (λ k. refuse-gives P (syntax_cause t) t.start))
 
-  existence-gives : (from : ℕ) → Gives (DerivesExistence s from) (existenceFrom s from)
-  unfolding existenceFrom
+  existence-gives : (from : ℕ) → Gives (DerivesExistence s from) (existence_from s from)
+  unfolding existence_from
   existence-gives from =
-      let t = tokenAt s from in
+      let t = token_at s from in
       let P = DerivesExistence s from in
       cond-gives P (eqb t.sort existence) _ _
       (λ e. then-gives P (OpenGiven s t.end) (opening s t.end) _ (opening-gives t.end) (λ b p x.
       then-gives P (DerivesBounds s p) (bounds s p) _ (bounds-gives p) (λ k q y.
-      then-gives P (Took s closeBrace q) (expect s closeBrace q) _ (expect-gives s closeBrace q) (λ z r w.
+      then-gives P (Took s close_brace q) (expect s close_brace q) _ (expect-gives s close_brace q) (λ z r w.
       got-gives P k r (made (next-token (eqb-true _ _ e)) x y w)))))
       (λ e. got-gives P required from unwritten)
     where
       made : {x b z : Token} {k p q r : ℕ} → NextToken s from existence x → OpenGiven s x.end b p
-          → DerivesBounds s p k q → Took s closeBrace q z r → DerivesExistence s from k r
-      made n (openGiven o) d (took z) = written n o d z
+          → DerivesBounds s p k q → Took s close_brace q z r → DerivesExistence s from k r
+      made n (open_given o) d (took z) = written n o d z
 
-  code_gives : (from : ℕ) → Gives (DerivesCode s from) (objectCode s from)
+  code_gives : (from : ℕ) → Gives (DerivesCode s from) (object_code s from)
   code_gives from =
-      let t = tokenAt s from in
+      let t = token_at s from in
       let P = DerivesCode s from in
       rw (code_is s from) (cond-gives P (eqb t.sort code) _ _
-      (λ e. unless-gives P (ltb codeLimit (length (inner s t))) TooLong t.start _ (λ a.
+      (λ e. unless-gives P (ltb code_limit (length (inner s t))) TooLong t.start _ (λ a.
       got-gives P (inner s t) t.end (coded (next-token (eqb-true _ _ e)) (ltb-false _ _ a))))
       (λ e. got-gives P [] from uncoded))
 
-  type-gives : (levels : ℕ) (c from : ℕ) → Gives (NameGiven s typeName c from) (objectType s levels c from)
+  type-gives : (levels : ℕ) (c from : ℕ) → Gives (NameGiven s type_name c from) (object_type s levels c from)
   type-gives levels c from =
-      let P = NameGiven s typeName c from in
-      rw (type-is s levels c from) (then-gives P (Took s typeName from) (expect s typeName from) _ (expect-gives s typeName from) (λ t p x.
+      let P = NameGiven s type_name c from in
+      rw (type-is s levels c from) (then-gives P (Took s type_name from) (expect s type_name from) _ (expect-gives s type_name from) (λ t p x.
       unless-gives P (eqb levels 0) TooDeep t.start _ (λ a.
-      unless-gives P (ltb nameLimit (length (spelling s t))) TooLong t.start _ (λ b.
-      unless-gives P (eqb c recordLimit) TooManyRecords t.start _ (λ d.
+      unless-gives P (ltb name_limit (length (spelling s t))) TooLong t.start _ (λ b.
+      unless-gives P (eqb c record_limit) TooManyRecords t.start _ (λ d.
       got-gives P t p (made x (record { short = ltb-false _ _ b; room = eqb-false _ _ d })))))))
     where
-      made : {t : Token} {p : ℕ} → Took s typeName from t p → WithinLimit c (spelling s t)
-          → NameGiven s typeName c from t p
-      made (took n) f = nameGiven n f
+      made : {t : Token} {p : ℕ} → Took s type_name from t p → WithinLimit c (spelling s t)
+          → NameGiven s type_name c from t p
+      made (took n) f = name_given n f
 
-  name-gives : (seen : List (List ℕ)) (c from : ℕ) → Gives (NewGiven s seen c from) (attributeName s seen c from)
+  name-gives : (seen : List (List ℕ)) (c from : ℕ) → Gives (NewGiven s seen c from) (attribute_name s seen c from)
   name-gives seen c from =
       let P = NewGiven s seen c from in
       rw (name-is s seen c from) (then-gives P (Took s name from) (expect s name from) _ (expect-gives s name from) (λ t p x.
-      unless-gives P (ltb nameLimit (length (spelling s t))) TooLong t.start _ (λ b.
-      unless-gives P (eqb c recordLimit) TooManyRecords t.start _ (λ d.
+      unless-gives P (ltb name_limit (length (spelling s t))) TooLong t.start _ (λ b.
+      unless-gives P (eqb c record_limit) TooManyRecords t.start _ (λ d.
       unless-gives P (listed (spelling s t) seen) RepeatedName t.start _ (λ m.
       got-gives P t p (made x (record { short = ltb-false _ _ b; room = eqb-false _ _ d }) (listed-not _ _ m)))))))
     where
       made : {t : Token} {p : ℕ} → Took s name from t p → WithinLimit c (spelling s t) → ¬ Memᴰ (spelling s t) seen
           → NewGiven s seen c from t p
-      made (took n) f m = newGiven n f m
+      made (took n) f m = new_given n f m
 
 -- the parts put together
 attribute-made : {s : List ℕ} {levels from e p q r x : ℕ} {seen : List (List ℕ)} {c : ℕ} {t b z : Token} {v : Value}
@@ -179,63 +179,63 @@ attribute-made : {s : List ℕ} {levels from e p q r x : ℕ} {seen : List (List
     → OpenGiven s q b r
     → ValueGiven s levels (c + 1) r v x
     → {y : ℕ}
-    → Took s closeBrace x z y
+    → Took s close_brace x z y
     → AttributeGiven s levels seen c from (record { existence = e; name = spelling s t; value = v }) y
-attribute-made (newGiven n f m) d (openGiven o) (valueGiven w l) (took z) = attributeGiven (anAttribute n f d o w z) m l
+attribute-made (new_given n f m) d (open_given o) (value_given w l) (took z) = attribute_given (an_attribute n f d o w z) m l
 
 last_made : {s : List ℕ} {levels from p : ℕ} {seen : List (List ℕ)} {c : ℕ} {a : Attribute} {z : Token}
-    → AttributeGiven s levels seen c from a p → NextToken s p closeBrace z
+    → AttributeGiven s levels seen c from a p → NextToken s p close_brace z
     → AttributesGiven s levels seen c from (attribute (head_of c a) a.value no_more) z.end
-unfolding attributeNames attributeLevels
-last_made (attributeGiven d m l) n = attributesGiven (lastOne d) n (newName m noName) (omega arith)
+unfolding attribute_names attribute_levels
+last_made (attribute_given d m l) n = attributes_given (last_one d) n (new_name m no_name) (omega arith)
 
 more-made : {s : List ℕ} {levels from p q : ℕ} {seen : List (List ℕ)} {c : ℕ} {a : Attribute} {xs : Attributes}
     → AttributeGiven s levels seen c from a p
-    → AttributesGiven s levels (a.name ∷ seen) (pastAttribute c a) p xs q
+    → AttributesGiven s levels (a.name ∷ seen) (past_attribute c a) p xs q
     → AttributesGiven s levels seen c from (attribute (head_of c a) a.value xs) q
-unfolding attributeNames attributeLevels
-more-made (attributeGiven d m l) (attributesGiven ds n x k) = attributesGiven (oneMore d ds) n (newName m x) (omega arith)
+unfolding attribute_names attribute_levels
+more-made (attribute_given d m l) (attributes_given ds n x k) = attributes_given (one_more d ds) n (new_name m x) (omega arith)
 
 nested-made : {s : List ℕ} {levels from p : ℕ} {c : ℕ} {o : Object} → ObjectGiven s levels c from o p
     → ValueGiven s levels c from (nested o) p
-unfolding valueLevels
-nested-made (objectGiven d l) = valueGiven (oneObject d) l
+unfolding value_levels
+nested-made (object_given d l) = value_given (one_object d) l
 
 object-made : {s : List ℕ} {levels from p q r x : ℕ} {c : ℕ} {t b : Token} {k : List ℕ} {xs : Attributes}
-    → NameGiven s typeName c from t p
+    → NameGiven s type_name c from t p
     → DerivesCode s p k q
     → OpenGiven s q b r
     → BodyGiven s levels (c + 1) r xs x
     → ObjectGiven s (suc levels) c from (object (record { number = c; type = spelling s t; code = k }) xs) x
-unfolding objectLevels
-object-made (nameGiven n f) d (openGiven o) (bodyGiven b m l) = objectGiven (anObject n f d o b m) (omega arith)
+unfolding object_levels
+object-made (name_given n f) d (open_given o) (body_given b m l) = object_given (an_object n f d o b m) (omega arith)
 
 module _ (s : List ℕ) (levels : ℕ)
-    (below : (c from : ℕ) → Gives (ObjectGiven s levels c from) (objectFrom s levels c from)) where
+    (below : (c from : ℕ) → Gives (ObjectGiven s levels c from) (object_from s levels c from)) where
   value-gives : (c from : ℕ) → Gives (ValueGiven s levels c from) (value s levels c from)
-  unfolding valueLevels
+  unfolding value_levels
   value-gives c from =
-      let t = contentTokenAt s from in
+      let t = content_token_at s from in
       let P = ValueGiven s levels c from in
-      rw (value-is s levels c from) (cond-gives P (eqb t.sort star) _ _ (λ e. got-gives P any t.end (valueGiven (anything (content-token (eqb-true _ _ e) (omega arith))) (omega arith)))
-      (λ e. cond-gives P (eqb t.sort typeName) _ _
-      (λ f. then-gives P (ObjectGiven s levels c from) (objectFrom s levels c from) _ (below c from) (λ o p x. got-gives P (nested o) p (nested-made x)))
+      rw (value-is s levels c from) (cond-gives P (eqb t.sort star) _ _ (λ e. got-gives P any t.end (value_given (anything (content-token (eqb-true _ _ e) (omega arith))) (omega arith)))
+      (λ e. cond-gives P (eqb t.sort type_name) _ _
+      (λ f. then-gives P (ObjectGiven s levels c from) (object_from s levels c from) _ (below c from) (λ o p x. got-gives P (nested o) p (nested-made x)))
       (λ f. leaf-case (Told.leaf s c from) refl)))
     where
       leaf-case : (r : Reading Leaf) → Told.leaf s c from ≡ r
-          → Gives (ValueGiven s levels c from) (readThen r (λ l p. got (leaf l) p))
+          → Gives (ValueGiven s levels c from) (read_then r (λ l p. got (leaf l) p))
       leaf-case (refused x) e = refuse-gives (ValueGiven s levels c from) x.cause x.place
-      leaf-case (got l p) e = got-gives (ValueGiven s levels c from) (leaf l) p (valueGiven (oneLeaf (leaf-derives s c from l p e)) (omega arith))
+      leaf-case (got l p) e = got-gives (ValueGiven s levels c from) (leaf l) p (value_given (one_leaf (leaf-derives s c from l p e)) (omega arith))
 
   attribute-gives : (seen : List (List ℕ)) (c from : ℕ)
-      → Gives (AttributeGiven s levels seen c from) (attributeFrom s levels seen c from)
+      → Gives (AttributeGiven s levels seen c from) (attribute_from s levels seen c from)
   attribute-gives seen c from =
       let P = AttributeGiven s levels seen c from in
-      rw (attribute-is s levels seen c from) (then-gives P (NewGiven s seen c from) (attributeName s seen c from) _ (name-gives s seen c from) (λ t p a.
-      then-gives P (DerivesExistence s p) (existenceFrom s p) _ (existence-gives s p) (λ e q b.
+      rw (attribute-is s levels seen c from) (then-gives P (NewGiven s seen c from) (attribute_name s seen c from) _ (name-gives s seen c from) (λ t p a.
+      then-gives P (DerivesExistence s p) (existence_from s p) _ (existence-gives s p) (λ e q b.
       then-gives P (OpenGiven s q) (opening s q) _ (opening-gives s q) (λ u r d.
       then-gives P (ValueGiven s levels (c + 1) r) (value s levels (c + 1) r) _ (value-gives (c + 1) r) (λ v x f.
-      then-gives P (Took s closeBrace x) (expect s closeBrace x) _ (expect-gives s closeBrace x) (λ z y g.
+      then-gives P (Took s close_brace x) (expect s close_brace x) _ (expect-gives s close_brace x) (λ z y g.
       got-gives P (record { existence = e; name = spelling s t; value = v }) y (attribute-made a b d f g)))))))
 
   attributes-gives : (fuel : ℕ) (seen : List (List ℕ)) (c from : ℕ)
@@ -244,63 +244,63 @@ module _ (s : List ℕ) (levels : ℕ)
   attributes-gives zero seen c from = refuse-gives (AttributesGiven s levels seen c from) EndsEarly (length s + 1)
   attributes-gives (suc fuel) seen c from =
       let P = AttributesGiven s levels seen c from in
-      rw (attributes-is s levels fuel seen c from) (then-gives P (AttributeGiven s levels seen c from) (attributeFrom s levels seen c from) _ (attribute-gives seen c from) (λ a p x.
-      cond-gives P (eqb (tokenAt s p).sort closeBrace) _ _
-      (λ e. got-gives P (attribute (head_of c a) a.value no_more) (tokenAt s p).end (last_made x (next-token (eqb-true _ _ e))))
-      (λ e. then-gives P (AttributesGiven s levels (a.name ∷ seen) (pastAttribute c a) p) (attributes s levels fuel (a.name ∷ seen) (pastAttribute c a) p) _ (attributes-gives fuel (a.name ∷ seen) (pastAttribute c a) p) (λ xs q y.
+      rw (attributes-is s levels fuel seen c from) (then-gives P (AttributeGiven s levels seen c from) (attribute_from s levels seen c from) _ (attribute-gives seen c from) (λ a p x.
+      cond-gives P (eqb (token_at s p).sort close_brace) _ _
+      (λ e. got-gives P (attribute (head_of c a) a.value no_more) (token_at s p).end (last_made x (next-token (eqb-true _ _ e))))
+      (λ e. then-gives P (AttributesGiven s levels (a.name ∷ seen) (past_attribute c a) p) (attributes s levels fuel (a.name ∷ seen) (past_attribute c a) p) _ (attributes-gives fuel (a.name ∷ seen) (past_attribute c a) p) (λ xs q y.
       got-gives P (attribute (head_of c a) a.value xs) q (more-made x y)))))
 
   body-gives : (c from : ℕ) → Gives (BodyGiven s levels c from) (body s levels c from)
-  unfolding attributeNames attributeLevels
+  unfolding attribute_names attribute_levels
   body-gives c from =
-      let t = tokenAt s from in
+      let t = token_at s from in
       let P = BodyGiven s levels c from in
       cond-gives P (eqb t.sort star) _ _
-      (λ e. then-gives P (Took s closeBrace t.end) (expect s closeBrace t.end) _ (expect-gives s closeBrace t.end) (λ z p x. got-gives P no_more p (star-made (next-token (eqb-true _ _ e)) x)))
+      (λ e. then-gives P (Took s close_brace t.end) (expect s close_brace t.end) _ (expect-gives s close_brace t.end) (λ z p x. got-gives P no_more p (star-made (next-token (eqb-true _ _ e)) x)))
       (λ e. gives-map (AttributesGiven s levels [] c from) P _ (λ xs p x. made x) (attributes-gives (length s + 1) [] c from))
     where
-      star-made : {t z : Token} {p : ℕ} → NextToken s from star t → Took s closeBrace t.end z p
+      star-made : {t z : Token} {p : ℕ} → NextToken s from star t → Took s close_brace t.end z p
           → BodyGiven s levels c from no_more p
-      star-made n (took z) = bodyGiven (anyMembers n z) noName (omega arith)
+      star-made n (took z) = body_given (any_members n z) no_name (omega arith)
 
       made : {xs : Attributes} {p : ℕ} → AttributesGiven s levels [] c from xs p → BodyGiven s levels c from xs p
-      made (attributesGiven d n m l) = bodyGiven (ConstraintGrammar.members d n) m l
+      made (attributes_given d n m l) = body_given (ConstraintGrammar.members d n) m l
 
-  object-step : (c from : ℕ) → Gives (ObjectGiven s (suc levels) c from) (objectFrom s (suc levels) c from)
+  object-step : (c from : ℕ) → Gives (ObjectGiven s (suc levels) c from) (object_from s (suc levels) c from)
   object-step c from =
       let P = ObjectGiven s (suc levels) c from in
-      rw (object-is s levels c from) (then-gives P (NameGiven s typeName c from) (objectType s (suc levels) c from) _ (type-gives s (suc levels) c from) (λ t p a.
-      then-gives P (DerivesCode s p) (objectCode s p) _ (code_gives s p) (λ k q b.
+      rw (object-is s levels c from) (then-gives P (NameGiven s type_name c from) (object_type s (suc levels) c from) _ (type-gives s (suc levels) c from) (λ t p a.
+      then-gives P (DerivesCode s p) (object_code s p) _ (code_gives s p) (λ k q b.
       then-gives P (OpenGiven s q) (opening s q) _ (opening-gives s q) (λ u r d.
       then-gives P (BodyGiven s levels (c + 1) r) (body s levels (c + 1) r) _ (body-gives (c + 1) r) (λ xs x f.
       got-gives P (object (record { number = c; type = spelling s t; code = k }) xs) x (object-made a b d f))))))
 
 -- without a level left nothing is given
 no-level : (s : List ℕ) (c from : ℕ) (P : Object → ℕ → Type 0) (go : Token → ℕ → Reading Object)
-    → Gives P (readThen (objectType s 0 c from) go)
-no-level s c from P go = rw (type-is s 0 c from) (cases (expect s typeName from))
+    → Gives P (read_then (object_type s 0 c from) go)
+no-level s c from P go = rw (type-is s 0 c from) (cases (expect s type_name from))
   where
-    cases : (r : Reading Token) → Gives P (readThen (readThen r (λ t p. refuse TooDeep t.start)) go)
+    cases : (r : Reading Token) → Gives P (read_then (read_then r (λ t p. refuse TooDeep t.start)) go)
     cases (refused x) = refuse-gives P x.cause x.place
     cases (got t p) = refuse-gives P TooDeep t.start
 
-object-gives : (s : List ℕ) (levels : ℕ) (c from : ℕ) → Gives (ObjectGiven s levels c from) (objectFrom s levels c from)
+object-gives : (s : List ℕ) (levels : ℕ) (c from : ℕ) → Gives (ObjectGiven s levels c from) (object_from s levels c from)
 object-gives s zero c from = rw (object-none s c from (λ t p. refuse TooDeep p)) (no-level s c from (ObjectGiven s 0 c from) (λ t p. refuse TooDeep p))
 object-gives s (suc levels) c from = object-step s levels (λ d f. object-gives s levels d f) c from
 
 abbrev Derived : List ℕ → Object → ℕ → Type 0
 Derived s o p = DerivesConstraint s o
 
-text-gives : (s : List ℕ) → Gives (Derived s) (constraintOf s)
+text-gives : (s : List ℕ) → Gives (Derived s) (constraint_of s)
 text-gives s =
-    rw (constraint-is s) (unless-gives (Derived s) (ltb textLimit (length s)) TextTooLong textLimit _ (λ l.
-    then-gives (Derived s) (ObjectGiven s levelLimit 1 0) (objectFrom s levelLimit 1 0) _ (object-gives s levelLimit 1 0) (λ o p x.
-    then-gives (Derived s) (Took s textEnd p) (expect s textEnd p) _ (expect-gives s textEnd p) (λ t q y.
+    rw (constraint-is s) (unless-gives (Derived s) (ltb text_limit (length s)) TextTooLong text_limit _ (λ l.
+    then-gives (Derived s) (ObjectGiven s level_limit 1 0) (object_from s level_limit 1 0) _ (object-gives s level_limit 1 0) (λ o p x.
+    then-gives (Derived s) (Took s text_end p) (expect s text_end p) _ (expect-gives s text_end p) (λ t q y.
     got-gives (Derived s) o q (made (ltb-false _ _ l) x y)))))
   where
-    made : {o : Object} {p q : ℕ} {t : Token} → length s ≤ textLimit → ObjectGiven s levelLimit 1 0 o p
-        → Took s textEnd p t q → DerivesConstraint s o
-    made l (objectGiven d k) (took n) = wholeText l d n k
+    made : {o : Object} {p q : ℕ} {t : Token} → length s ≤ text_limit → ObjectGiven s level_limit 1 0 o p
+        → Took s text_end p t q → DerivesConstraint s o
+    made l (object_given d k) (took n) = whole_text l d n k
 
 -- the other way round: a part that is derived is read
 opening-got : {s : List ℕ} {from : ℕ} {b : Token} → Opens s from b → opening s from ≡ got b b.end
@@ -309,46 +309,46 @@ opening-got (opens m b) = rw (expect-got m, expect-got b)
 
 -- a digit under a test for another
 is_digit : {s : List ℕ} {from : ℕ} {w : List ℕ} {t : Token} → SpelledInteger s from w t → (v : List ℕ)
-    → (eqb (tokenAt s from).sort integer && same v (spelling s (tokenAt s from))) ≡ same v w
+    → (eqb (token_at s from).sort integer && same v (spelling s (token_at s from))) ≡ same v w
 is_digit (digit (next n e) h) v = rw (token-read n, other e integer) (ap (same v) (sym h))
 
-digit-read : {s : List ℕ} {from : ℕ} {w : List ℕ} {t : Token} → SpelledInteger s from w t → tokenAt s from ≡ t
+digit-read : {s : List ℕ} {from : ℕ} {w : List ℕ} {t : Token} → SpelledInteger s from w t → token_at s from ≡ t
 digit-read (digit (next n e) h) = token-read n
 
-bounds-got : {s : List ℕ} {from e p : ℕ} {z : Token} → DerivesBounds s from e p → NextToken s p closeBrace z
+bounds-got : {s : List ℕ} {from e p : ℕ} {z : Token} → DerivesBounds s from e p → NextToken s p close_brace z
     → bounds s from ≡ got e p
-unfolding bounds fromNought fromOne same
+unfolding bounds from_nought from_one same
 bounds-got (ConstraintGrammar.nought x) n = rw (is_digit x (bytes "0"), digit-read x, other (sort-read n) dots)
 bounds-got (ConstraintGrammar.one x) n = rw (is_digit x (bytes "0"), is_digit x (bytes "1"), digit-read x, other (sort-read n) dots)
-bounds-got (ConstraintGrammar.noughtToNought x (next i d) y) n =
+bounds-got (ConstraintGrammar.nought_to_nought x (next i d) y) n =
     rw (is_digit x (bytes "0"), digit-read x, token-read i, other d dots, is_digit y (bytes "0"), digit-read y)
-bounds-got (ConstraintGrammar.noughtToOne x (next i d) y) n =
+bounds-got (ConstraintGrammar.nought_to_one x (next i d) y) n =
     rw (is_digit x (bytes "0"), digit-read x, token-read i, other d dots, is_digit y (bytes "0"), is_digit y (bytes "1"), digit-read y)
-bounds-got (ConstraintGrammar.oneToOne x (next i d) y) n =
+bounds-got (ConstraintGrammar.one_to_one x (next i d) y) n =
     rw (is_digit x (bytes "0"), is_digit x (bytes "1"), digit-read x, token-read i, other d dots, is_digit y (bytes "1"), digit-read y)
 
 existence-got : {s : List ℕ} {from e p : ℕ} {b : Token} → DerivesExistence s from e p → Opens s p b
-    → existenceFrom s from ≡ got e p
-unfolding existenceFrom
+    → existence_from s from ≡ got e p
+unfolding existence_from
 existence-got unwritten (opens m n) = rw (other (sort-read m) existence)
 existence-got (written (next m x) o d z) n = rw (token-read m, other x existence, opening-got o, bounds-got d z, expect-got z)
 
 code_got : {s : List ℕ} {from p : ℕ} {k : List ℕ} {b : Token} → DerivesCode s from k p → Opens s p b
-    → objectCode s from ≡ got k p
+    → object_code s from ≡ got k p
 code_got {s} {from} uncoded (opens m n) = rw (code_is s from, other (sort-read m) code)
-code_got {s} {from} (coded {t = t} (next m e) l) n = rw (code_is s from, token-read m, other e code, le-ltb codeLimit (length (inner s t)) l)
+code_got {s} {from} (coded {t = t} (next m e) l) n = rw (code_is s from, token-read m, other e code, le-ltb code_limit (length (inner s t)) l)
 
-type-got : (s : List ℕ) (levels : ℕ) (c from : ℕ) (t : Token) → NextToken s from typeName t
-    → WithinLimit c (spelling s t) → objectType s (suc levels) c from ≡ got t t.end
+type-got : (s : List ℕ) (levels : ℕ) (c from : ℕ) (t : Token) → NextToken s from type_name t
+    → WithinLimit c (spelling s t) → object_type s (suc levels) c from ≡ got t t.end
 type-got s levels c from t n f =
     let e : eqb (suc levels) 0 ≡ false = ne_eqb (suc levels) 0 (λ z. omega arith) in
-    rw (type-is s (suc levels) c from, expect-got n, e, le-ltb nameLimit (length (spelling s t)) f.short, ne_eqb c recordLimit f.room)
+    rw (type-is s (suc levels) c from, expect-got n, e, le-ltb name_limit (length (spelling s t)) f.short, ne_eqb c record_limit f.room)
 
 name-got : (s : List ℕ) (seen : List (List ℕ)) (c from : ℕ) (t : Token) → NextToken s from name t
     → WithinLimit c (spelling s t) → ¬ Memᴰ (spelling s t) seen
-    → attributeName s seen c from ≡ got t t.end
+    → attribute_name s seen c from ≡ got t t.end
 name-got s seen c from t n f m =
-    rw (name-is s seen c from, expect-got n, le-ltb nameLimit (length (spelling s t)) f.short, ne_eqb c recordLimit f.room, not_listed (spelling s t) seen m)
+    rw (name-is s seen c from, expect-got n, le-ltb name_limit (length (spelling s t)) f.short, ne_eqb c record_limit f.room, not_listed (spelling s t) seen m)
 
 -- derived tokens lie in the text
 pub next-found : {s : List ℕ} {from sort : ℕ} {t : Token} → NextToken s from sort t → from ≤ length s → Found s from t
@@ -364,17 +364,17 @@ open-found (opens m b) h =
 bounds-found : {s : List ℕ} {from e p : ℕ} → DerivesBounds s from e p → from ≤ length s → (from ≤ p) × (p ≤ length s)
 bounds-found (ConstraintGrammar.nought (digit n b)) h = let f = next-found n h in (omega (arith, f.start, f.order), f.inside)
 bounds-found (ConstraintGrammar.one (digit n b)) h = let f = next-found n h in (omega (arith, f.start, f.order), f.inside)
-bounds-found (ConstraintGrammar.noughtToNought (digit n b) d (digit m x)) h =
+bounds-found (ConstraintGrammar.nought_to_nought (digit n b) d (digit m x)) h =
     let f = next-found n h in
     let g = next-found d f.inside in
     let i = next-found m g.inside in
     (omega (arith, f.start, f.order, g.start, g.order, i.start, i.order), i.inside)
-bounds-found (ConstraintGrammar.noughtToOne (digit n b) d (digit m x)) h =
+bounds-found (ConstraintGrammar.nought_to_one (digit n b) d (digit m x)) h =
     let f = next-found n h in
     let g = next-found d f.inside in
     let i = next-found m g.inside in
     (omega (arith, f.start, f.order, g.start, g.order, i.start, i.order), i.inside)
-bounds-found (ConstraintGrammar.oneToOne (digit n b) d (digit m x)) h =
+bounds-found (ConstraintGrammar.one_to_one (digit n b) d (digit m x)) h =
     let f = next-found n h in
     let g = next-found d f.inside in
     let i = next-found m g.inside in
@@ -401,31 +401,31 @@ record ValueGot (s : List ℕ) (levels : ℕ) (c from : ℕ) (v : Value) (p : �
   high : p ≤ length s
 
 -- a leaf starts with no `*` and no TYPE
-leaf-refused : (s : List ℕ) (number from k : ℕ) → (contentTokenAt s from).sort ≡ k
-    → (eqb k trueWord || eqb k falseWord) ≡ false
+leaf-refused : (s : List ℕ) (number from k : ℕ) → (content_token_at s from).sort ≡ k
+    → (eqb k true_word || eqb k false_word) ≡ false
     → (eqb k integer || eqb k bar) ≡ false
     → eqb k string ≡ false
     → within 31 35 k ≡ false
     → within 41 44 k ≡ false
     → within 101 227 k ≡ false
-    → Told.leaf s number from ≡ refuse (syntaxCause (contentTokenAt s from)) (contentTokenAt s from).start
+    → Told.leaf s number from ≡ refuse (syntax_cause (content_token_at s from)) (content_token_at s from).start
 leaf-refused s number from k e a b c d f g =
-    let x : (eqb (contentTokenAt s from).sort trueWord || eqb (contentTokenAt s from).sort falseWord) ≡ false = ap (λ z. eqb z trueWord || eqb z falseWord) e ∙ a in
-    let y : (eqb (contentTokenAt s from).sort integer || eqb (contentTokenAt s from).sort bar) ≡ false = ap (λ z. eqb z integer || eqb z bar) e ∙ b in
-    let u : eqb (contentTokenAt s from).sort string ≡ false = other e string ∙ c in
-    let v : within 31 35 (contentTokenAt s from).sort ≡ false = ap (within 31 35) e ∙ d in
-    let w : within 41 44 (contentTokenAt s from).sort ≡ false = ap (within 41 44) e ∙ f in
-    let i : within 101 227 (contentTokenAt s from).sort ≡ false = ap (within 101 227) e ∙ g in
+    let x : (eqb (content_token_at s from).sort true_word || eqb (content_token_at s from).sort false_word) ≡ false = ap (λ z. eqb z true_word || eqb z false_word) e ∙ a in
+    let y : (eqb (content_token_at s from).sort integer || eqb (content_token_at s from).sort bar) ≡ false = ap (λ z. eqb z integer || eqb z bar) e ∙ b in
+    let u : eqb (content_token_at s from).sort string ≡ false = other e string ∙ c in
+    let v : within 31 35 (content_token_at s from).sort ≡ false = ap (within 31 35) e ∙ d in
+    let w : within 41 44 (content_token_at s from).sort ≡ false = ap (within 41 44) e ∙ f in
+    let i : within 101 227 (content_token_at s from).sort ≡ false = ap (within 101 227) e ∙ g in
     rw (leaf-is s number from, x, y, u, v, w, i)
 
 refused-got : {A : Type 0} {x : Refusal} {a : A} {p : ℕ} → refused x ≡ got a p → ⊥
 refused-got {A} {x} {a} {p} e = let z : ◌≡◌ {A = ℕ} 0 1 = cc in omega arith
 
 leaf-start : (s : List ℕ) (number from : ℕ) (l : Leaf) (p : ℕ) → Told.leaf s number from ≡ got l p
-    → (eqb (contentTokenAt s from).sort star ≡ false) × (eqb (contentTokenAt s from).sort typeName ≡ false)
+    → (eqb (content_token_at s from).sort star ≡ false) × (eqb (content_token_at s from).sort type_name ≡ false)
 leaf-start s number from l p e = (
   ne_eqb _ _ (λ k. refused-got (sym (leaf-refused s number from star k refl refl refl refl refl refl) ∙ e)),
-  ne_eqb _ _ (λ k. refused-got (sym (leaf-refused s number from typeName k refl refl refl refl refl refl) ∙ e)),
+  ne_eqb _ _ (λ k. refused-got (sym (leaf-refused s number from type_name k refl refl refl refl refl refl) ∙ e)),
 )
 
 star-value : (s : List ℕ) (levels : ℕ) (c from : ℕ) (t : Token) → NextToken s from star t → from ≤ length s
@@ -444,28 +444,28 @@ leaf-value s levels c from l p e h =
 
 -- an object starts with a TYPE and no pattern: a code or `matches` follows
 no-brace : {s : List ℕ} {from p : ℕ} {k : List ℕ} {b : Token} → DerivesCode s from k p → Opens s p b
-    → (tokenAt s from).sort ≢ closeBrace
+    → (token_at s from).sort ≢ close_brace
 no-brace uncoded (opens m n) e = let f = sort-read m in omega arith
 no-brace (coded m l) o e = let f = sort-read m in omega arith
 
 object-starts : {s : List ℕ} {c from p : ℕ} {o : Object} → DerivesObject s c from o p
-    → (contentTokenAt s from).sort ≡ typeName
-object-starts {s} {from = from} (anObject (next n e) f d o b m) =
+    → (content_token_at s from).sort ≡ type_name
+object-starts {s} {from = from} (an_object (next n e) f d o b m) =
     let r = token-read n in
     rw (content-same s from (λ k. rw r (no-brace d o)), r) e
 
-nested-value : (s : List ℕ) (levels : ℕ) (c from : ℕ) (o : Object) (p : ℕ) → (contentTokenAt s from).sort ≡ typeName
-    → objectFrom s levels c from ≡ got o p → from ≤ length s
+nested-value : (s : List ℕ) (levels : ℕ) (c from : ℕ) (o : Object) (p : ℕ) → (content_token_at s from).sort ≡ type_name
+    → object_from s levels c from ≡ got o p → from ≤ length s
     → ValueGot s levels c from (nested o) p
 unfolding Holds
 nested-value s levels c from o p t e h =
     let y : ObjectRead s c from o p = rw e at (object-holds s levels c from h) in
-    record { is = rw (value-is s levels c from, other t star, other t typeName, e); low = omega (arith, y.least); high = y.most }
+    record { is = rw (value-is s levels c from, other t star, other t type_name, e); low = omega (arith, y.least); high = y.most }
 
 -- an attribute that is read, with the place behind it
 record AttributeGot (s : List ℕ) (levels : ℕ) (seen : List (List ℕ)) (c from : ℕ) (a : AttributeHead) (v : Value)
     (p : ℕ) : Type 0 where
-  is : attributeFrom s levels seen c from ≡ got (record { existence = a.existence; name = a.name; value = v }) p
+  is : attribute_from s levels seen c from ≡ got (record { existence = a.existence; name = a.name; value = v }) p
   number : c ≡ a.number
   low : from < p
   high : p ≤ length s
@@ -474,10 +474,10 @@ attribute-got : (s : List ℕ) (levels : ℕ) (seen : List (List ℕ)) (c from :
     → DerivesAttribute s c from a v p
     → ¬ Memᴰ a.name seen
     → from ≤ length s
-    → ((d f q : ℕ) (z : Token) → DerivesValue s d f v q → NextToken s q closeBrace z → f ≤ length s
+    → ((d f q : ℕ) (z : Token) → DerivesValue s d f v q → NextToken s q close_brace z → f ≤ length s
     → ValueGot s levels d f v q)
     → AttributeGot s levels seen c from a v p
-attribute-got s levels seen c from a v p (anAttribute {p = q} {q = r} {t = t} {b = b} {z = z} n f d o x y) m h go =
+attribute-got s levels seen c from a v p (an_attribute {p = q} {q = r} {t = t} {b = b} {z = z} n f d o x y) m h go =
     let i = next-found n h in
     let j = existence-found d i.inside in
     let k = open-found o j.1 in
@@ -498,28 +498,28 @@ attribute-got s levels seen c from a v p (anAttribute {p = q} {q = r} {t = t} {b
 last-got : (s : List ℕ) (levels fuel : ℕ) (seen : List (List ℕ)) (c from : ℕ) (a : AttributeHead) (v : Value) (p : ℕ)
     (z : Token)
     → AttributeGot s levels seen c from a v p
-    → NextToken s p closeBrace z
+    → NextToken s p close_brace z
     → attributes s levels (suc fuel) seen c from ≡ got (attribute a v no_more) z.end
 last-got s levels fuel seen c from a v p z g (next n x) =
-    rw (attributes-is s levels fuel seen c from, g.is, token-read n, other x closeBrace)
+    rw (attributes-is s levels fuel seen c from, g.is, token-read n, other x close_brace)
     (λ i. got (attribute (record { number = g.number i; existence = a.existence; name = a.name }) v no_more) z.end)
 
 more-got : (s : List ℕ) (levels fuel : ℕ) (seen : List (List ℕ)) (c from : ℕ) (a : AttributeHead) (v : Value) (p q : ℕ)
     (xs : Attributes)
     → AttributeGot s levels seen c from a v p
-    → (tokenAt s p).sort ≡ name
-    → attributes s levels fuel (a.name ∷ seen) (behindAttribute c v) p ≡ got xs q
+    → (token_at s p).sort ≡ name
+    → attributes s levels fuel (a.name ∷ seen) (behind_attribute c v) p ≡ got xs q
     → attributes s levels (suc fuel) seen c from ≡ got (attribute a v xs) q
-more-got s levels fuel seen c from a v p q xs g n k = rw (attributes-is s levels fuel seen c from, g.is, other n closeBrace, k) (λ i. got (attribute (record { number = g.number i; existence = a.existence; name = a.name }) v xs) q)
+more-got s levels fuel seen c from a v p q xs g n k = rw (attributes-is s levels fuel seen c from, g.is, other n close_brace, k) (λ i. got (attribute (record { number = g.number i; existence = a.existence; name = a.name }) v xs) q)
 
 attribute-starts : {s : List ℕ} {c from p : ℕ} {a : AttributeHead} {v : Value} → DerivesAttribute s c from a v p
-    → (tokenAt s from).sort ≡ name
-attribute-starts (anAttribute n f d o x y) = sort-read n
+    → (token_at s from).sort ≡ name
+attribute-starts (an_attribute n f d o x y) = sort-read n
 
 starts-name : {s : List ℕ} {c from p : ℕ} {xs : Attributes} → DerivesAttributes s c from xs p
-    → (tokenAt s from).sort ≡ name
-starts-name (lastOne d) = attribute-starts d
-starts-name (oneMore d ds) = attribute-starts d
+    → (token_at s from).sort ≡ name
+starts-name (last_one d) = attribute-starts d
+starts-name (one_more d ds) = attribute-starts d
 
 no-attribute : {s : List ℕ} {c from p : ℕ} → ¬ DerivesAttributes s c from no_more p
 no-attribute = elim [ ]
@@ -527,62 +527,62 @@ no-attribute = elim [ ]
 -- what stands between an object's braces, given its attributes
 body-got : (s : List ℕ) (levels : ℕ) (c from : ℕ) (xs : Attributes) (p : ℕ)
     → DerivesBody s c from xs p
-    → ((q : ℕ) (z : Token) → DerivesAttributes s c from xs q → NextToken s q closeBrace z
+    → ((q : ℕ) (z : Token) → DerivesAttributes s c from xs q → NextToken s q close_brace z
     → attributes s levels (length s + 1) [] c from ≡ got xs z.end)
     → body s levels c from ≡ got xs p
-body-got s levels c from xs p (anyMembers (next n e) z) go = rw (token-read n, other e star, expect-got z)
+body-got s levels c from xs p (any_members (next n e) z) go = rw (token-read n, other e star, expect-got z)
 body-got s levels c from xs p (ConstraintGrammar.members {p = q} {z = z} ds n) go = rw (other (starts-name ds) star) (go q z ds n)
 
 by-got : (s : List ℕ) (levels : ℕ) (c from p q : ℕ) (t b : Token) (k : List ℕ) (xs : Attributes)
-    → NextToken s from typeName t
+    → NextToken s from type_name t
     → WithinLimit c (spelling s t)
     → DerivesCode s t.end k p
     → Opens s p b
     → body s levels (c + 1) b.end ≡ got xs q
-    → objectFrom s (suc levels) c from ≡ got (object (record { number = c; type = spelling s t; code = k }) xs) q
+    → object_from s (suc levels) c from ≡ got (object (record { number = c; type = spelling s t; code = k }) xs) q
 by-got s levels c from p q t b k xs n f d o h = rw (object-is s levels c from, type-got s levels c from t n f, code_got d o, opening-got o, h)
 
 mutual
-  unfolding objectLevels attributeNames
+  unfolding object_levels attribute_names
 
   object-got : (o : Object) (s : List ℕ) (c from p : ℕ) → DerivesObject s c from o p → (levels : ℕ)
-      → objectLevels o ≤ levels → from ≤ length s → objectFrom s levels c from ≡ got o p
+      → object_levels o ≤ levels → from ≤ length s → object_from s levels c from ≡ got o p
   object-got (object m xs) s c from p d zero l h = absurd (omega arith)
-  object-got (object m xs) s c from p (anObject {p = q} {t = t} {b = b} {k = k} n f d o y u) (suc levels) l h =
+  object-got (object m xs) s c from p (an_object {p = q} {t = t} {b = b} {k = k} n f d o y u) (suc levels) l h =
       let g = open-found o (code-found d (next-found n h).inside) in
       by-got s levels c from q p t b k xs n f d o
       (body-got s levels (c + 1) b.end xs p y (λ r z ds w. attributes-got xs s (c + 1) b.end r ds levels (length s + 1) [] z w u (omega arith) g.1 (omega arith)))
 
   attributes-got : (xs : Attributes) (s : List ℕ) (c from p : ℕ) → DerivesAttributes s c from xs p
       → (levels fuel : ℕ) (seen : List (List ℕ)) (z : Token)
-      → NextToken s p closeBrace z
-      → Distinct seen (attributeNames xs)
-      → attributeLevels xs ≤ levels
+      → NextToken s p close_brace z
+      → Distinct seen (attribute_names xs)
+      → attribute_levels xs ≤ levels
       → from ≤ length s
       → length s < from + fuel
       → attributes s levels fuel seen c from ≡ got xs z.end
   attributes-got no_more s c from p d levels fuel seen z n u l h k = absurd (no-attribute d)
   attributes-got (attribute b v more) s c from p d levels zero seen z n u l h k = absurd (omega arith)
-  attributes-got (attribute b v more) s c from p (lastOne d) levels (suc fuel) seen z n u l h k =
+  attributes-got (attribute b v more) s c from p (last_one d) levels (suc fuel) seen z n u l h k =
       let a = attribute-got s levels seen c from b v p d (head-new u) h (λ x f q g y j i. value-got v s x f q y levels g j (omega arith) i) in
       last-got s levels fuel seen c from b v p z a n
-  attributes-got (attribute b v more) s c from p (oneMore {p = q} d ds) levels (suc fuel) seen z n u l h k =
+  attributes-got (attribute b v more) s c from p (one_more {p = q} d ds) levels (suc fuel) seen z n u l h k =
       let a = attribute-got s levels seen c from b v q d (head-new u) h (λ x f r g y j i. value-got v s x f r y levels g j (omega arith) i) in
       more-got s levels fuel seen c from b v q z.end more a (starts-name ds)
-      (attributes-got more s (behindAttribute c v) q p ds levels fuel (b.name ∷ seen) z n (tail-new u) (omega arith) a.high (omega (arith, a.low)))
+      (attributes-got more s (behind_attribute c v) q p ds levels fuel (b.name ∷ seen) z n (tail-new u) (omega arith) a.high (omega (arith, a.low)))
 
   value-got : (v : Value) (s : List ℕ) (c from p : ℕ) → DerivesValue s c from v p → (levels : ℕ) (z : Token)
-      → NextToken s p closeBrace z → valueLevels v ≤ levels → from ≤ length s → ValueGot s levels c from v p
+      → NextToken s p close_brace z → value_levels v ≤ levels → from ≤ length s → ValueGot s levels c from v p
   value-got any s c from p (anything {t = t} n) levels z w l h = star-value s levels c from t n h
-  value-got (nested o) s c from p (oneObject d) levels z w l h = nested-value s levels c from o p (object-starts d) (object-got o s c from p d levels l h) h
-  value-got (leaf x) s c from p (oneLeaf d) levels z w l h = leaf-value s levels c from x p (leaf-got s c from x p z d w) h
+  value-got (nested o) s c from p (one_object d) levels z w l h = nested-value s levels c from o p (object-starts d) (object-got o s c from p d levels l h) h
+  value-got (leaf x) s c from p (one_leaf d) levels z w l h = leaf-value s levels c from x p (leaf-got s c from x p z d w) h
 
-text-got : (s : List ℕ) (o : Object) → DerivesConstraint s o → (p : ℕ) × (constraintOf s ≡ got o p)
-text-got s o (wholeText {p = p} {e = e} l d n k) = (e.end, rw (constraint-is s, le-ltb textLimit (length s) l, object-got o s 1 0 p d levelLimit k (omega arith), expect-got n))
+text-got : (s : List ℕ) (o : Object) → DerivesConstraint s o → (p : ℕ) × (constraint_of s ≡ got o p)
+text-got s o (whole_text {p = p} {e = e} l d n k) = (e.end, rw (constraint-is s, le-ltb text_limit (length s) l, object-got o s 1 0 p d level_limit k (omega arith), expect-got n))
 
 -- a constraint text is read to a tree exactly where the grammar derives it
-pub read-derives : (s : List ℕ) (o : Object) → ((p : ℕ) × (constraintOf s ≡ got o p)) ↔ DerivesConstraint s o
-read-derives s o = (λ h. given (Derived s) (constraintOf s) o h.0 (text-gives s) h.1, λ h. text-got s o h)
+pub read-derives : (s : List ℕ) (o : Object) → ((p : ℕ) × (constraint_of s ≡ got o p)) ↔ DerivesConstraint s o
+read-derives s o = (λ h. given (Derived s) (constraint_of s) o h.0 (text-gives s) h.1, λ h. text-got s o h)
 
 -- a text derives at most one tree
 pub one-tree : (s : List ℕ) (a b : Object) → DerivesConstraint s a → DerivesConstraint s b → a ≡ b

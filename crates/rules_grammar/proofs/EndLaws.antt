@@ -8,27 +8,27 @@ use borrow.Author.Tests.{leb-false, ltb-true, ltb-false, le-leb, le-ltb, lt-ltb}
 use Rattle.lexis.specs.Tokens.{integer, date}
 use Rattle.lexis.proofs.Cases.{by_cond}
 use Rattle.values.specs.Integers.{pair, nought, greatest, magnitude, inside, around}
-use Rattle.values.specs.Calendar.{monthDays, yearOf, monthOf, dayOf, packed, real, lastDay, dayAfter, dayBefore}
-use Rattle.values.specs.Days.{MonthHas, january, december, IsDay, isDay, packedDay}
+use Rattle.values.specs.Calendar.{month_days, year_of, month_of, day_of, packed, real, last_day, day_after, day_before}
+use Rattle.values.specs.Days.{MonthHas, january, december, IsDay, is_day, packed_day}
 use Rattle.values.proofs.Common.{by_order, le_left, le_right}
 use Rattle.values.proofs.CalendarLaws.{month-long, year-packed, month-packed, day-packed, real-is, real-packed, real-first, real-last, after-follows, before-follows, before-after, after-before, after_last}
 use Rattle.values.proofs.IntegerLaws.{around-ends}
 use Rattle.values.proofs.DayLaws.{day-real, packed-day, has-month}
 use Rattle.cadl_intervals.specs.Intervals.{ends, least, most, after, before, empty}
 use Rattle.cadl_intervals.proofs.Pairs.{Value, EndsGood, closed-proper}
-use Rattle.rules_grammar.specs.LeafGrammar.{Bounds, ofIntegers, ofDates, StepsTo, nextInteger, nextDay, nextMonth, nextYear}
+use Rattle.rules_grammar.specs.LeafGrammar.{Bounds, of_integers, of_dates, StepsTo, next_integer, next_day, next_month, next_year}
 
 -- the kinds of lists
 pub data Kind : ℕ → Type 0 where
-  isInteger : Kind integer
-  isDate : Kind date
+  is_integer : Kind integer
+  is_date : Kind date
 
 -- the last day of a month, computed, is the rule's
-last-day : {y m d : ℕ} → IsDay y m d → monthDays y m ≤ d → MonthHas y m d
-last-day {y} {m} {d} (isDay {days = n} h s k l) g = let q = has-month s in let e : n ≡ d = omega arith in subst (MonthHas y m) e s
+last-day : {y m d : ℕ} → IsDay y m d → month_days y m ≤ d → MonthHas y m d
+last-day {y} {m} {d} (is_day {days = n} h s k l) g = let q = has-month s in let e : n ≡ d = omega arith in subst (MonthHas y m) e s
 
 -- parts that the calendar has are a day of the rule
-day-of : (y m d : ℕ) → y ≤ 9999 → 1 ≤ m → m ≤ 12 → 1 ≤ d → d ≤ monthDays y m → IsDay y m d
+day-of : (y m d : ℕ) → y ≤ 9999 → 1 ≤ m → m ≤ 12 → 1 ≤ d → d ≤ month_days y m → IsDay y m d
 day-of y m d hy l h k i = let b = month-long y m l h in (day-real y m d (omega arith) (omega arith)).0 (real-packed y m d hy l h k i)
 
 -- the same of equal days
@@ -36,42 +36,42 @@ moved : {a b p q : ℕ} → StepsTo date a b → a ≡ p → b ≡ q → StepsTo
 moved f e g = subst₂ (StepsTo date) e g f
 
 -- the day after, computed, is the next by the rules
-day-steps : (p : ℕ) → real p ≡ true → p < lastDay → StepsTo date p (dayAfter p)
-unfolding dayAfter monthDays
+day-steps : (p : ℕ) → real p ≡ true → p < last_day → StepsTo date p (day_after p)
+unfolding day_after month_days
 day-steps p e l =
     let f = real-is p e in
-    let y = yearOf p in let m = monthOf p in let d = dayOf p in
-    let here = day-of y m d (omega arith) f.month f.december f.day f.inMonth in
-    by_cond (StepsTo date p) (ltb d (monthDays y m))
-    (λ t. let i = ltb-true d (monthDays y m) t in
-    moved (nextDay here (day-of y m (d + 1) (omega arith) f.month f.december (omega arith) (omega arith))) (omega arith) (omega arith))
-    (λ t. let i = ltb-false d (monthDays y m) t in
+    let y = year_of p in let m = month_of p in let d = day_of p in
+    let here = day-of y m d (omega arith) f.month f.december f.day f.in_month in
+    by_cond (StepsTo date p) (ltb d (month_days y m))
+    (λ t. let i = ltb-true d (month_days y m) t in
+    moved (next_day here (day-of y m (d + 1) (omega arith) f.month f.december (omega arith) (omega arith))) (omega arith) (omega arith))
+    (λ t. let i = ltb-false d (month_days y m) t in
     by_cond (StepsTo date p) (ltb m 12)
     (λ u. let h = ltb-true m 12 u in
     let c = month-long y (m + 1) (omega arith) (omega arith) in
-    moved (nextMonth (last-day here i) (day-of y (m + 1) 1 (omega arith) (omega arith) (omega arith) (omega arith) (omega arith))) (omega arith) refl)
+    moved (next_month (last-day here i) (day-of y (m + 1) 1 (omega arith) (omega arith) (omega arith) (omega arith) (omega arith))) (omega arith) refl)
     (λ u. let h = ltb-false m 12 u in
-    let n : monthDays y m ≡ monthDays y 12 = let q : m ≡ 12 = omega arith in rw q in
-    moved (nextYear y (isDay (omega arith) january (omega arith) (omega arith))) (omega arith) refl))
+    let n : month_days y m ≡ month_days y 12 = let q : m ≡ 12 = omega arith in rw q in
+    moved (next_year y (is_day (omega arith) january (omega arith) (omega arith))) (omega arith) refl))
 
 -- the next by the rules is the day after, computed
 record DayAfter (a b : ℕ) : Type 0 where
   real-here : real a ≡ true
-  before_last : a < lastDay
-  next : dayAfter a ≡ b
+  before_last : a < last_day
+  next : day_after a ≡ b
 
 steps-days : {a b : ℕ} → StepsTo date a b → DayAfter a b
-unfolding dayAfter monthDays
-steps-days (nextDay {y = y} {m = m} {d = d} h k) =
+unfolding day_after month_days
+steps-days (next_day {y = y} {m = m} {d = d} h k) =
     let p = packed y m d in
-    let r = (packed-day p).1 (packedDay h) in
-    let q = (packed-day (packed y m (d + 1))).1 (packedDay k) in
+    let r = (packed-day p).1 (packed_day h) in
+    let q = (packed-day (packed y m (d + 1))).1 (packed_day k) in
     let l = real-last (packed y m (d + 1)) q in
     let f = after-follows p r (omega arith) in
     let a = f.above in
     let b = f.nearest (packed y m (d + 1)) q (omega arith) in
     record { real-here = r; before_last = omega arith; next = omega arith }
-steps-days (nextMonth {y = y} {m = m} {d = d} h (isDay i s j k)) =
+steps-days (next_month {y = y} {m = m} {d = d} h (is_day i s j k)) =
     let a = has-month h in
     let b = has-month s in
     let c = month-long y m a.0 a.1 in
@@ -80,7 +80,7 @@ steps-days (nextMonth {y = y} {m = m} {d = d} h (isDay i s j k)) =
       before_last = omega arith;
       next = rw (year-packed y m d (omega arith) (omega arith), month-packed y m d (omega arith) (omega arith), day-packed y m d (omega arith) (omega arith), a.2, le-ltb d d (omega arith), lt-ltb m 12 (omega arith));
     }
-steps-days (nextYear y (isDay i s j k)) = record {
+steps-days (next_year y (is_day i s j k)) = record {
   real-here = real-packed y 12 31 (omega arith) (omega arith) (omega arith) (omega arith) (omega arith);
   before_last = omega arith;
   next = rw (year-packed y 12 31 (omega arith) (omega arith), month-packed y 12 31 (omega arith) (omega arith), day-packed y 12 31 (omega arith) (omega arith));
@@ -88,45 +88,45 @@ steps-days (nextYear y (isDay i s j k)) = record {
 
 -- a value of a kind lies between the least and the greatest, which are the rule's
 pub value-least : {k v : ℕ} → Kind k → Value k v → least k ≤ v
-value-least isInteger w = omega arith
-value-least {v = v} isDate w = real-first v (w.day refl)
+value-least is_integer w = omega arith
+value-least {v = v} is_date w = real-first v (w.day refl)
 
 pub value-most : {k v : ℕ} → Kind k → Value k v → v ≤ most k
-value-most isInteger w = w.number (λ e. omega arith)
-value-most {v = v} isDate w = real-last v (w.day refl)
+value-most is_integer w = w.number (λ e. omega arith)
+value-most {v = v} is_date w = real-last v (w.day refl)
 
 pub bounds_of : {k : ℕ} → Kind k → Bounds k (least k) (most k)
-bounds_of isInteger = ofIntegers
-bounds_of isDate = ofDates
+bounds_of is_integer = of_integers
+bounds_of is_date = of_dates
 
 pub bounds-are : {k low high : ℕ} → Bounds k low high → (least k ≡ low) × (most k ≡ high)
-bounds-are ofIntegers = (refl, refl)
-bounds-are ofDates = (refl, refl)
+bounds-are of_integers = (refl, refl)
+bounds-are of_dates = (refl, refl)
 
 -- the value behind a value and the one before it are the neighbours by the rules
 pub step_after : {k a b : ℕ} → Kind k → Value k a → Value k b → after k a ≤ b → StepsTo k a (after k a)
-step_after isInteger v w h = nextInteger
-step_after {a = a} {b = b} isDate v w h =
+step_after is_integer v w h = next_integer
+step_after {a = a} {b = b} is_date v w h =
     let r = v.day refl in
     let l = real-last a r in
     let g = real-last b (w.day refl) in
-    by_order lastDay a
-    (λ i. let e : a ≡ lastDay = omega arith in let j : dayAfter lastDay ≤ b = rw e at h in absurd (omega (arith, after_last)))
+    by_order last_day a
+    (λ i. let e : a ≡ last_day = omega arith in let j : day_after last_day ≤ b = rw e at h in absurd (omega (arith, after_last)))
     (λ i. day-steps a r i)
 
 pub step-before : {k b : ℕ} → Kind k → Value k b → least k < b → StepsTo k (before k b) b
-step-before {b = b} isInteger w h = let e : b - 1 + 1 ≡ b = omega arith in subst (StepsTo integer (b - 1)) e nextInteger
-step-before {b = b} isDate w h =
+step-before {b = b} is_integer w h = let e : b - 1 + 1 ≡ b = omega arith in subst (StepsTo integer (b - 1)) e next_integer
+step-before {b = b} is_date w h =
     let r = w.day refl in
     let f = before-follows b r h in
     let a = f.above in
     let l = real-last b r in
-    subst (StepsTo date (dayBefore b)) (after-before b r h) (day-steps (dayBefore b) f.real-here (omega arith))
+    subst (StepsTo date (day_before b)) (after-before b r h) (day-steps (day_before b) f.real-here (omega arith))
 
 -- a value that has a next is not below the least
 pub step-least : {k low high a b : ℕ} → Bounds k low high → StepsTo k a b → low ≤ a
-step-least ofIntegers s = omega arith
-step-least {a = a} ofDates s = real-first a (steps-days s).real-here
+step-least of_integers s = omega arith
+step-least {a = a} of_dates s = real-first a (steps-days s).real-here
 
 -- the next by the rules is the value behind a value, and the other way round
 pub record Stepped (k a b : ℕ) : Type 0 where
@@ -135,8 +135,8 @@ pub record Stepped (k a b : ℕ) : Type 0 where
   pub last : before k b ≡ a
 
 pub stepped : {k a b : ℕ} → Kind k → StepsTo k a b → Stepped k a b
-stepped isInteger (nextInteger {a = a}) = record { above = omega arith; next = refl; last = omega arith }
-stepped {a = a} {b = b} isDate s =
+stepped is_integer (next_integer {a = a}) = record { above = omega arith; next = refl; last = omega arith }
+stepped {a = a} {b = b} is_date s =
     let d = steps-days s in
     let f = after-follows a d.real-here d.before_last in
     record { above = rw d.next at f.above; next = d.next; last = rw d.next at (before-after a d.real-here d.before_last) }
@@ -149,8 +149,8 @@ step-below {k} {low} {b} q g h =
     (step-before q g.high (omega (arith, first q g l)), (closed-proper k low b true g h).order)
   where
     first : {j : ℕ} → Kind j → EndsGood (ends j low b true) → low < b → least j ≤ low
-    first isInteger f l = omega arith
-    first isDate f l = real-first low (f.low refl (omega (arith, real-last b (f.high.day refl))))
+    first is_integer f l = omega arith
+    first is_date f l = real-first low (f.low refl (omega (arith, real-last b (f.high.day refl))))
 
 -- the ends of `+/-`, where some value lies between them
 pub record Spread (a d : ℕ) : Type 0 where

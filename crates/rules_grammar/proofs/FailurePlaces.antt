@@ -15,7 +15,7 @@ use Rattle.meaning.specs.Data.{Datum, datum, Members, no_more, member, Content}
 use Rattle.meaning.specs.Data
 use Rattle.meaning.specs.Judging.{place_of}
 use Rattle.dadl.specs.Placed
-use Rattle.dadl.specs.Placed.{Block, Entries, PlacedContent, spelledBlock, spelledEntries, spelledContent}
+use Rattle.dadl.specs.Placed.{Block, Entries, PlacedContent, spelled_block, spelled_entries, spelled_content}
 use Rattle.lexis.specs.SpellingRules.{SpellsData}
 use Rattle.lexis.specs.SpellingRules
 use Rattle.lexis.specs.LongestMatch.{NextDataIs, Classed}
@@ -52,15 +52,15 @@ less-stands s (DataGrammar.next n e) = by n e
 -- each place of a datum is such
 mutual
   data Places (Such : ℕ → Type 0) : Datum → Type 0 where
-    inDatum : {p : ℕ} {t : Option (List ℕ)} {ms : Members} → Such p → MemberPlaces Such ms → Places Such (datum p t ms)
+    in_datum : {p : ℕ} {t : Option (List ℕ)} {ms : Members} → Such p → MemberPlaces Such ms → Places Such (datum p t ms)
 
   data MemberPlaces (Such : ℕ → Type 0) : Members → Type 0 where
-    inNone : MemberPlaces Such no_more
-    inMember : {w : List ℕ} {c : Content} {ms : Members} → ContentPlaces Such c → MemberPlaces Such ms
+    in_none : MemberPlaces Such no_more
+    in_member : {w : List ℕ} {c : Content} {ms : Members} → ContentPlaces Such c → MemberPlaces Such ms
         → MemberPlaces Such (member w c ms)
 
   data ContentPlaces (Such : ℕ → Type 0) : Content → Type 0 where
-    inString : {p : ℕ} {w : List ℕ} → Such p → ContentPlaces Such (Data.string p w)
+    in_string : {p : ℕ} {w : List ℕ} → Such p → ContentPlaces Such (Data.string p w)
     in_word : {p : ℕ} {w : List ℕ} → Such p → ContentPlaces Such (Data.word p w)
     in_block : {d : Datum} → Places Such d → ContentPlaces Such (Data.block d)
 
@@ -70,41 +70,41 @@ module _ (s : List ℕ) where
   Opening p = StandsAt s p (bytes "<")
 
   leaf-places : {place from end : ℕ} {c : PlacedContent} → Opening place → DerivesDataLeaf s place from c end
-      → ContentPlaces Opening (spelledContent c s)
-  unfolding spelledContent
-  leaf-places h (DataGrammar.aString t k) = inString h
-  leaf-places h (DataGrammar.aWord t k) = in_word h
+      → ContentPlaces Opening (spelled_content c s)
+  unfolding spelled_content
+  leaf-places h (DataGrammar.a_string t k) = in_string h
+  leaf-places h (DataGrammar.a_word t k) = in_word h
 
   mutual
-    unfolding spelledBlock spelledEntries spelledContent
+    unfolding spelled_block spelled_entries spelled_content
 
-    datum-places : (b : Block) {from end : ℕ} → DerivesDatum s from b end → Places Opening (spelledBlock b s)
-    datum-places (Placed.block p t ms) (DataGrammar.untyped l d g n) = inDatum (less-stands s l) (member-places ms d)
-    datum-places (Placed.block p t ms) (DataGrammar.typed o u k c l d g n) = inDatum (less-stands s l) (member-places ms d)
+    datum-places : (b : Block) {from end : ℕ} → DerivesDatum s from b end → Places Opening (spelled_block b s)
+    datum-places (Placed.block p t ms) (DataGrammar.untyped l d g n) = in_datum (less-stands s l) (member-places ms d)
+    datum-places (Placed.block p t ms) (DataGrammar.typed o u k c l d g n) = in_datum (less-stands s l) (member-places ms d)
 
     member-places : (ms : Entries) {from end : ℕ} → DerivesMembers s from ms end
-        → MemberPlaces Opening (spelledEntries ms s)
-    member-places Placed.no_more DataGrammar.noMember = inNone
-    member-places (Placed.entry w c more) (DataGrammar.oneMore n k e d ms) = inMember (content-places c d) (member-places more ms)
+        → MemberPlaces Opening (spelled_entries ms s)
+    member-places Placed.no_more DataGrammar.no_member = in_none
+    member-places (Placed.entry w c more) (DataGrammar.one_more n k e d ms) = in_member (content-places c d) (member-places more ms)
 
     content-places : (c : PlacedContent) {from end : ℕ} → DerivesContent s from c end
-        → ContentPlaces Opening (spelledContent c s)
-    content-places (Placed.inside b) (DataGrammar.aDatum d) = in_block (datum-places b d)
-    content-places (Placed.inside b) (DataGrammar.aLeaf l d g) = leaf-places (less-stands s l) d
-    content-places (Placed.string p x) (DataGrammar.aLeaf l d g) = leaf-places (less-stands s l) d
-    content-places (Placed.word p x) (DataGrammar.aLeaf l d g) = leaf-places (less-stands s l) d
+        → ContentPlaces Opening (spelled_content c s)
+    content-places (Placed.inside b) (DataGrammar.a_datum d) = in_block (datum-places b d)
+    content-places (Placed.inside b) (DataGrammar.a_leaf l d g) = leaf-places (less-stands s l) d
+    content-places (Placed.string p x) (DataGrammar.a_leaf l d g) = leaf-places (less-stands s l) d
+    content-places (Placed.word p x) (DataGrammar.a_leaf l d g) = leaf-places (less-stands s l) d
 
 -- a failure is told at one of them
 module _ (Such : ℕ → Type 0) where
   content-place : {c : Content} → ContentPlaces Such c → Such (place_of c)
-  content-place (inString h) = h
+  content-place (in_string h) = h
   content-place (in_word h) = h
-  content-place (in_block (inDatum h ms)) = h
+  content-place (in_block (in_datum h ms)) = h
 
   member-content : {w : List ℕ} {c : Content} {ms : Members} → MemberOf w c ms → MemberPlaces Such ms
       → ContentPlaces Such c
-  member-content Admits.here (inMember h hs) = h
-  member-content (Admits.behind n m) (inMember h hs) = member-content m hs
+  member-content Admits.here (in_member h hs) = h
+  member-content (Admits.behind n m) (in_member h hs) = member-content m hs
 
   -- an attribute's own failure, where it is known of its value's
   attribute-place : {a : AttributeHead} {v : Value} {p : ℕ} {ms : Members} {r k q : ℕ}
@@ -112,12 +112,12 @@ module _ (Such : ℕ → Type 0) where
       → AttributeFails a v p ms r k q → Such p → MemberPlaces Such ms → Such q
   attribute-place value (FirstFailure.missing e m) x ms = x
   attribute-place value (FirstFailure.forbidden e m) x ms = content-place (member-content m ms)
-  attribute-place value (FirstFailure.valueFails e m f) x ms = value _ _ _ _ f (member-content m ms)
+  attribute-place value (FirstFailure.value_fails e m f) x ms = value _ _ _ _ f (member-content m ms)
 
   mutual
     failure-place : (o : Object) {d : Datum} {r k q : ℕ} → FirstFailure o d r k q → Places Such d → Such q
-    failure-place (Constraints.object h xs) (FirstFailure.typeDiffers n) (inDatum x ms) = x
-    failure-place (Constraints.object h xs) (FirstFailure.inside t f) (inDatum x ms) = attributes-place xs f x ms
+    failure-place (Constraints.object h xs) (FirstFailure.type_differs n) (in_datum x ms) = x
+    failure-place (Constraints.object h xs) (FirstFailure.inside t f) (in_datum x ms) = attributes-place xs f x ms
 
     attributes-place : (xs : Attributes) {p : ℕ} {ms : Members} {r k q : ℕ} → AttributesFail xs p ms r k q → Such p
         → MemberPlaces Such ms → Such q
@@ -125,12 +125,12 @@ module _ (Such : ℕ → Type 0) where
     attributes-place (Constraints.attribute a v more) (FirstFailure.later y f) x ms = attributes-place more f x ms
 
     value-place : (v : Value) {c : Content} {r k q : ℕ} → ValueFails v c r k q → ContentPlaces Such c → Such q
-    value-place (Constraints.nested o) FirstFailure.stringForBlock (inString x) = x
-    value-place (Constraints.nested o) FirstFailure.wordForBlock (in_word x) = x
-    value-place (Constraints.nested o) (FirstFailure.blockFails f) (in_block ms) = failure-place o f ms
-    value-place (Constraints.leaf l) (FirstFailure.leafFails f) ms = content-place ms
+    value-place (Constraints.nested o) FirstFailure.string_for_block (in_string x) = x
+    value-place (Constraints.nested o) FirstFailure.word_for_block (in_word x) = x
+    value-place (Constraints.nested o) (FirstFailure.block_fails f) (in_block ms) = failure-place o f ms
+    value-place (Constraints.leaf l) (FirstFailure.leaf_fails f) ms = content-place ms
 
 pub failure-opening : (levels : ℕ) (s : List ℕ) (b : Block) (o : Object) (r k q : ℕ) → DerivesData levels s b
-    → FirstFailure o (spelledBlock b s) r k q
+    → FirstFailure o (spelled_block b s) r k q
     → StandsAt s q (bytes "<")
-failure-opening levels s b o r k q (DataGrammar.wholeText n d e l) f = failure-place (Opening s) o f (datum-places s b d)
+failure-opening levels s b o r k q (DataGrammar.whole_text n d e l) f = failure-place (Opening s) o f (datum-places s b d)

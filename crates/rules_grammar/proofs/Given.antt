@@ -2,7 +2,7 @@
 use mathlib.Core.Path.{◌≡◌, refl}
 use mathlib.Core.Bool.{Bool, true, false, cond}
 use Prim.Native.Nat.{ℕ}
-use Rattle.refusals.specs.Reading.{Reading, refused, got, refuse, readThen, readUnless}
+use Rattle.refusals.specs.Reading.{Reading, refused, got, refuse, read_then, read_unless}
 use Rattle.refusals.specs.declared.Cause.{Cause}
 
 unfoldable pub Gives : {A : Type 0} → (A → ℕ → Type 0) → Reading A → Type 0
@@ -24,13 +24,13 @@ module _ {A : Type 0} (P : A → ℕ → Type 0) where
   cond-gives false x y f g = g refl
 
   pub unless-gives : (fault : Bool) (cause : Cause) (place : ℕ) (more : Reading A) → (fault ≡ false → Gives P more)
-      → Gives P (readUnless fault cause place more)
+      → Gives P (read_unless fault cause place more)
   unfolding Gives
   unless-gives true cause place more k = tt
   unless-gives false cause place more k = k refl
 
   pub then-gives : {B : Type 0} (Q : B → ℕ → Type 0) (r : Reading B) (go : B → ℕ → Reading A) → Gives Q r
-      → ((b : B) (p : ℕ) → Q b p → Gives P (go b p)) → Gives P (readThen r go)
+      → ((b : B) (p : ℕ) → Q b p → Gives P (go b p)) → Gives P (read_then r go)
   unfolding Gives
   then-gives Q (refused x) go h k = tt
   then-gives Q (got b p) go h k = k b p h

@@ -12,36 +12,36 @@ use lib.ListN.{length}
 use borrow.Author.Tests.{eqb-true, eqb-false, ltb-false, le-ltb, leb-true, leb-false, le-leb, lt-leb, eq-eqb, ne_eqb}
 use Rattle.lexis.specs.Bytes.{within}
 use Rattle.lexis.specs.Runs.{listed}
-use Rattle.lexis.specs.Spelling.{bar, dots, less, greater, at_most, at_least, plusMinus, comma, trueWord, falseWord, closeBrace}
-use Rattle.lexis.specs.Tokens.{tokenAt, contentTokenAt, typeName, integer, date, string, spelling, inner}
-use Rattle.lexis.specs.LongestMatch.{PatternHere, patternHere}
+use Rattle.lexis.specs.Spelling.{bar, dots, less, greater, at_most, at_least, plus_minus, comma, true_word, false_word, close_brace}
+use Rattle.lexis.specs.Tokens.{token_at, content_token_at, type_name, integer, date, string, spelling, inner}
+use Rattle.lexis.specs.LongestMatch.{PatternHere, pattern_here}
 use Rattle.lexis.specs.DurationRules.{SpellsPattern}
 use Rattle.lexis.specs.declared.Token.{Token}
 use Rattle.lexis.proofs.Cases.{and_left, and_right, by_cond}
 use Rattle.values.specs.Integers.{Pair, pair, inside, around}
-use Rattle.refusals.specs.Limits.{recordLimit, stringLimit, itemLimit}
+use Rattle.refusals.specs.Limits.{record_limit, string_limit, item_limit}
 use Rattle.refusals.specs.Reading.{Reading, got}
-use Rattle.refusals.specs.Parsing.{firstIn}
+use Rattle.refusals.specs.Parsing.{first_in}
 use Rattle.refusals.specs.declared.Cause.TheVariants.{Impossible, OutOfRange, EmptyInterval, TooLong, TooManyItems, TooManyRecords, Overlap}
-use Rattle.refusals.specs.Expecting.{syntaxCause, expect}
-use Rattle.meaning.specs.Constraints.{Range, Text, Leaf, booleans, datePattern, timePattern, durationPattern, single}
+use Rattle.refusals.specs.Expecting.{syntax_cause, expect}
+use Rattle.meaning.specs.Constraints.{Range, Text, Leaf, booleans, date_pattern, time_pattern, duration_pattern, single}
 use Rattle.meaning.specs.Constraints
-use Rattle.cadl_intervals.specs.Intervals.{Ends, ends, undecided, kindBy, least, most, after, literalValue, possible, empty, closed, Interval}
-use Rattle.cadl_intervals.specs.contracts.Told.{withLiteral, between, interval}
-use Rattle.cadl_intervals.specs.contracts.Told
+use Rattle.cadl_intervals.specs.Intervals.{Ends, ends, undecided, kind_by, least, most, after, literal_value, possible, empty, closed, Interval}
+use Rattle.cadl_intervals.specs.Clauses.Told.{with_literal, between, interval}
+use Rattle.cadl_intervals.specs.Clauses.Told
 use Rattle.cadl_items.specs.Ranges.{Start, meet, overlaps, Ranges, range}
-use Rattle.cadl_items.specs.contracts.Told.{start, item, ranges, startString, strings, leaf}
-use Rattle.cadl_items.specs.Leaves.{isBoolean, booleanFlag, rangeLeaf}
+use Rattle.cadl_items.specs.Clauses.Told.{start, item, ranges, start_string, strings, leaf}
+use Rattle.cadl_items.specs.Leaves.{is_boolean, boolean_flag, range_leaf}
 use Rattle.cadl_intervals.proofs.IntervalParts.{literal-is, up_is, above-is, spread-is, from_is, between_is, interval-is}
 use Rattle.cadl_intervals.proofs.Pairs.{Value, value_read, least-good, most-good, after-good}
 use Rattle.cadl_items.proofs.LeafParts.{start_is, ranges-none, ranges-some, start-string-is, strings-none, strings-some, second_is, boolean-is, leaf-is}
-use Rattle.rules_grammar.specs.DataGrammar.{Distinct, noName, newName}
-use Rattle.rules_grammar.specs.LeafGrammar.{NextToken, next, IsLiteral, DerivesLiteral, literal, StepsTo, DerivesEnds, DerivesItem, aValue, anInterval, DerivesItems, lastItem, moreItems, Meet, Apart, no_item, newItem, DerivesStrings, lastString, moreStrings, textsIn, Boolean, aTrue, aFalse, DerivesLeaf}
+use Rattle.rules_grammar.specs.DataGrammar.{Distinct, no_name, new_name}
+use Rattle.rules_grammar.specs.LeafGrammar.{NextToken, next, IsLiteral, DerivesLiteral, literal, StepsTo, DerivesEnds, DerivesItem, a_value, an_interval, DerivesItems, last_item, more_items, Meet, Apart, no_item, new_item, DerivesStrings, last_string, more_strings, texts_in, Boolean, a_true, a_false, DerivesLeaf}
 use Rattle.rules_grammar.specs.LeafGrammar
 use Rattle.rules_grammar.proofs.NextLaws.{next-token, token-read, sort-read, content-token, content-same, content-read, pattern-read, pattern-stands, flag-least, flag-most, date-long}
 use Rattle.lexis.proofs.TestLaws.{true-or-false, false-true, or_cases, or_left, or_right, and_both}
 use Rattle.rules_grammar.proofs.LiteralLaws.{literal-of, integer-literal, date-literal}
-use Rattle.rules_grammar.proofs.EndLaws.{Kind, isInteger, isDate, value-least, value-most, bounds_of, bounds-are, step_after, step-least, stepped, step-below, Spread, spread-of, spread-got}
+use Rattle.rules_grammar.proofs.EndLaws.{Kind, is_integer, is_date, value-least, value-most, bounds_of, bounds-are, step_after, step-least, stepped, step-below, Spread, spread-of, spread-got}
 use Rattle.rules_grammar.proofs.Given.{Gives, got-gives, refuse-gives, cond-gives, unless-gives, then-gives, given, gives-map}
 use Rattle.rules_grammar.proofs.Derived.{not_listed, listed-not, other, head-new, tail-new}
 
@@ -58,16 +58,16 @@ suits-kind : {k j : ℕ} → Suits k j → Kind j
 suits-kind (kept x) = x
 suits-kind (newly x) = x
 
-decided : {k : ℕ} → Asked k → (t : Token) → Suits k (kindBy k t)
-decided unasked t = by_cond (Suits undecided) (eqb t.sort date) (λ e. newly isDate) (λ e. newly isInteger)
-decided (asked isInteger) t = kept isInteger
-decided (asked isDate) t = kept isDate
+decided : {k : ℕ} → Asked k → (t : Token) → Suits k (kind_by k t)
+decided unasked t = by_cond (Suits undecided) (eqb t.sort date) (λ e. newly is_date) (λ e. newly is_integer)
+decided (asked is_integer) t = kept is_integer
+decided (asked is_date) t = kept is_date
 
 -- a literal's value is what it says
 literal-says : {s : List ℕ} {kind from v : ℕ} {t : Token} → Kind kind → NextToken s from kind t
-    → literalValue kind (spelling s t) ≡ some v → IsLiteral kind (spelling s t) v
-literal-says isInteger n e = (integer-literal _ _).0 e
-literal-says isDate n e = (date-literal _ _ (date-long n)).0 e
+    → literal_value kind (spelling s t) ≡ some v → IsLiteral kind (spelling s t) v
+literal-says is_integer n e = (integer-literal _ _).0 e
+literal-says is_date n e = (date-literal _ _ (date-long n)).0 e
 
 -- and it is a value of its kind
 literal-good : {s : List ℕ} {kind from v : ℕ} {t : Token} → DerivesLiteral s kind from v t → Value kind v
@@ -78,32 +78,32 @@ pub data Took (s : List ℕ) (sort from : ℕ) : Token → ℕ → Type 0 where
   took : {t : Token} → NextToken s from sort t → Took s sort from t t.end
 
 data LiteralGiven (s : List ℕ) (kind from : ℕ) : ℕ → ℕ → Type 0 where
-  literalGiven : {v : ℕ} {t : Token} → DerivesLiteral s kind from v t → LiteralGiven s kind from v t.end
+  literal_given : {v : ℕ} {t : Token} → DerivesLiteral s kind from v t → LiteralGiven s kind from v t.end
 
 data UpGiven (s : List ℕ) (kind low from : ℕ) : Ends → ℕ → Type 0 where
-  closedUp : {b : ℕ} {u : Token} → DerivesLiteral s kind from b u
+  closed_up : {b : ℕ} {u : Token} → DerivesLiteral s kind from b u
       → UpGiven s kind low from (ends kind low b false) u.end
-  openUp : {b : ℕ} {l u : Token} → NextToken s from less l → DerivesLiteral s kind l.end b u
+  open_up : {b : ℕ} {l u : Token} → NextToken s from less l → DerivesLiteral s kind l.end b u
       → UpGiven s kind low from (ends kind low b true) u.end
 
 data EndsGiven (s : List ℕ) (kind from : ℕ) : Ends → ℕ → Type 0 where
-  endsGiven : {k p : ℕ} {e : Ends} → Suits kind k → (empty e ≡ false → DerivesEnds s k from (closed e) p) → e.kind ≡ k
+  ends_given : {k p : ℕ} {e : Ends} → Suits kind k → (empty e ≡ false → DerivesEnds s k from (closed e) p) → e.kind ≡ k
       → EndsGiven s kind from e p
 
 data ItemGiven (s : List ℕ) (kind from : ℕ) : Interval → ℕ → Type 0 where
-  itemGiven : {i : Interval} {p : ℕ} → Suits kind i.kind → DerivesItem s i.kind from i.pair p
+  item_given : {i : Interval} {p : ℕ} → Suits kind i.kind → DerivesItem s i.kind from i.pair p
       → ItemGiven s kind from i p
 
 data RangesGiven (s : List ℕ) (left kind n : ℕ) (seen : List Pair) (from : ℕ) : Ranges → ℕ → Type 0 where
-  rangesGiven : {r : Ranges} {p : ℕ} → Suits kind r.kind → DerivesItems s r.kind n from r.items p
+  ranges_given : {r : Ranges} {p : ℕ} → Suits kind r.kind → DerivesItems s r.kind n from r.items p
       → length r.items ≤ left → Apart seen r.items → RangesGiven s left kind n seen from r p
 
 data StringsGiven (s : List ℕ) (left n : ℕ) (seen : List (List ℕ)) (from : ℕ) : List Text → ℕ → Type 0 where
-  stringsGiven : {l : List Text} {p : ℕ} → DerivesStrings s n from l p → length l ≤ left → Distinct seen (textsIn l)
+  strings_given : {l : List Text} {p : ℕ} → DerivesStrings s n from l p → length l ≤ left → Distinct seen (texts_in l)
       → StringsGiven s left n seen from l p
 
 data StringGiven (s : List ℕ) (from : ℕ) : Token → ℕ → Type 0 where
-  stringGiven : {t : Token} → NextToken s from string t → length (inner s t) ≤ stringLimit
+  string_given : {t : Token} → NextToken s from string t → length (inner s t) ≤ string_limit
       → StringGiven s from t t.end
 
 no-overlap : (x : Pair) (ys : List Pair) → overlaps x ys ≡ false → (y : Pair) → Memᴰ y ys → ¬ Meet x y
@@ -127,22 +127,22 @@ module _ (s : List ℕ) where
   pub expect-gives : (sort from : ℕ) → Gives (Took s sort from) (expect s sort from)
   unfolding expect
   expect-gives sort from =
-      let t = tokenAt s from in
+      let t = token_at s from in
       let P = Took s sort from in
-      cond-gives P (eqb t.sort sort) _ _ (λ e. got-gives P t t.end (took (next-token (eqb-true _ _ e)))) (λ e. refuse-gives P (syntaxCause t) t.start)
+      cond-gives P (eqb t.sort sort) _ _ (λ e. got-gives P t t.end (took (next-token (eqb-true _ _ e)))) (λ e. refuse-gives P (syntax_cause t) t.start)
 
   literal-gives : (kind from : ℕ) → Kind kind → Gives (LiteralGiven s kind from) (Told.literal s kind from)
   literal-gives kind from k =
-      rw (literal-is s kind from) (then-gives (LiteralGiven s kind from) (Took s kind from) (expect s kind from) _ (expect-gives kind from) (λ t p x. go x (literalValue kind (spelling s t)) refl))
+      rw (literal-is s kind from) (then-gives (LiteralGiven s kind from) (Took s kind from) (expect s kind from) _ (expect-gives kind from) (λ t p x. go x (literal_value kind (spelling s t)) refl))
     where
-      go : {t : Token} {p : ℕ} → Took s kind from t p → (o : Option ℕ) → literalValue kind (spelling s t) ≡ o
-          → Gives (LiteralGiven s kind from) (firstIn (possible t o))
+      go : {t : Token} {p : ℕ} → Took s kind from t p → (o : Option ℕ) → literal_value kind (spelling s t) ≡ o
+          → Gives (LiteralGiven s kind from) (first_in (possible t o))
       go {t} x none e = refuse-gives (LiteralGiven s kind from) Impossible t.start
-      go {t} (took n) (some v) e = got-gives (LiteralGiven s kind from) v t.end (literalGiven (literal n (literal-says k n e)))
+      go {t} (took n) (some v) e = got-gives (LiteralGiven s kind from) v t.end (literal_given (literal n (literal-says k n e)))
 
   up-gives : (kind low from : ℕ) → Kind kind → Gives (UpGiven s kind low from) (Told.up_to s kind low from)
   up-gives kind low from k =
-      let t = tokenAt s from in
+      let t = token_at s from in
       let P = UpGiven s kind low from in
       rw (up_is s kind low from) (cond-gives P (eqb t.sort less) _ _
       (λ e. then-gives P (LiteralGiven s kind t.end) (Told.literal s kind t.end) _ (literal-gives kind t.end k) (λ b p x. opened (next-token (eqb-true _ _ e)) x))
@@ -150,21 +150,21 @@ module _ (s : List ℕ) where
     where
       opened : {l : Token} {b p : ℕ} → NextToken s from less l → LiteralGiven s kind l.end b p
           → Gives (UpGiven s kind low from) (got (ends kind low b true) p)
-      opened n (literalGiven x) = got-gives (UpGiven s kind low from) _ _ (openUp n x)
+      opened n (literal_given x) = got-gives (UpGiven s kind low from) _ _ (open_up n x)
 
       shut : {b p : ℕ} → LiteralGiven s kind from b p → Gives (UpGiven s kind low from) (got (ends kind low b false) p)
-      shut (literalGiven x) = got-gives (UpGiven s kind low from) _ _ (closedUp x)
+      shut (literal_given x) = got-gives (UpGiven s kind low from) _ _ (closed_up x)
 
   -- behind `|>a` and behind `|a`
   above-gives : {kind k from a : ℕ} {g t : Token} → Suits kind k → NextToken s from greater g
       → DerivesLiteral s k g.end a t
       → Gives (EndsGiven s kind from) (Told.above s k a t.end)
   above-gives {kind} {k} {from} {a} {g} {t} q n x =
-      let d = tokenAt s t.end in
+      let d = token_at s t.end in
       let P = EndsGiven s kind from in
       rw (above-is s k a t.end) (cond-gives P (eqb d.sort dots) _ _
       (λ e. gives-map (UpGiven s k (after k a) d.end) P _ (λ f p y. made (next-token (eqb-true _ _ e)) y) (up-gives k (after k a) d.end (suits-kind q)))
-      (λ e. got-gives P (ends k (after k a) (most k) false) t.end (endsGiven q (λ h. LeafGrammar.above n x (bounds_of j) (step_after j v (most-good k) (ltb-false _ _ h)) (ltb-false _ _ h)) refl)))
+      (λ e. got-gives P (ends k (after k a) (most k) false) t.end (ends_given q (λ h. LeafGrammar.above n x (bounds_of j) (step_after j v (most-good k) (ltb-false _ _ h)) (ltb-false _ _ h)) refl)))
     where
       j : Kind k
       j = suits-kind q
@@ -174,86 +174,86 @@ module _ (s : List ℕ) where
 
       made : {d : Token} {f : Ends} {p : ℕ} → NextToken s t.end dots d → UpGiven s k (after k a) d.end f p
           → EndsGiven s kind from f p
-      made m (closedUp y) = endsGiven q (λ h. LeafGrammar.openLow n x m y (step_after j v (literal-good y) (ltb-false _ _ h)) (ltb-false _ _ h)) refl
-      made m (openUp {b = b} l y) = endsGiven q (λ h.
+      made m (closed_up y) = ends_given q (λ h. LeafGrammar.open_low n x m y (step_after j v (literal-good y) (ltb-false _ _ h)) (ltb-false _ _ h)) refl
+      made m (open_up {b = b} l y) = ends_given q (λ h.
           let z = step-below j (record { low = after-good k a v; high = literal-good y }) h in
-          LeafGrammar.openBoth n x m l y (step_after j v (literal-good y) (le_of_lt (leb-false b (after k a) h))) z.0 z.1) refl
+          LeafGrammar.open_both n x m l y (step_after j v (literal-good y) (le_of_lt (leb-false b (after k a) h))) z.0 z.1) refl
 
   from_gives : {kind k from a : ℕ} {t : Token} → Suits kind k → DerivesLiteral s k from a t
       → Gives (EndsGiven s kind from) (Told.from s k a t.end)
   from_gives {kind} {k} {from} {a} {t} q x =
-      let d = tokenAt s t.end in
+      let d = token_at s t.end in
       let P = EndsGiven s kind from in
       rw (from_is s k a t.end, spread-is s a d.end) (cond-gives P (eqb d.sort dots) _ _
       (λ e. gives-map (UpGiven s k a d.end) P _ (λ f p y. made (next-token (eqb-true _ _ e)) y) (up-gives k a d.end (suits-kind q)))
-      (λ e. cond-gives P (eqb d.sort plusMinus) _ _
-      (λ f. cond-gives P (eqb k date) _ _ (λ g. refuse-gives P (syntaxCause d) d.start)
-      (λ g. then-gives P (LiteralGiven s integer d.end) (Told.literal s integer d.end) _ (literal-gives integer d.end isInteger) (λ v p y.
-      unless-gives P (cond (inside a v) false true) OutOfRange (tokenAt s d.end).start _ (λ i.
+      (λ e. cond-gives P (eqb d.sort plus_minus) _ _
+      (λ f. cond-gives P (eqb k date) _ _ (λ g. refuse-gives P (syntax_cause d) d.start)
+      (λ g. then-gives P (LiteralGiven s integer d.end) (Told.literal s integer d.end) _ (literal-gives integer d.end is_integer) (λ v p y.
+      unless-gives P (cond (inside a v) false true) OutOfRange (token_at s d.end).start _ (λ i.
       got-gives P (ends integer (around a v).low (around a v).high false) p (spreads (next-token (eqb-true _ _ f)) (whole k (suits-kind q) g) y (held (inside a v) i))))))
-      (λ f. got-gives P (ends k a a false) t.end (endsGiven q (λ h. LeafGrammar.point x) refl))))
+      (λ f. got-gives P (ends k a a false) t.end (ends_given q (λ h. LeafGrammar.point x) refl))))
     where
       made : {d : Token} {f : Ends} {p : ℕ} → NextToken s t.end dots d → UpGiven s k a d.end f p
           → EndsGiven s kind from f p
-      made m (closedUp y) = endsGiven q (λ h. LeafGrammar.closedEnds x m y (ltb-false _ _ h)) refl
-      made m (openUp l y) = endsGiven q (λ h.
+      made m (closed_up y) = ends_given q (λ h. LeafGrammar.closed_ends x m y (ltb-false _ _ h)) refl
+      made m (open_up l y) = ends_given q (λ h.
           let z = step-below (suits-kind q) (record { low = λ e i. (literal-good x).day e; high = literal-good y }) h in
-          LeafGrammar.openHigh x m l y z.0 z.1) refl
+          LeafGrammar.open_high x m l y z.0 z.1) refl
 
       whole : (j : ℕ) → Kind j → eqb j date ≡ false → j ≡ integer
-      whole j isInteger g = refl
-      whole j isDate g = absurd (false-true (sym g))
+      whole j is_integer g = refl
+      whole j is_date g = absurd (false-true (sym g))
 
       held : (b : Bool) → cond b false true ≡ false → b ≡ true
       held true i = refl
       held false i = sym i
 
-      spreads-by : {m u : Token} {v : ℕ} → NextToken s t.end plusMinus m → k ≡ integer
+      spreads-by : {m u : Token} {v : ℕ} → NextToken s t.end plus_minus m → k ≡ integer
           → DerivesLiteral s integer m.end v u → Spread a v → DerivesEnds s k from (around a v) u.end
       spreads-by m e y z = rw z.ends (LeafGrammar.spread z.size e x m (rw z.value at y) z.least z.most)
 
-      spreads : {m : Token} {v p : ℕ} → NextToken s t.end plusMinus m → k ≡ integer
+      spreads : {m : Token} {v p : ℕ} → NextToken s t.end plus_minus m → k ≡ integer
           → LiteralGiven s integer m.end v p → inside a v ≡ true
           → EndsGiven s kind from (ends integer (around a v).low (around a v).high false) p
-      spreads {v = v} m e (literalGiven y) i = endsGiven q (λ h. spreads-by m e y (spread-of a v i h)) (sym e)
+      spreads {v = v} m e (literal_given y) i = ends_given q (λ h. spreads-by m e y (spread-of a v i h)) (sym e)
 
   with-gives : (kind at : ℕ) (go : ℕ → ℕ → ℕ → Reading Ends) (P : Ends → ℕ → Type 0) → Asked kind
       → ((k a : ℕ) (t : Token) → Suits kind k → DerivesLiteral s k at a t → Gives P (go k a t.end))
-      → Gives P (withLiteral s kind at go)
+      → Gives P (with_literal s kind at go)
   with-gives kind at go P w f =
-      let k = kindBy kind (tokenAt s at) in
-      then-gives P (LiteralGiven s k at) (Told.literal s k at) _ (literal-gives k at (suits-kind (decided w (tokenAt s at)))) (λ a p x. made (decided w (tokenAt s at)) x)
+      let k = kind_by kind (token_at s at) in
+      then-gives P (LiteralGiven s k at) (Told.literal s k at) _ (literal-gives k at (suits-kind (decided w (token_at s at)))) (λ a p x. made (decided w (token_at s at)) x)
     where
       made : {k a p : ℕ} → Suits kind k → LiteralGiven s k at a p → Gives P (go k a p)
-      made {k} {a} q (literalGiven {t = t} x) = f k a t q x
+      made {k} {a} q (literal_given {t = t} x) = f k a t q x
 
   between-gives : (kind at : ℕ) → Asked kind → Gives (EndsGiven s kind at) (between s kind at)
   between-gives kind at w =
-      let t = tokenAt s at in
+      let t = token_at s at in
       let P = EndsGiven s kind at in
       rw (between_is s kind at) (cond-gives P (eqb t.sort greater) _ _
       (λ e. with-gives kind t.end (Told.above s) P w (λ k a u q x. above-gives q (next-token (eqb-true _ _ e)) x))
       (λ e. cond-gives P (eqb t.sort less) _ _
-      (λ f. with-gives kind t.end (λ k a p. got (ends k (least k) a true) p) P w (λ k a u q x. got-gives P _ _ (endsGiven q (λ h.
+      (λ f. with-gives kind t.end (λ k a p. got (ends k (least k) a true) p) P w (λ k a u q x. got-gives P _ _ (ends_given q (λ h.
       let z = step-below (suits-kind q) (record { low = least-good k; high = literal-good x }) h in
       LeafGrammar.below (next-token (eqb-true _ _ f)) x (bounds_of (suits-kind q)) z.0) refl)))
       (λ f. cond-gives P (eqb t.sort at_most) _ _
-      (λ g. with-gives kind t.end (λ k a p. got (ends k (least k) a false) p) P w (λ k a u q x. got-gives P _ _ (endsGiven q (λ h. LeafGrammar.up_to (next-token (eqb-true _ _ g)) x (bounds_of (suits-kind q))) refl)))
+      (λ g. with-gives kind t.end (λ k a p. got (ends k (least k) a false) p) P w (λ k a u q x. got-gives P _ _ (ends_given q (λ h. LeafGrammar.up_to (next-token (eqb-true _ _ g)) x (bounds_of (suits-kind q))) refl)))
       (λ g. cond-gives P (eqb t.sort at_least) _ _
-      (λ h. with-gives kind t.end (λ k a p. got (ends k a (most k) false) p) P w (λ k a u q x. got-gives P _ _ (endsGiven q (λ i. LeafGrammar.from (next-token (eqb-true _ _ h)) x (bounds_of (suits-kind q))) refl)))
+      (λ h. with-gives kind t.end (λ k a p. got (ends k a (most k) false) p) P w (λ k a u q x. got-gives P _ _ (ends_given q (λ i. LeafGrammar.from (next-token (eqb-true _ _ h)) x (bounds_of (suits-kind q))) refl)))
       (λ h. with-gives kind at (Told.from s) P w (λ k a u q x. from_gives q x))))))
 
 data StartGiven (s : List ℕ) (kind from : ℕ) : Start → ℕ → Type 0 where
-  barStart : {place : ℕ} {o : Token} → NextToken s from bar o
+  bar_start : {place : ℕ} {o : Token} → NextToken s from bar o
       → StartGiven s kind from (record { place = place; single = false; value = 0 }) o.end
-  valueStart : {place v : ℕ} {t : Token} → Suits kind integer → DerivesLiteral s integer from v t
+  value_start : {place v : ℕ} {t : Token} → Suits kind integer → DerivesLiteral s integer from v t
       → StartGiven s kind from (record { place = place; single = true; value = v }) t.end
 
 -- a kind that a value may have
 value-suits : {k : ℕ} → Asked k → eqb k date ≡ false → Suits k integer
-value-suits unasked e = newly isInteger
-value-suits (asked isInteger) e = kept isInteger
-value-suits (asked isDate) e = absurd (false-true (sym e))
+value-suits unasked e = newly is_integer
+value-suits (asked is_integer) e = kept is_integer
+value-suits (asked is_date) e = absurd (false-true (sym e))
 
 -- a decided kind stays
 no_kind : ¬ Kind undecided
@@ -273,18 +273,18 @@ not-true-false false e = refl
 module _ (s : List ℕ) where
   start_gives : (kind from : ℕ) → Asked kind → Gives (StartGiven s kind from) (start s kind from)
   start_gives kind from w =
-      let t = tokenAt s from in
+      let t = token_at s from in
       let P = StartGiven s kind from in
       rw (start_is s kind from) (cond-gives P (eqb t.sort bar) _ _
-      (λ e. got-gives P (record { place = t.start; single = false; value = 0 }) t.end (barStart (next-token (eqb-true _ _ e))))
+      (λ e. got-gives P (record { place = t.start; single = false; value = 0 }) t.end (bar_start (next-token (eqb-true _ _ e))))
       (λ e. cond-gives P (eqb t.sort integer && not (eqb kind date)) _ _
-      (λ f. then-gives P (LiteralGiven s integer from) (Told.literal s integer from) _ (literal-gives s integer from isInteger) (λ v p x.
+      (λ f. then-gives P (LiteralGiven s integer from) (Told.literal s integer from) _ (literal-gives s integer from is_integer) (λ v p x.
       got-gives P (record { place = t.start; single = true; value = v }) p (made (value-suits w (not-true-false (eqb kind date) (and_right (eqb t.sort integer) (not (eqb kind date)) f))) x)))
-      (λ f. refuse-gives P (syntaxCause t) t.start)))
+      (λ f. refuse-gives P (syntax_cause t) t.start)))
     where
       made : {place v p : ℕ} → Suits kind integer → LiteralGiven s integer from v p
           → StartGiven s kind from (record { place = place; single = true; value = v }) p
-      made q (literalGiven x) = valueStart q x
+      made q (literal_given x) = value_start q x
 
   interval-gives : (kind from : ℕ) (o : Token) → NextToken s from bar o → Asked kind
       → Gives (ItemGiven s kind from) (interval s kind o.end)
@@ -296,12 +296,12 @@ module _ (s : List ℕ) where
     where
       made : {e : Ends} {p q : ℕ} {t : Token} → EndsGiven s kind o.end e p → Took s bar p t q → empty e ≡ false
           → ItemGiven s kind from (record { kind = e.kind; pair = closed e }) q
-      made {e} {p} (endsGiven j d f) (took b) z = itemGiven (subst (Suits kind) (sym f) j) (anInterval n (subst (λ k. DerivesEnds s k o.end (closed e) p) (sym f) (d z)) b)
+      made {e} {p} (ends_given j d f) (took b) z = item_given (subst (Suits kind) (sym f) j) (an_interval n (subst (λ k. DerivesEnds s k o.end (closed e) p) (sym f) (d z)) b)
 
   item-gives : (kind from p : ℕ) (x : Start) → Asked kind → StartGiven s kind from x p
       → Gives (ItemGiven s kind from) (item s kind x p)
-  item-gives kind from p x w (barStart {o = o} n) = interval-gives kind from o n w
-  item-gives kind from p x w (valueStart q l) = got-gives (ItemGiven s kind from) _ _ (itemGiven q (aValue refl l))
+  item-gives kind from p x w (bar_start {o = o} n) = interval-gives kind from o n w
+  item-gives kind from p x w (value_start q l) = got-gives (ItemGiven s kind from) _ _ (item_given q (a_value refl l))
 
   ranges-gives : (left kind n : ℕ) (seen : List Pair) (from : ℕ) → Asked kind
       → Gives (RangesGiven s left kind n seen from) (ranges s left kind n seen from)
@@ -311,127 +311,127 @@ module _ (s : List ℕ) where
   ranges-gives (suc left) kind n seen from w =
       let P = RangesGiven s (suc left) kind n seen from in
       rw (ranges-some s left kind n seen from) (then-gives P (StartGiven s kind from) (start s kind from) _ (start_gives kind from w) (λ x p y.
-      unless-gives P (eqb n recordLimit) TooManyRecords x.place _ (λ a.
+      unless-gives P (eqb n record_limit) TooManyRecords x.place _ (λ a.
       then-gives P (ItemGiven s kind from) (item s kind x p) _ (item-gives kind from p x w y) (λ i q z.
       unless-gives P (overlaps i.pair seen) Overlap x.place _ (λ b.
-      cond-gives P (eqb (tokenAt s q).sort comma) _ _
-      (λ e. then-gives P (RangesGiven s left i.kind (n + 1) (i.pair ∷ seen) (tokenAt s q).end) (ranges s left i.kind (n + 1) (i.pair ∷ seen) (tokenAt s q).end) _
-      (ranges-gives left i.kind (n + 1) (i.pair ∷ seen) (tokenAt s q).end (asked (item-kind z)))
+      cond-gives P (eqb (token_at s q).sort comma) _ _
+      (λ e. then-gives P (RangesGiven s left i.kind (n + 1) (i.pair ∷ seen) (token_at s q).end) (ranges s left i.kind (n + 1) (i.pair ∷ seen) (token_at s q).end) _
+      (ranges-gives left i.kind (n + 1) (i.pair ∷ seen) (token_at s q).end (asked (item-kind z)))
       (λ l r u. got-gives P (record { kind = l.kind; items = range n i.pair ∷ l.items }) r (more (eqb-false _ _ a) z (no-overlap i.pair seen b) (next-token (eqb-true _ _ e)) u)))
       (λ e. got-gives P (record { kind = i.kind; items = range n i.pair ∷ [] }) q (last (eqb-false _ _ a) z (no-overlap i.pair seen b))))))))
     where
       item-kind : {i : Interval} {q : ℕ} → ItemGiven s kind from i q → Kind i.kind
-      item-kind (itemGiven j d) = suits-kind j
+      item-kind (item_given j d) = suits-kind j
 
-      last : {i : Interval} {q : ℕ} → n ≢ recordLimit → ItemGiven s kind from i q
+      last : {i : Interval} {q : ℕ} → n ≢ record_limit → ItemGiven s kind from i q
           → ((y : Pair) → Memᴰ y seen → ¬ Meet i.pair y)
           → RangesGiven s (suc left) kind n seen from (record { kind = i.kind; items = range n i.pair ∷ [] }) q
-      last a (itemGiven j d) b = rangesGiven j (lastItem a d) (omega arith) (newItem b no_item)
+      last a (item_given j d) b = ranges_given j (last_item a d) (omega arith) (new_item b no_item)
 
-      more : {i : Interval} {q r : ℕ} {c : Token} {l : Ranges} → n ≢ recordLimit → ItemGiven s kind from i q
+      more : {i : Interval} {q r : ℕ} {c : Token} {l : Ranges} → n ≢ record_limit → ItemGiven s kind from i q
           → ((y : Pair) → Memᴰ y seen → ¬ Meet i.pair y) → NextToken s q comma c
           → RangesGiven s left i.kind (n + 1) (i.pair ∷ seen) c.end l r
           → RangesGiven s (suc left) kind n seen from
           (record { kind = l.kind; items = range n i.pair ∷ l.items }) r
-      more {i} {q} a (itemGiven j d) b m (rangesGiven f g h k) =
-          rangesGiven (first_kind j f) (moreItems a (subst (λ u. DerivesItem s u from i.pair q) (one-kind (suits-kind j) f) d) m g) (omega arith) (newItem b k)
+      more {i} {q} a (item_given j d) b m (ranges_given f g h k) =
+          ranges_given (first_kind j f) (more_items a (subst (λ u. DerivesItem s u from i.pair q) (one-kind (suits-kind j) f) d) m g) (omega arith) (new_item b k)
 
-  string-gives : (from : ℕ) → Gives (StringGiven s from) (startString s from)
+  string-gives : (from : ℕ) → Gives (StringGiven s from) (start_string s from)
   string-gives from =
       let P = StringGiven s from in
       rw (start-string-is s from) (then-gives P (Took s string from) (expect s string from) _ (expect-gives s string from) (λ t p x.
-      unless-gives P (ltb stringLimit (length (inner s t))) TooLong t.start _ (λ l. got-gives P t p (made x (ltb-false _ _ l)))))
+      unless-gives P (ltb string_limit (length (inner s t))) TooLong t.start _ (λ l. got-gives P t p (made x (ltb-false _ _ l)))))
     where
-      made : {t : Token} {p : ℕ} → Took s string from t p → length (inner s t) ≤ stringLimit → StringGiven s from t p
-      made (took n) l = stringGiven n l
+      made : {t : Token} {p : ℕ} → Took s string from t p → length (inner s t) ≤ string_limit → StringGiven s from t p
+      made (took n) l = string_given n l
 
   strings-gives : (left n : ℕ) (seen : List (List ℕ)) (from : ℕ)
       → Gives (StringsGiven s left n seen from) (strings s left n seen from)
-  unfolding textsIn
+  unfolding texts_in
   strings-gives zero n seen from =
       let P = StringsGiven s 0 n seen from in
-      rw (strings-none s n seen from) (then-gives P (StringGiven s from) (startString s from) _ (string-gives from) (λ t p x. refuse-gives P TooManyItems t.start))
+      rw (strings-none s n seen from) (then-gives P (StringGiven s from) (start_string s from) _ (string-gives from) (λ t p x. refuse-gives P TooManyItems t.start))
   strings-gives (suc left) n seen from =
       let P = StringsGiven s (suc left) n seen from in
-      rw (strings-some s left n seen from) (then-gives P (StringGiven s from) (startString s from) _ (string-gives from) (λ t p x.
-      unless-gives P (eqb n recordLimit) TooManyRecords t.start _ (λ a.
+      rw (strings-some s left n seen from) (then-gives P (StringGiven s from) (start_string s from) _ (string-gives from) (λ t p x.
+      unless-gives P (eqb n record_limit) TooManyRecords t.start _ (λ a.
       unless-gives P (listed (inner s t) seen) Overlap t.start _ (λ b.
-      cond-gives P (eqb (tokenAt s p).sort comma) _ _
-      (λ e. then-gives P (StringsGiven s left (n + 1) (inner s t ∷ seen) (tokenAt s p).end) (strings s left (n + 1) (inner s t ∷ seen) (tokenAt s p).end) _
-      (strings-gives left (n + 1) (inner s t ∷ seen) (tokenAt s p).end)
+      cond-gives P (eqb (token_at s p).sort comma) _ _
+      (λ e. then-gives P (StringsGiven s left (n + 1) (inner s t ∷ seen) (token_at s p).end) (strings s left (n + 1) (inner s t ∷ seen) (token_at s p).end) _
+      (strings-gives left (n + 1) (inner s t ∷ seen) (token_at s p).end)
       (λ l r u. got-gives P (record { number = n; text = inner s t } ∷ l) r (more x (eqb-false _ _ a) (listed-not _ _ b) (next-token (eqb-true _ _ e)) u)))
       (λ e. got-gives P (record { number = n; text = inner s t } ∷ []) p (last x (eqb-false _ _ a) (listed-not _ _ b)))))))
     where
-      last : {t : Token} {p : ℕ} → StringGiven s from t p → n ≢ recordLimit → ¬ Memᴰ (inner s t) seen
+      last : {t : Token} {p : ℕ} → StringGiven s from t p → n ≢ record_limit → ¬ Memᴰ (inner s t) seen
           → StringsGiven s (suc left) n seen from (record { number = n; text = inner s t } ∷ []) p
-      last (stringGiven m l) a b = stringsGiven (lastString m l a) (omega arith) (newName b noName)
+      last (string_given m l) a b = strings_given (last_string m l a) (omega arith) (new_name b no_name)
 
-      more : {t d : Token} {p r : ℕ} {l : List Text} → StringGiven s from t p → n ≢ recordLimit
+      more : {t d : Token} {p r : ℕ} {l : List Text} → StringGiven s from t p → n ≢ record_limit
           → ¬ Memᴰ (inner s t) seen → NextToken s p comma d
           → StringsGiven s left (n + 1) (inner s t ∷ seen) d.end l r
           → StringsGiven s (suc left) n seen from (record { number = n; text = inner s t } ∷ l) r
-      more (stringGiven m l) a b e (stringsGiven f g h) = stringsGiven (moreStrings m l a e f) (omega arith) (newName b h)
+      more (string_given m l) a b e (strings_given f g h) = strings_given (more_strings m l a e f) (omega arith) (new_name b h)
 
   boolean-of : (from : ℕ) (t : Token) → ((sort : ℕ) → sort ≤ 99 → t.sort ≡ sort → NextToken s from sort t)
-      → isBoolean t ≡ true → Boolean s from (booleanFlag t) t
+      → is_boolean t ≡ true → Boolean s from (boolean_flag t) t
   boolean-of from t n h =
-      by_cond (λ (b : ℕ). Boolean s from b t) (eqb t.sort trueWord) (λ e. aTrue (n trueWord (omega arith) (eqb-true _ _ e)))
-      (λ e. or_cases (eqb t.sort trueWord) (eqb t.sort falseWord) h (λ f. absurd (false-true (sym e ∙ f))) (λ f. aFalse (n falseWord (omega arith) (eqb-true _ _ f))))
+      by_cond (λ (b : ℕ). Boolean s from b t) (eqb t.sort true_word) (λ e. a_true (n true_word (omega arith) (eqb-true _ _ e)))
+      (λ e. or_cases (eqb t.sort true_word) (eqb t.sort false_word) h (λ f. absurd (false-true (sym e ∙ f))) (λ f. a_false (n false_word (omega arith) (eqb-true _ _ f))))
 
   leaf-gives : (n from : ℕ) → Gives (DerivesLeaf s n from) (leaf s n from)
   leaf-gives n from =
-      let t = contentTokenAt s from in
-      let u = tokenAt s t.end in
-      let v = tokenAt s u.end in
+      let t = content_token_at s from in
+      let u = token_at s t.end in
+      let v = token_at s u.end in
       let P = DerivesLeaf s n from in
-      rw (leaf-is s n from, boolean-is s n t, second_is s n (booleanFlag t) u.end) (cond-gives P (isBoolean t) _ _
-      (λ e. unless-gives P (eqb n recordLimit) TooManyRecords t.start _ (λ a.
+      rw (leaf-is s n from, boolean-is s n t, second_is s n (boolean_flag t) u.end) (cond-gives P (is_boolean t) _ _
+      (λ e. unless-gives P (eqb n record_limit) TooManyRecords t.start _ (λ a.
       cond-gives P (eqb u.sort comma) _ _
-      (λ f. cond-gives P (isBoolean v) _ _
-      (λ g. unless-gives P (eqb (booleanFlag v) (booleanFlag t)) Overlap v.start _ (λ b.
-      got-gives P (single booleans n 3) v.end (LeafGrammar.twoBooleans (eqb-false _ _ a) (first e) (next-token (eqb-true _ _ f)) (boolean-of u.end v (λ k l h. next-token h) g) (eqb-false _ _ b))))
-      (λ g. refuse-gives P (syntaxCause v) v.start))
-      (λ f. got-gives P (single booleans n (booleanFlag t)) t.end (LeafGrammar.oneBoolean (eqb-false _ _ a) (first e)))))
+      (λ f. cond-gives P (is_boolean v) _ _
+      (λ g. unless-gives P (eqb (boolean_flag v) (boolean_flag t)) Overlap v.start _ (λ b.
+      got-gives P (single booleans n 3) v.end (LeafGrammar.two_booleans (eqb-false _ _ a) (first e) (next-token (eqb-true _ _ f)) (boolean-of u.end v (λ k l h. next-token h) g) (eqb-false _ _ b))))
+      (λ g. refuse-gives P (syntax_cause v) v.start))
+      (λ f. got-gives P (single booleans n (boolean_flag t)) t.end (LeafGrammar.one_boolean (eqb-false _ _ a) (first e)))))
       (λ e. cond-gives P (eqb t.sort integer || eqb t.sort bar) _ _
-      (λ f. then-gives P (RangesGiven s itemLimit undecided n [] from) (ranges s itemLimit undecided n [] from) _ (ranges-gives itemLimit undecided n [] from unasked) (λ l p x. got-gives P (rangeLeaf l) p (items x)))
+      (λ f. then-gives P (RangesGiven s item_limit undecided n [] from) (ranges s item_limit undecided n [] from) _ (ranges-gives item_limit undecided n [] from unasked) (λ l p x. got-gives P (range_leaf l) p (items x)))
       (λ f. cond-gives P (eqb t.sort string) _ _
-      (λ g. then-gives P (StringsGiven s itemLimit n [] from) (strings s itemLimit n [] from) _ (strings-gives itemLimit n [] from) (λ l p x. got-gives P (Constraints.texts l) p (texts x)))
+      (λ g. then-gives P (StringsGiven s item_limit n [] from) (strings s item_limit n [] from) _ (strings-gives item_limit n [] from) (λ l p x. got-gives P (Constraints.texts l) p (texts x)))
       (λ g. cond-gives P (within 31 35 t.sort) _ _
-      (λ h. unless-gives P (eqb n recordLimit) TooManyRecords t.start _ (λ a.
+      (λ h. unless-gives P (eqb n record_limit) TooManyRecords t.start _ (λ a.
       let x : 31 ≤ t.sort = leb-true _ _ (and_left (leb 31 t.sort) (leb t.sort 35) h) in
       let y : t.sort ≤ 35 = leb-true _ _ (and_right (leb 31 t.sort) (leb t.sort 35) h) in
-      got-gives P (single datePattern n (t.sort - 30)) t.end (LeafGrammar.aDatePattern (eqb-false _ _ a) (omega arith) (omega arith) (content-token (omega arith) (omega arith)))))
+      got-gives P (single date_pattern n (t.sort - 30)) t.end (LeafGrammar.a_date_pattern (eqb-false _ _ a) (omega arith) (omega arith) (content-token (omega arith) (omega arith)))))
       (λ h. cond-gives P (within 41 44 t.sort) _ _
-      (λ i. unless-gives P (eqb n recordLimit) TooManyRecords t.start _ (λ a.
+      (λ i. unless-gives P (eqb n record_limit) TooManyRecords t.start _ (λ a.
       let x : 41 ≤ t.sort = leb-true _ _ (and_left (leb 41 t.sort) (leb t.sort 44) i) in
       let y : t.sort ≤ 44 = leb-true _ _ (and_right (leb 41 t.sort) (leb t.sort 44) i) in
-      got-gives P (single timePattern n (t.sort - 40)) t.end (LeafGrammar.aTimePattern (eqb-false _ _ a) (omega arith) (omega arith) (content-token (omega arith) (omega arith)))))
+      got-gives P (single time_pattern n (t.sort - 40)) t.end (LeafGrammar.a_time_pattern (eqb-false _ _ a) (omega arith) (omega arith) (content-token (omega arith) (omega arith)))))
       (λ i. cond-gives P (within 101 227 t.sort) _ _
-      (λ j. unless-gives P (eqb n recordLimit) TooManyRecords t.start _ (λ a.
+      (λ j. unless-gives P (eqb n record_limit) TooManyRecords t.start _ (λ a.
       let x : 101 ≤ t.sort = leb-true _ _ (and_left (leb 101 t.sort) (leb t.sort 227) j) in
-      got-gives P (single durationPattern n (t.sort - 100)) t.end (duration (eqb-false _ _ a) (pattern-stands s from (t.sort - 100) (omega arith)))))
-      (λ j. refuse-gives P (syntaxCause t) t.start)))))))
+      got-gives P (single duration_pattern n (t.sort - 100)) t.end (duration (eqb-false _ _ a) (pattern-stands s from (t.sort - 100) (omega arith)))))
+      (λ j. refuse-gives P (syntax_cause t) t.start)))))))
     where
-      first : isBoolean (contentTokenAt s from) ≡ true
-          → Boolean s from (booleanFlag (contentTokenAt s from)) (contentTokenAt s from)
-      first e = boolean-of from (contentTokenAt s from) (λ k l h. content-token h l) e
+      first : is_boolean (content_token_at s from) ≡ true
+          → Boolean s from (boolean_flag (content_token_at s from)) (content_token_at s from)
+      first e = boolean-of from (content_token_at s from) (λ k l h. content-token h l) e
 
-      duration : {start end f : ℕ} → n ≢ recordLimit → PatternHere s from start end f
-          → DerivesLeaf s n from (single durationPattern n f) end
-      duration r (patternHere m k c) = LeafGrammar.aDurationPattern r (next m refl) k
+      duration : {start end f : ℕ} → n ≢ record_limit → PatternHere s from start end f
+          → DerivesLeaf s n from (single duration_pattern n f) end
+      duration r (pattern_here m k c) = LeafGrammar.a_duration_pattern r (next m refl) k
 
-      by_kind : (k : ℕ) (l : List Range) (p : ℕ) → Kind k → DerivesItems s k n from l p → length l ≤ itemLimit
-          → Apart [] l → DerivesLeaf s n from (rangeLeaf (record { kind = k; items = l })) p
-      by_kind k l p isInteger d a b = LeafGrammar.integerItems d a b
-      by_kind k l p isDate d a b = LeafGrammar.dateItems d a b
+      by_kind : (k : ℕ) (l : List Range) (p : ℕ) → Kind k → DerivesItems s k n from l p → length l ≤ item_limit
+          → Apart [] l → DerivesLeaf s n from (range_leaf (record { kind = k; items = l })) p
+      by_kind k l p is_integer d a b = LeafGrammar.integer_items d a b
+      by_kind k l p is_date d a b = LeafGrammar.date_items d a b
 
-      items : {l : Ranges} {p : ℕ} → RangesGiven s itemLimit undecided n [] from l p
-          → DerivesLeaf s n from (rangeLeaf l) p
-      items {l} {p} (rangesGiven j d a b) = by_kind l.kind l.items p (suits-kind j) d a b
+      items : {l : Ranges} {p : ℕ} → RangesGiven s item_limit undecided n [] from l p
+          → DerivesLeaf s n from (range_leaf l) p
+      items {l} {p} (ranges_given j d a b) = by_kind l.kind l.items p (suits-kind j) d a b
 
-      texts : {l : List Text} {p : ℕ} → StringsGiven s itemLimit n [] from l p
+      texts : {l : List Text} {p : ℕ} → StringsGiven s item_limit n [] from l p
           → DerivesLeaf s n from (Constraints.texts l) p
-      texts (stringsGiven d a b) = LeafGrammar.stringItems d a b
+      texts (strings_given d a b) = LeafGrammar.string_items d a b
 
 -- the other way round: what is derived is read
 pub expect-got : {s : List ℕ} {sort from : ℕ} {t : Token} → NextToken s from sort t
@@ -443,24 +443,24 @@ literal-got : {s : List ℕ} {kind from v : ℕ} {t : Token} → DerivesLiteral 
     → Told.literal s kind from ≡ got v t.end
 literal-got {s} {kind} {from} (literal n e) = rw (literal-is s kind from, expect-got n, literal-of e)
 
-literal-sort : {s : List ℕ} {kind from v : ℕ} {t : Token} → DerivesLiteral s kind from v t → (tokenAt s from).sort ≡ kind
+literal-sort : {s : List ℕ} {kind from v : ℕ} {t : Token} → DerivesLiteral s kind from v t → (token_at s from).sort ≡ kind
 literal-sort (literal n h) = sort-read n
 
 -- the kind that a literal decides
-kind-got : {k j : ℕ} (t : Token) → Suits k j → t.sort ≡ j → kindBy k t ≡ j
-kind-got t (kept isInteger) e = refl
-kind-got t (kept isDate) e = refl
-kind-got t (newly isInteger) e = rw (other e date)
-kind-got t (newly isDate) e = rw (other e date)
+kind-got : {k j : ℕ} (t : Token) → Suits k j → t.sort ≡ j → kind_by k t ≡ j
+kind-got t (kept is_integer) e = refl
+kind-got t (kept is_date) e = refl
+kind-got t (newly is_integer) e = rw (other e date)
+kind-got t (newly is_date) e = rw (other e date)
 
 with-got : (s : List ℕ) (kind k at a : ℕ) (t : Token) (go : ℕ → ℕ → ℕ → Reading Ends) → Suits kind k
-    → DerivesLiteral s k at a t → withLiteral s kind at go ≡ go k a t.end
-with-got s kind k at a t go q x = rw (kind-got (tokenAt s at) q (literal-sort x), literal-got x)
+    → DerivesLiteral s k at a t → with_literal s kind at go ≡ go k a t.end
+with-got s kind k at a t go q x = rw (kind-got (token_at s at) q (literal-sort x), literal-got x)
 
 -- a literal's token is no mark
 mark-not : {k : ℕ} → Kind k → (a m : ℕ) → a ≡ k → eqb integer m ≡ false → eqb date m ≡ false → eqb a m ≡ false
-mark-not isInteger a m e f g = other e m ∙ f
-mark-not isDate a m e f g = other e m ∙ g
+mark-not is_integer a m e f g = other e m ∙ f
+mark-not is_date a m e f g = other e m ∙ g
 
 closed-got : {s : List ℕ} {kind from b : ℕ} {u : Token} (low : ℕ) → Kind kind → DerivesLiteral s kind from b u
     → Told.up_to s kind low from ≡ got (ends kind low b false) u.end
@@ -473,23 +473,23 @@ open-got {s} {kind} {from} low (next n e) x = rw (up_is s kind low from, token-r
 
 -- what stands first between the bars
 between-greater : {s : List ℕ} {at : ℕ} {g : Token} (kind : ℕ) → NextToken s at greater g
-    → between s kind at ≡ withLiteral s kind g.end (Told.above s)
+    → between s kind at ≡ with_literal s kind g.end (Told.above s)
 between-greater {s} {at} kind (next n e) = rw (between_is s kind at, token-read n, other e greater)
 
 between-less : {s : List ℕ} {at : ℕ} {g : Token} (kind : ℕ) → NextToken s at less g
-    → between s kind at ≡ withLiteral s kind g.end (λ k a p. got (ends k (least k) a true) p)
+    → between s kind at ≡ with_literal s kind g.end (λ k a p. got (ends k (least k) a true) p)
 between-less {s} {at} kind (next n e) = rw (between_is s kind at, token-read n, other e greater, other e less)
 
 between-most : {s : List ℕ} {at : ℕ} {g : Token} (kind : ℕ) → NextToken s at at_most g
-    → between s kind at ≡ withLiteral s kind g.end (λ k a p. got (ends k (least k) a false) p)
+    → between s kind at ≡ with_literal s kind g.end (λ k a p. got (ends k (least k) a false) p)
 between-most {s} {at} kind (next n e) = rw (between_is s kind at, token-read n, other e greater, other e less, other e at_most)
 
 between-least : {s : List ℕ} {at : ℕ} {g : Token} (kind : ℕ) → NextToken s at at_least g
-    → between s kind at ≡ withLiteral s kind g.end (λ k a p. got (ends k a (most k) false) p)
+    → between s kind at ≡ with_literal s kind g.end (λ k a p. got (ends k a (most k) false) p)
 between-least {s} {at} kind (next n e) = rw (between_is s kind at, token-read n, other e greater, other e less, other e at_most, other e at_least)
 
 between-literal : {s : List ℕ} {k at a : ℕ} {t : Token} (kind : ℕ) → Kind k → DerivesLiteral s k at a t
-    → between s kind at ≡ withLiteral s kind at (Told.from s)
+    → between s kind at ≡ with_literal s kind at (Told.from s)
 between-literal {s} {k} {at} kind q x =
     let e = literal-sort x in
     rw (between_is s kind at, mark-not q _ greater e refl refl, mark-not q _ less e refl refl, mark-not q _ at_most e refl refl, mark-not q _ at_least e refl refl)
@@ -509,12 +509,12 @@ from-dots {s} {at} k a (next n e) = rw (from_is s k a at, token-read n, other e 
 
 from-bar : {s : List ℕ} {at : ℕ} {d : Token} (k a : ℕ) → NextToken s at bar d
     → Told.from s k a at ≡ got (ends k a a false) at
-from-bar {s} {at} k a (next n e) = rw (from_is s k a at, token-read n, other e dots, other e plusMinus)
+from-bar {s} {at} k a (next n e) = rw (from_is s k a at, token-read n, other e dots, other e plus_minus)
 
-from-spread : {s : List ℕ} {at v : ℕ} {m u : Token} (k a : ℕ) → k ≡ integer → NextToken s at plusMinus m
+from-spread : {s : List ℕ} {at v : ℕ} {m u : Token} (k a : ℕ) → k ≡ integer → NextToken s at plus_minus m
     → DerivesLiteral s integer m.end v u → inside a v ≡ true
     → Told.from s k a at ≡ got (ends integer (around a v).low (around a v).high false) u.end
-from-spread {s} {at} {m = m} k a i (next n e) x h = rw (from_is s k a at, token-read n, other e dots, other e plusMinus, other i date, spread-is s a m.end, literal-got x, h)
+from-spread {s} {at} {m = m} k a i (next n e) x h = rw (from_is s k a at, token-read n, other e dots, other e plus_minus, other i date, spread-is s a m.end, literal-got x, h)
 
 -- what stands between the bars as it is read
 record EndsGot (s : List ℕ) (kind k at : ℕ) (x : Pair) (p : ℕ) : Type 0 where
@@ -545,12 +545,12 @@ module _ (s : List ℕ) (kind k : ℕ) (q : Suits kind k) where
 
   ends-got : (at p : ℕ) (z : Token) (x : Pair) → DerivesEnds s k at x p → NextToken s p bar z → EndsGot s kind k at x p
   ends-got at p z e (LeafGrammar.point {a = a} {t = t} x) b = shut-got (literal-first at a t x ∙ from-bar k a b) (omega arith)
-  ends-got at p z e (LeafGrammar.closedEnds {a = a} {t = t} x d y h) b = shut-got (literal-first at a t x ∙ (from-dots k a d ∙ closed-got a (suits-kind q) y)) h
-  ends-got at p z e (LeafGrammar.openHigh {a = a} {t = t} x d l y i h) b = below-got (suits-kind q) (literal-first at a t x ∙ (from-dots k a d ∙ open-got a l y)) i h
-  ends-got at p z e (LeafGrammar.openLow {a = a} {g = g} {t = t} n x d y i h) b =
+  ends-got at p z e (LeafGrammar.closed_ends {a = a} {t = t} x d y h) b = shut-got (literal-first at a t x ∙ (from-dots k a d ∙ closed-got a (suits-kind q) y)) h
+  ends-got at p z e (LeafGrammar.open_high {a = a} {t = t} x d l y i h) b = below-got (suits-kind q) (literal-first at a t x ∙ (from-dots k a d ∙ open-got a l y)) i h
+  ends-got at p z e (LeafGrammar.open_low {a = a} {g = g} {t = t} n x d y i h) b =
       let c = (stepped (suits-kind q) i).next in
       shut-got (rw c at (greater-got at a g t n x ∙ (above-dots k a d ∙ closed-got (after k a) (suits-kind q) y))) h
-  ends-got at p z e (LeafGrammar.openBoth {a = a} {g = g} {t = t} n x d l y i j h) b =
+  ends-got at p z e (LeafGrammar.open_both {a = a} {g = g} {t = t} n x d l y i j h) b =
       let c = (stepped (suits-kind q) i).next in
       below-got (suits-kind q) (rw c at (greater-got at a g t n x ∙ (above-dots k a d ∙ open-got (after k a) l y))) j h
   ends-got at p z e (LeafGrammar.spread {a = a} {low = low} m {t = t} i x n y g h) b =
@@ -573,12 +573,12 @@ record ItemGot (s : List ℕ) (kind k from : ℕ) (x : Pair) (p : ℕ) : Type 0 
   ends : item s kind opening middle ≡ got (record { kind = k; pair = x }) p
 
 value-kind : {kind k : ℕ} → Suits kind k → k ≡ integer → eqb kind date ≡ false
-value-kind (kept isInteger) e = refl
-value-kind (kept isDate) e = absurd (omega arith)
+value-kind (kept is_integer) e = refl
+value-kind (kept is_date) e = absurd (omega arith)
 value-kind (newly x) e = refl
 
 value-start : (s : List ℕ) (kind from v : ℕ) (t : Token) → eqb kind date ≡ false → DerivesLiteral s integer from v t
-    → start s kind from ≡ got (record { place = (tokenAt s from).start; single = true; value = v }) t.end
+    → start s kind from ≡ got (record { place = (token_at s from).start; single = true; value = v }) t.end
 value-start s kind from v t d x = let e = literal-sort x in rw (start_is s kind from, other e bar, other e integer, d, literal-got x)
 
 bar-start : (s : List ℕ) (kind from : ℕ) (o : Token) → NextToken s from bar o
@@ -593,180 +593,180 @@ interval-got s kind k at p z x q d b =
 
 item-got : (s : List ℕ) (kind k from : ℕ) (x : Pair) (p : ℕ) → Suits kind k → DerivesItem s k from x p
     → ItemGot s kind k from x p
-item-got s kind k from x p q (aValue {v = v} {t = t} i l) =
-    record { opening = record { place = (tokenAt s from).start; single = true; value = v }; middle = t.end; begins = value-start s kind from v t (value-kind q i) l; ends = rw i }
-item-got s kind k from x p q (anInterval {p = r} {o = o} {z = z} n d b) =
+item-got s kind k from x p q (a_value {v = v} {t = t} i l) =
+    record { opening = record { place = (token_at s from).start; single = true; value = v }; middle = t.end; begins = value-start s kind from v t (value-kind q i) l; ends = rw i }
+item-got s kind k from x p q (an_interval {p = r} {o = o} {z = z} n d b) =
     record { opening = record { place = o.start; single = false; value = 0 }; middle = o.end; begins = bar-start s kind from o n; ends = interval-got s kind k o.end r z x q d b }
 
 last-got : (s : List ℕ) (left kind k n : ℕ) (seen : List Pair) (from p m : ℕ) (x : Pair) (o : Start) (z : Token)
     → start s kind from ≡ got o m
     → item s kind o m ≡ got (record { kind = k; pair = x }) p
-    → n ≢ recordLimit
+    → n ≢ record_limit
     → overlaps x seen ≡ false
-    → NextToken s p closeBrace z
+    → NextToken s p close_brace z
     → ranges s (suc left) kind n seen from ≡ got (record { kind = k; items = range n x ∷ [] }) p
-last-got s left kind k n seen from p m x o z a b c d w = rw (ranges-some s left kind n seen from, a, ne_eqb n recordLimit c, b, d, other (sort-read w) comma)
+last-got s left kind k n seen from p m x o z a b c d w = rw (ranges-some s left kind n seen from, a, ne_eqb n record_limit c, b, d, other (sort-read w) comma)
 
 more-got : (s : List ℕ) (left kind k n : ℕ) (seen : List Pair) (from p m r : ℕ) (x : Pair) (o : Start) (c : Token)
     (l : List Range)
     → start s kind from ≡ got o m
     → item s kind o m ≡ got (record { kind = k; pair = x }) p
-    → n ≢ recordLimit
+    → n ≢ record_limit
     → overlaps x seen ≡ false
     → NextToken s p comma c
     → ranges s left k (n + 1) (x ∷ seen) c.end ≡ got (record { kind = k; items = l }) r
     → ranges s (suc left) kind n seen from ≡ got (record { kind = k; items = range n x ∷ l }) r
-more-got s left kind k n seen from p m r x o c l a b d f (next i e) h = rw (ranges-some s left kind n seen from, a, ne_eqb n recordLimit d, b, f, token-read i, other e comma, h)
+more-got s left kind k n seen from p m r x o c l a b d f (next i e) h = rw (ranges-some s left kind n seen from, a, ne_eqb n record_limit d, b, f, token-read i, other e comma, h)
 
 apart-head : {seen : List Pair} {r : Range} {l : List Range} → Apart seen (r ∷ l) → (y : Pair) → Memᴰ y seen
     → ¬ Meet (pair r.low r.high) y
-apart-head (newItem h a) = h
+apart-head (new_item h a) = h
 
 apart-tail : {seen : List Pair} {r : Range} {l : List Range} → Apart seen (r ∷ l)
     → Apart (pair r.low r.high ∷ seen) l
-apart-tail (newItem h a) = a
+apart-tail (new_item h a) = a
 
 ranges-got : {s : List ℕ} {k n from p : ℕ} {l : List Range} → DerivesItems s k n from l p
     → (left kind : ℕ) (seen : List Pair) (z : Token)
     → Suits kind k
     → length l ≤ left
     → Apart seen l
-    → NextToken s p closeBrace z
+    → NextToken s p close_brace z
     → ranges s left kind n seen from ≡ got (record { kind = k; items = l }) p
-ranges-got (lastItem c d) zero kind seen z q a b w = absurd (omega arith)
-ranges-got {s} {k} {n} {from} {p} (lastItem {x = x} c d) (suc left) kind seen z q a b w =
+ranges-got (last_item c d) zero kind seen z q a b w = absurd (omega arith)
+ranges-got {s} {k} {n} {from} {p} (last_item {x = x} c d) (suc left) kind seen z q a b w =
     let i = item-got s kind k from x p q d in
     last-got s left kind k n seen from p i.middle x i.opening z i.begins i.ends c (apart-overlap x seen (apart-head b)) w
-ranges-got (moreItems c d m ds) zero kind seen z q a b w = absurd (omega arith)
-ranges-got {s} {k} {n} {from} {p} (moreItems {p = r} {x = x} {c = t} {l = l} c d m ds) (suc left) kind seen z q a b w =
+ranges-got (more_items c d m ds) zero kind seen z q a b w = absurd (omega arith)
+ranges-got {s} {k} {n} {from} {p} (more_items {p = r} {x = x} {c = t} {l = l} c d m ds) (suc left) kind seen z q a b w =
     let i = item-got s kind k from x r q d in
     more-got s left kind k n seen from r i.middle p x i.opening t l i.begins i.ends c (apart-overlap x seen (apart-head b)) m
     (ranges-got ds left k (x ∷ seen) z (kept (suits-kind q)) (omega arith) (apart-tail b) w)
 
-string-got : {s : List ℕ} {from : ℕ} (t : Token) → NextToken s from string t → length (inner s t) ≤ stringLimit
-    → startString s from ≡ got t t.end
-string-got {s} {from} t n l = rw (start-string-is s from, expect-got n, le-ltb stringLimit (length (inner s t)) l)
+string-got : {s : List ℕ} {from : ℕ} (t : Token) → NextToken s from string t → length (inner s t) ≤ string_limit
+    → start_string s from ≡ got t t.end
+string-got {s} {from} t n l = rw (start-string-is s from, expect-got n, le-ltb string_limit (length (inner s t)) l)
 
 last-string : (s : List ℕ) (left n : ℕ) (seen : List (List ℕ)) (from : ℕ) (t z : Token)
-    → startString s from ≡ got t t.end
-    → n ≢ recordLimit
+    → start_string s from ≡ got t t.end
+    → n ≢ record_limit
     → ¬ Memᴰ (inner s t) seen
-    → NextToken s t.end closeBrace z
+    → NextToken s t.end close_brace z
     → strings s (suc left) n seen from ≡ got (record { number = n; text = inner s t } ∷ []) t.end
-last-string s left n seen from t z a b c w = rw (strings-some s left n seen from, a, ne_eqb n recordLimit b, not_listed (inner s t) seen c, other (sort-read w) comma)
+last-string s left n seen from t z a b c w = rw (strings-some s left n seen from, a, ne_eqb n record_limit b, not_listed (inner s t) seen c, other (sort-read w) comma)
 
 more-strings : (s : List ℕ) (left n : ℕ) (seen : List (List ℕ)) (from p : ℕ) (t m : Token) (l : List Text)
-    → startString s from ≡ got t t.end
-    → n ≢ recordLimit
+    → start_string s from ≡ got t t.end
+    → n ≢ record_limit
     → ¬ Memᴰ (inner s t) seen
     → NextToken s t.end comma m
     → strings s left (n + 1) (inner s t ∷ seen) m.end ≡ got l p
     → strings s (suc left) n seen from ≡ got (record { number = n; text = inner s t } ∷ l) p
-more-strings s left n seen from p t m l a b c (next i e) h = rw (strings-some s left n seen from, a, ne_eqb n recordLimit b, not_listed (inner s t) seen c, token-read i, other e comma, h)
+more-strings s left n seen from p t m l a b c (next i e) h = rw (strings-some s left n seen from, a, ne_eqb n record_limit b, not_listed (inner s t) seen c, token-read i, other e comma, h)
 
 strings-got : {s : List ℕ} {n from p : ℕ} {l : List Text} → DerivesStrings s n from l p
     → (left : ℕ) (seen : List (List ℕ)) (z : Token)
     → length l ≤ left
-    → Distinct seen (textsIn l)
-    → NextToken s p closeBrace z
+    → Distinct seen (texts_in l)
+    → NextToken s p close_brace z
     → strings s left n seen from ≡ got l p
-unfolding textsIn
-strings-got (lastString m c d) zero seen z a b w = absurd (omega arith)
-strings-got {s} {n} {from} (lastString {t = t} m c d) (suc left) seen z a b w = last-string s left n seen from t z (string-got t m c) d (head-new b) w
-strings-got (moreStrings m c d f ds) zero seen z a b w = absurd (omega arith)
-strings-got {s} {n} {from} {p} (moreStrings {t = t} {c = u} {l = l} m c d f ds) (suc left) seen z a b w =
+unfolding texts_in
+strings-got (last_string m c d) zero seen z a b w = absurd (omega arith)
+strings-got {s} {n} {from} (last_string {t = t} m c d) (suc left) seen z a b w = last-string s left n seen from t z (string-got t m c) d (head-new b) w
+strings-got (more_strings m c d f ds) zero seen z a b w = absurd (omega arith)
+strings-got {s} {n} {from} {p} (more_strings {t = t} {c = u} {l = l} m c d f ds) (suc left) seen z a b w =
     more-strings s left n seen from p t u l (string-got t m c) d (head-new b) f (strings-got ds left (inner s t ∷ seen) z (omega arith) (tail-new b) w)
 
 -- the token with which a leaf of each sort starts
 item-starts : {s : List ℕ} {k from p : ℕ} {x : Pair} → DerivesItem s k from x p
-    → (eqb (tokenAt s from).sort integer || eqb (tokenAt s from).sort bar) ≡ true
-item-starts (aValue i x) = let e = literal-sort x in rw (other e integer)
-item-starts (anInterval n d b) = let e = sort-read n in rw (other e integer, other e bar)
+    → (eqb (token_at s from).sort integer || eqb (token_at s from).sort bar) ≡ true
+item-starts (a_value i x) = let e = literal-sort x in rw (other e integer)
+item-starts (an_interval n d b) = let e = sort-read n in rw (other e integer, other e bar)
 
 items-start : {s : List ℕ} {k n from p : ℕ} {l : List Range} → DerivesItems s k n from l p
-    → (eqb (tokenAt s from).sort integer || eqb (tokenAt s from).sort bar) ≡ true
-items-start (lastItem c d) = item-starts d
-items-start (moreItems c d m ds) = item-starts d
+    → (eqb (token_at s from).sort integer || eqb (token_at s from).sort bar) ≡ true
+items-start (last_item c d) = item-starts d
+items-start (more_items c d m ds) = item-starts d
 
-items-other : (a : ℕ) → (eqb a integer || eqb a bar) ≡ true → (eqb a trueWord || eqb a falseWord) ≡ false
+items-other : (a : ℕ) → (eqb a integer || eqb a bar) ≡ true → (eqb a true_word || eqb a false_word) ≡ false
 items-other a h =
     or_cases (eqb a integer) (eqb a bar) h
-    (λ e. let f = eqb-true a integer e in rw (other f trueWord, other f falseWord))
-    (λ e. let f = eqb-true a bar e in rw (other f trueWord, other f falseWord))
+    (λ e. let f = eqb-true a integer e in rw (other f true_word, other f false_word))
+    (λ e. let f = eqb-true a bar e in rw (other f true_word, other f false_word))
 
-items-no-type : (a : ℕ) → (eqb a integer || eqb a bar) ≡ true → a ≢ typeName
+items-no-type : (a : ℕ) → (eqb a integer || eqb a bar) ≡ true → a ≢ type_name
 items-no-type a h z =
     or_cases (eqb a integer) (eqb a bar) h
     (λ e. let f = eqb-true a integer e in omega arith)
     (λ e. let f = eqb-true a bar e in omega arith)
 
 strings-start : {s : List ℕ} {n from p : ℕ} {l : List Text} → DerivesStrings s n from l p
-    → (tokenAt s from).sort ≡ string
-strings-start (lastString n c d) = sort-read n
-strings-start (moreStrings n c d g ds) = sort-read n
+    → (token_at s from).sort ≡ string
+strings-start (last_string n c d) = sort-read n
+strings-start (more_strings n c d g ds) = sort-read n
 
 items-leaf : (s : List ℕ) (n from k : ℕ) (l : List Range) (p : ℕ) (z : Token) → Kind k → DerivesItems s k n from l p
-    → length l ≤ itemLimit → Apart [] l → NextToken s p closeBrace z
-    → leaf s n from ≡ got (rangeLeaf (record { kind = k; items = l })) p
+    → length l ≤ item_limit → Apart [] l → NextToken s p close_brace z
+    → leaf s n from ≡ got (range_leaf (record { kind = k; items = l })) p
 items-leaf s n from k l p z q d a b w =
     let e = items-start d in
-    let c = content-same s from (λ k. absurd (items-no-type (tokenAt s from).sort e k)) in
-    rw (leaf-is s n from, c, items-other (tokenAt s from).sort e, e, ranges-got d itemLimit undecided [] z (newly q) a b w)
+    let c = content-same s from (λ k. absurd (items-no-type (token_at s from).sort e k)) in
+    rw (leaf-is s n from, c, items-other (token_at s from).sort e, e, ranges-got d item_limit undecided [] z (newly q) a b w)
 
 strings-leaf : (s : List ℕ) (n from : ℕ) (l : List Text) (p : ℕ) (z : Token) → DerivesStrings s n from l p
-    → length l ≤ itemLimit → Distinct [] (textsIn l) → NextToken s p closeBrace z
+    → length l ≤ item_limit → Distinct [] (texts_in l) → NextToken s p close_brace z
     → leaf s n from ≡ got (Constraints.texts l) p
 strings-leaf s n from l p z d a b w =
     let e = strings-start d in
     let c = content-same s from (λ k. absurd (omega arith)) in
-    rw (leaf-is s n from, c, other e trueWord, other e falseWord, other e integer, other e bar, other e string, strings-got d itemLimit [] z a b w)
+    rw (leaf-is s n from, c, other e true_word, other e false_word, other e integer, other e bar, other e string, strings-got d item_limit [] z a b w)
 
-one-boolean : (s : List ℕ) (n from b : ℕ) (t z : Token) → n ≢ recordLimit → Boolean s from b t
-    → NextToken s t.end closeBrace z → leaf s n from ≡ got (single booleans n b) t.end
-one-boolean s n from b t z a (aTrue (next i e)) w = rw (leaf-is s n from, content-read (next i e) (λ k. omega arith), boolean-is s n t, other e trueWord, ne_eqb n recordLimit a, other (sort-read w) comma)
-one-boolean s n from b t z a (aFalse (next i e)) w = rw (leaf-is s n from, content-read (next i e) (λ k. omega arith), boolean-is s n t, other e trueWord, other e falseWord, ne_eqb n recordLimit a, other (sort-read w) comma)
+one-boolean : (s : List ℕ) (n from b : ℕ) (t z : Token) → n ≢ record_limit → Boolean s from b t
+    → NextToken s t.end close_brace z → leaf s n from ≡ got (single booleans n b) t.end
+one-boolean s n from b t z a (a_true (next i e)) w = rw (leaf-is s n from, content-read (next i e) (λ k. omega arith), boolean-is s n t, other e true_word, ne_eqb n record_limit a, other (sort-read w) comma)
+one-boolean s n from b t z a (a_false (next i e)) w = rw (leaf-is s n from, content-read (next i e) (λ k. omega arith), boolean-is s n t, other e true_word, other e false_word, ne_eqb n record_limit a, other (sort-read w) comma)
 
-two-booleans : (s : List ℕ) (n from a b : ℕ) (t c u : Token) → n ≢ recordLimit → Boolean s from a t
+two-booleans : (s : List ℕ) (n from a b : ℕ) (t c u : Token) → n ≢ record_limit → Boolean s from a t
     → NextToken s t.end comma c → Boolean s c.end b u → b ≢ a
     → leaf s n from ≡ got (single booleans n 3) u.end
-two-booleans s n from a b t c u d (aTrue x) m (aTrue y) h = absurd (h refl)
-two-booleans s n from a b t c u d (aTrue (next i e)) (next j f) (aFalse (next k g)) h =
-    rw (leaf-is s n from, content-read (next i e) (λ k. omega arith), boolean-is s n t, other e trueWord, ne_eqb n recordLimit d, token-read j, other f comma, second_is s n 1 c.end, token-read k, other g trueWord, other g falseWord)
-two-booleans s n from a b t c u d (aFalse (next i e)) (next j f) (aTrue (next k g)) h =
-    rw (leaf-is s n from, content-read (next i e) (λ k. omega arith), boolean-is s n t, other e trueWord, other e falseWord, ne_eqb n recordLimit d, token-read j, other f comma, second_is s n 2 c.end, token-read k, other g trueWord)
-two-booleans s n from a b t c u d (aFalse x) m (aFalse y) h = absurd (h refl)
+two-booleans s n from a b t c u d (a_true x) m (a_true y) h = absurd (h refl)
+two-booleans s n from a b t c u d (a_true (next i e)) (next j f) (a_false (next k g)) h =
+    rw (leaf-is s n from, content-read (next i e) (λ k. omega arith), boolean-is s n t, other e true_word, ne_eqb n record_limit d, token-read j, other f comma, second_is s n 1 c.end, token-read k, other g true_word, other g false_word)
+two-booleans s n from a b t c u d (a_false (next i e)) (next j f) (a_true (next k g)) h =
+    rw (leaf-is s n from, content-read (next i e) (λ k. omega arith), boolean-is s n t, other e true_word, other e false_word, ne_eqb n record_limit d, token-read j, other f comma, second_is s n 2 c.end, token-read k, other g true_word)
+two-booleans s n from a b t c u d (a_false x) m (a_false y) h = absurd (h refl)
 
 -- a pattern's token is of no other sort
-module _ (s : List ℕ) (n from : ℕ) (r : n ≢ recordLimit) where
+module _ (s : List ℕ) (n from : ℕ) (r : n ≢ record_limit) where
   date-leaf : (f : ℕ) (t : Token) → 1 ≤ f → f ≤ 5 → NextToken s from (30 + f) t
-      → leaf s n from ≡ got (single datePattern n f) t.end
+      → leaf s n from ≡ got (single date_pattern n f) t.end
   date-leaf f t a b (next i e) =
       let k = t.sort in
       let v : t.sort - 30 ≡ f = omega arith in
       rw (
         leaf-is s n from,
         content-read (next i e) (λ z. omega arith),
-        ne_eqb k trueWord (λ z. omega arith),
-        ne_eqb k falseWord (λ z. omega arith),
+        ne_eqb k true_word (λ z. omega arith),
+        ne_eqb k false_word (λ z. omega arith),
         ne_eqb k integer (λ z. omega arith),
         ne_eqb k bar (λ z. omega arith),
         ne_eqb k string (λ z. omega arith),
         le-leb 31 k (omega arith),
         le-leb k 35 (omega arith),
-        ne_eqb n recordLimit r,
+        ne_eqb n record_limit r,
         v,
       )
 
   time-leaf : (f : ℕ) (t : Token) → 1 ≤ f → f ≤ 4 → NextToken s from (40 + f) t
-      → leaf s n from ≡ got (single timePattern n f) t.end
+      → leaf s n from ≡ got (single time_pattern n f) t.end
   time-leaf f t a b (next i e) =
       let k = t.sort in
       let v : t.sort - 40 ≡ f = omega arith in
       rw (
         leaf-is s n from,
         content-read (next i e) (λ z. omega arith),
-        ne_eqb k trueWord (λ z. omega arith),
-        ne_eqb k falseWord (λ z. omega arith),
+        ne_eqb k true_word (λ z. omega arith),
+        ne_eqb k false_word (λ z. omega arith),
         ne_eqb k integer (λ z. omega arith),
         ne_eqb k bar (λ z. omega arith),
         ne_eqb k string (λ z. omega arith),
@@ -774,12 +774,12 @@ module _ (s : List ℕ) (n from : ℕ) (r : n ≢ recordLimit) where
         lt-leb k 35 (omega arith),
         le-leb 41 k (omega arith),
         le-leb k 44 (omega arith),
-        ne_eqb n recordLimit r,
+        ne_eqb n record_limit r,
         v,
       )
 
-  duration-leaf : (f : ℕ) (t z : Token) → NextToken s from typeName t → SpellsPattern (spelling s t) f
-      → NextToken s t.end closeBrace z → leaf s n from ≡ got (single durationPattern n f) t.end
+  duration-leaf : (f : ℕ) (t z : Token) → NextToken s from type_name t → SpellsPattern (spelling s t) f
+      → NextToken s t.end close_brace z → leaf s n from ≡ got (single duration_pattern n f) t.end
   duration-leaf f t z m k w =
       let a = flag-least k in
       let b = flag-most k in
@@ -787,8 +787,8 @@ module _ (s : List ℕ) (n from : ℕ) (r : n ≢ recordLimit) where
       rw (
         leaf-is s n from,
         pattern-read m k w,
-        ne_eqb (100 + f) trueWord (λ z. omega arith),
-        ne_eqb (100 + f) falseWord (λ z. omega arith),
+        ne_eqb (100 + f) true_word (λ z. omega arith),
+        ne_eqb (100 + f) false_word (λ z. omega arith),
         ne_eqb (100 + f) integer (λ z. omega arith),
         ne_eqb (100 + f) bar (λ z. omega arith),
         ne_eqb (100 + f) string (λ z. omega arith),
@@ -798,21 +798,21 @@ module _ (s : List ℕ) (n from : ℕ) (r : n ≢ recordLimit) where
         lt-leb (100 + f) 44 (omega arith),
         le-leb 101 (100 + f) (omega arith),
         le-leb (100 + f) 227 (omega arith),
-        ne_eqb n recordLimit r,
+        ne_eqb n record_limit r,
         v,
       )
 
 -- a leaf that is derived before a `}` is read
 pub leaf-got : (s : List ℕ) (n from : ℕ) (l : Leaf) (p : ℕ) (z : Token) → DerivesLeaf s n from l p
-    → NextToken s p closeBrace z → leaf s n from ≡ got l p
-leaf-got s n from l p z (LeafGrammar.oneBoolean {b = b} {t = t} a x) w = one-boolean s n from b t z a x w
-leaf-got s n from l p z (LeafGrammar.twoBooleans {a = a} {b = b} {t = t} {c = c} {u = u} d x m y h) w = two-booleans s n from a b t c u d x m y h
-leaf-got s n from l p z (LeafGrammar.integerItems {l = x} d a b) w = items-leaf s n from integer x p z isInteger d a b w
-leaf-got s n from l p z (LeafGrammar.dateItems {l = x} d a b) w = items-leaf s n from date x p z isDate d a b w
-leaf-got s n from l p z (LeafGrammar.stringItems {l = x} d a b) w = strings-leaf s n from x p z d a b w
-leaf-got s n from l p z (LeafGrammar.aDatePattern {f = f} {t = t} r a b m) w = date-leaf s n from r f t a b m
-leaf-got s n from l p z (LeafGrammar.aTimePattern {f = f} {t = t} r a b m) w = time-leaf s n from r f t a b m
-leaf-got s n from l p z (LeafGrammar.aDurationPattern {f = f} {t = t} r m k) w = duration-leaf s n from r f t z m k w
+    → NextToken s p close_brace z → leaf s n from ≡ got l p
+leaf-got s n from l p z (LeafGrammar.one_boolean {b = b} {t = t} a x) w = one-boolean s n from b t z a x w
+leaf-got s n from l p z (LeafGrammar.two_booleans {a = a} {b = b} {t = t} {c = c} {u = u} d x m y h) w = two-booleans s n from a b t c u d x m y h
+leaf-got s n from l p z (LeafGrammar.integer_items {l = x} d a b) w = items-leaf s n from integer x p z is_integer d a b w
+leaf-got s n from l p z (LeafGrammar.date_items {l = x} d a b) w = items-leaf s n from date x p z is_date d a b w
+leaf-got s n from l p z (LeafGrammar.string_items {l = x} d a b) w = strings-leaf s n from x p z d a b w
+leaf-got s n from l p z (LeafGrammar.a_date_pattern {f = f} {t = t} r a b m) w = date-leaf s n from r f t a b m
+leaf-got s n from l p z (LeafGrammar.a_time_pattern {f = f} {t = t} r a b m) w = time-leaf s n from r f t a b m
+leaf-got s n from l p z (LeafGrammar.a_duration_pattern {f = f} {t = t} r m k) w = duration-leaf s n from r f t z m k w
 
 -- a leaf that is read is derived
 pub leaf-derives : (s : List ℕ) (n from : ℕ) (l : Leaf) (p : ℕ) → leaf s n from ≡ got l p → DerivesLeaf s n from l p

@@ -15,9 +15,9 @@ use Rattle.meaning.specs.Data.{Datum, datum, Members, Content}
 use Rattle.meaning.specs.Data
 use Rattle.meaning.specs.Verdicts.{Verdict, valid, fails}
 use Rattle.meaning.specs.Findings.{Finding, unsuited, refuted, admitted}
-use Rattle.meaning.specs.Admission.{stringUnder, wordUnder, leafNumber}
-use Rattle.meaning.specs.Judging.{thenJudge, place_of, memberOf, typeSuits, verdictOf, judgeLeaf, judgeMember, judgeContent, objectNumber, judge, judgeAttributes, judgeValue}
-use Rattle.rules_grammar.specs.Admits.{TypeSuits, AttributeOf, first, further, MemberOf, Missing, Readable, LeafAdmits, Admits, admits, Satisfy, without, holding, ValueAdmits, anything, block_of, leafOf}
+use Rattle.meaning.specs.Admission.{string_under, word_under, leaf_number}
+use Rattle.meaning.specs.Judging.{then_judge, place_of, member_of, type_suits, verdict_of, judge_leaf, judge_member, judge_content, object_number, judge, judge_attributes, judge_value}
+use Rattle.rules_grammar.specs.Admits.{TypeSuits, AttributeOf, first, further, MemberOf, Missing, Readable, LeafAdmits, Admits, admits, Satisfy, without, holding, ValueAdmits, anything, block_of, leaf_of}
 use Rattle.rules_grammar.specs.Admits
 use Rattle.rules_grammar.specs.FirstFailure.{LeafFails, FirstFailure, AttributesFail, AttributeFails, ValueFails}
 use Rattle.rules_grammar.specs.FirstFailure
@@ -25,8 +25,8 @@ use Rattle.lexis.proofs.TestLaws.{none-some, same-eq, same_self, same-ne, ne_sam
 use Rattle.rules_grammar.proofs.Leaves.{Stands, word_stands, string-stands}
 
 -- the member of a name is the one that is looked up
-looked-up : (w : List ℕ) (ms : Members) (c : Content) → memberOf w ms ≡ some c → MemberOf w c ms
-unfolding memberOf
+looked-up : (w : List ℕ) (ms : Members) (c : Content) → member_of w ms ≡ some c → MemberOf w c ms
+unfolding member_of
 looked-up w Data.no_more c e = absurd (none-some e)
 looked-up w (Data.member u x more) c e =
     by_cond (λ (o : Option Content). o ≡ some c → MemberOf w c (Data.member u x more)) (same w u)
@@ -34,18 +34,18 @@ looked-up w (Data.member u x more) c e =
     (λ h g. Admits.behind (same-ne w u h) (looked-up w more c g))
     e
 
-found : {w : List ℕ} {ms : Members} {c : Content} → MemberOf w c ms → memberOf w ms ≡ some c
-unfolding memberOf
+found : {w : List ℕ} {ms : Members} {c : Content} → MemberOf w c ms → member_of w ms ≡ some c
+unfolding member_of
 found {w = w} Admits.here = rw (same_self w)
 found {w = w} (Admits.behind {u = u} h m) = rw (ne_same w u h) (found m)
 
-not_found : (w : List ℕ) (ms : Members) → memberOf w ms ≡ none → Missing w ms
+not_found : (w : List ℕ) (ms : Members) → member_of w ms ≡ none → Missing w ms
 not_found w ms e c m = none-some (sym e ∙ found m)
 
-missed : (w : List ℕ) (ms : Members) → Missing w ms → memberOf w ms ≡ none
-missed w ms h = go (memberOf w ms) refl
+missed : (w : List ℕ) (ms : Members) → Missing w ms → member_of w ms ≡ none
+missed w ms h = go (member_of w ms) refl
   where
-    go : (o : Option Content) → memberOf w ms ≡ o → o ≡ none
+    go : (o : Option Content) → member_of w ms ≡ o → o ≡ none
     go none e = refl
     go (some c) e = absurd (h c (looked-up w ms c e))
 
@@ -68,20 +68,20 @@ ValueTold v c (fails r k q) = ValueFails v c r k q
 
 -- a leaf
 finding-told : (l : Leaf) (c : Content) (f : Finding) → Stands l c f
-    → ValueTold (Constraints.leaf l) c (verdictOf (leafNumber l) (place_of c) f)
-finding-told l c unsuited h = FirstFailure.leafFails (FirstFailure.unreadable h)
-finding-told l c refuted h = FirstFailure.leafFails (FirstFailure.notAdmitted h.0 h.1)
-finding-told l c admitted h = leafOf h
+    → ValueTold (Constraints.leaf l) c (verdict_of (leaf_number l) (place_of c) f)
+finding-told l c unsuited h = FirstFailure.leaf_fails (FirstFailure.unreadable h)
+finding-told l c refuted h = FirstFailure.leaf_fails (FirstFailure.not_admitted h.0 h.1)
+finding-told l c admitted h = leaf_of h
 
-leaf-told : (l : Leaf) (c : Content) → ValueTold (Constraints.leaf l) c (judgeLeaf l c)
-leaf-told l (Data.string p w) = finding-told l (Data.string p w) (stringUnder l w) (string-stands l p w)
-leaf-told l (Data.word p w) = finding-told l (Data.word p w) (wordUnder l w) (word_stands l p w)
-leaf-told l (Data.block (datum p t ms)) = FirstFailure.leafFails FirstFailure.blockForLeaf
+leaf-told : (l : Leaf) (c : Content) → ValueTold (Constraints.leaf l) c (judge_leaf l c)
+leaf-told l (Data.string p w) = finding-told l (Data.string p w) (string_under l w) (string-stands l p w)
+leaf-told l (Data.word p w) = finding-told l (Data.word p w) (word_under l w) (word_stands l p w)
+leaf-told l (Data.block (datum p t ms)) = FirstFailure.leaf_fails FirstFailure.block_for_leaf
 
 -- a member, given its value
-some-told : (a : AttributeHead) (v : Value) (p : ℕ) (ms : Members) (o : Option Content) → memberOf a.name ms ≡ o
-    → ((c : Content) → ValueTold v c (judgeValue v c))
-    → MemberTold a v p ms (judgeMember a p o (λ x. judgeValue v x))
+some-told : (a : AttributeHead) (v : Value) (p : ℕ) (ms : Members) (o : Option Content) → member_of a.name ms ≡ o
+    → ((c : Content) → ValueTold v c (judge_value v c))
+    → MemberTold a v p ms (judge_member a p o (λ x. judge_value v x))
 some-told a v p ms none h f =
     by_cond (MemberTold a v p ms) (eqb a.existence required)
     (λ g. FirstFailure.missing (eqb-true a.existence required g) (not_found a.name ms h))
@@ -89,16 +89,16 @@ some-told a v p ms none h f =
 some-told a v p ms (some c) h f =
     by_cond (MemberTold a v p ms) (eqb a.existence prohibited)
     (λ g. FirstFailure.forbidden (eqb-true a.existence prohibited g) (looked-up a.name ms c h))
-    (λ g. go (eqb-false a.existence prohibited g) (looked-up a.name ms c h) (judgeValue v c) (f c))
+    (λ g. go (eqb-false a.existence prohibited g) (looked-up a.name ms c h) (judge_value v c) (f c))
   where
     go : a.existence ≢ prohibited → MemberOf a.name c ms → (x : Verdict) → ValueTold v c x → MemberTold a v p ms x
     go b m valid t = holding b m t
-    go b m (fails r k q) t = FirstFailure.valueFails b m t
+    go b m (fails r k q) t = FirstFailure.value_fails b m t
 
 -- one attribute and those behind it
 more-told : (a : AttributeHead) (v : Value) (more : Attributes) (p : ℕ) (ms : Members) (x y : Verdict)
     → MemberTold a v p ms x → AttributesTold more p ms y
-    → AttributesTold (Constraints.attribute a v more) p ms (thenJudge x y)
+    → AttributesTold (Constraints.attribute a v more) p ms (then_judge x y)
 more-told a v more p ms valid valid s t = each
   where
     each : (b : AttributeHead) (x : Value) → AttributeOf b x (Constraints.attribute a v more) → Satisfy ms b x
@@ -110,48 +110,48 @@ more-told a v more p ms (fails r k q) y s t = FirstFailure.now s
 -- a block, given its attributes
 block-told : (o : ObjectHead) (xs : Attributes) (p : ℕ) (u : Option (List ℕ)) (ms : Members) (a : Verdict)
     → AttributesTold xs p ms a
-    → Told (Constraints.object o xs) (datum p u ms) (cond (typeSuits o.type u) a (fails 21 o.number p))
+    → Told (Constraints.object o xs) (datum p u ms) (cond (type_suits o.type u) a (fails 21 o.number p))
 block-told o xs p none ms valid h = admits Admits.unwritten h
 block-told o xs p none ms (fails r k q) h = FirstFailure.inside Admits.unwritten h
 block-told o xs p (some u) ms a h =
     by_cond (Told (Constraints.object o xs) (datum p (some u) ms)) (same o.type u)
     (λ e. subst (λ x. Told (Constraints.object o xs) (datum p (some x) ms) a) (same-eq o.type u e) (go a h))
-    (λ e. FirstFailure.typeDiffers (same-ne o.type u e))
+    (λ e. FirstFailure.type_differs (same-ne o.type u e))
   where
     go : (b : Verdict) → AttributesTold xs p ms b → Told (Constraints.object o xs) (datum p (some o.type) ms) b
     go valid g = admits Admits.own g
     go (fails r k q) g = FirstFailure.inside Admits.own g
 
 content-told : (o : Object) (c : Content) → ((d : Datum) → Told o d (judge o d))
-    → ValueTold (Constraints.nested o) c (judgeContent (objectNumber o) (λ d. judge o d) c)
-content-told o (Data.string p w) h = FirstFailure.stringForBlock
-content-told o (Data.word p w) h = FirstFailure.wordForBlock
+    → ValueTold (Constraints.nested o) c (judge_content (object_number o) (λ d. judge o d) c)
+content-told o (Data.string p w) h = FirstFailure.string_for_block
+content-told o (Data.word p w) h = FirstFailure.word_for_block
 content-told o (Data.block d) h = go (judge o d) (h d)
   where
     go : (x : Verdict) → Told o d x → ValueTold (Constraints.nested o) (Data.block d) x
     go valid t = block_of t
-    go (fails r k q) t = FirstFailure.blockFails t
+    go (fails r k q) t = FirstFailure.block_fails t
 
 mutual
   unfolding judge
 
   told : (o : Object) (d : Datum) → Told o d (judge o d)
-  told (Constraints.object o xs) (datum p u ms) = block-told o xs p u ms (judgeAttributes xs p ms) (attributes-told xs p ms)
+  told (Constraints.object o xs) (datum p u ms) = block-told o xs p u ms (judge_attributes xs p ms) (attributes-told xs p ms)
 
-  attributes-told : (xs : Attributes) (p : ℕ) (ms : Members) → AttributesTold xs p ms (judgeAttributes xs p ms)
+  attributes-told : (xs : Attributes) (p : ℕ) (ms : Members) → AttributesTold xs p ms (judge_attributes xs p ms)
   attributes-told Constraints.no_more p ms = λ a v. elim [ ]
   attributes-told (Constraints.attribute a v more) p ms =
-      more-told a v more p ms (judgeMember a p (memberOf a.name ms) (λ x. judgeValue v x)) (judgeAttributes more p ms)
-      (some-told a v p ms (memberOf a.name ms) refl (λ c. value-told v c))
+      more-told a v more p ms (judge_member a p (member_of a.name ms) (λ x. judge_value v x)) (judge_attributes more p ms)
+      (some-told a v p ms (member_of a.name ms) refl (λ c. value-told v c))
       (attributes-told more p ms)
 
-  value-told : (v : Value) (c : Content) → ValueTold v c (judgeValue v c)
+  value-told : (v : Value) (c : Content) → ValueTold v c (judge_value v c)
   value-told Constraints.any c = anything
   value-told (Constraints.nested o) c = content-told o c (λ d. told o d)
   value-told (Constraints.leaf l) c = leaf-told l c
 
 -- the other way round: what holds of each part is the verdict on it
-suits : {t : List ℕ} {u : Option (List ℕ)} → TypeSuits t u → typeSuits t u ≡ true
+suits : {t : List ℕ} {u : Option (List ℕ)} → TypeSuits t u → type_suits t u ≡ true
 suits Admits.unwritten = refl
 suits {t = t} Admits.own = same_self t
 
@@ -160,8 +160,8 @@ readable : {l : Leaf} {c : Content} → LeafAdmits l c → Readable l c
 readable (LeafAdmits.boolean e h) = Readable.boolean e
 readable (LeafAdmits.integer e h) = Readable.integer e
 readable (LeafAdmits.string h) = Readable.string
-readable (LeafAdmits.patternDate e k h) = Readable.patternDate e
-readable (LeafAdmits.fullDate e g h) = Readable.intervalDate e
+readable (LeafAdmits.pattern_date e k h) = Readable.pattern_date e
+readable (LeafAdmits.full_date e g h) = Readable.interval_date e
 readable (LeafAdmits.time e k h) = Readable.time e
 readable (LeafAdmits.duration e h) = Readable.duration e
 
@@ -182,27 +182,27 @@ no_block : (l : Leaf) (d : Datum) → ¬ Readable l (Data.block d)
 no_block l d = elim [ ]
 
 leaf-finding : (l : Leaf) (c : Content) (f : Finding) → Stands l c f
-    → judgeLeaf l c ≡ verdictOf (leafNumber l) (place_of c) f
-leaf-finding l (Data.string p w) f h = ap (verdictOf (leafNumber l) p) (one-finding l (Data.string p w) (stringUnder l w) f (string-stands l p w) h)
-leaf-finding l (Data.word p w) f h = ap (verdictOf (leafNumber l) p) (one-finding l (Data.word p w) (wordUnder l w) f (word_stands l p w) h)
+    → judge_leaf l c ≡ verdict_of (leaf_number l) (place_of c) f
+leaf-finding l (Data.string p w) f h = ap (verdict_of (leaf_number l) p) (one-finding l (Data.string p w) (string_under l w) f (string-stands l p w) h)
+leaf-finding l (Data.word p w) f h = ap (verdict_of (leaf_number l) p) (one-finding l (Data.word p w) (word_under l w) f (word_stands l p w) h)
 leaf-finding l (Data.block (datum p t ms)) unsuited h = refl
 leaf-finding l (Data.block (datum p t ms)) refuted h = absurd (no_block l _ h.0)
 leaf-finding l (Data.block (datum p t ms)) admitted h = absurd (no_block l _ (readable h))
 
-leaf-failed : (l : Leaf) (c : Content) (r : ℕ) → LeafFails l c r → judgeLeaf l c ≡ fails r (leafNumber l) (place_of c)
-leaf-failed l (Data.block (datum p t ms)) r FirstFailure.blockForLeaf = refl
+leaf-failed : (l : Leaf) (c : Content) (r : ℕ) → LeafFails l c r → judge_leaf l c ≡ fails r (leaf_number l) (place_of c)
+leaf-failed l (Data.block (datum p t ms)) r FirstFailure.block_for_leaf = refl
 leaf-failed l c r (FirstFailure.unreadable h) = leaf-finding l c unsuited h
-leaf-failed l c r (FirstFailure.notAdmitted h k) = leaf-finding l c refuted (h, k)
+leaf-failed l c r (FirstFailure.not_admitted h k) = leaf-finding l c refuted (h, k)
 
 member-judged : (a : AttributeHead) (v : Value) (p : ℕ) (ms : Members) (x : Verdict)
-    → ((c : Content) (y : Verdict) → ValueTold v c y → judgeValue v c ≡ y)
+    → ((c : Content) (y : Verdict) → ValueTold v c y → judge_value v c ≡ y)
     → MemberTold a v p ms x
-    → judgeMember a p (memberOf a.name ms) (λ c. judgeValue v c) ≡ x
+    → judge_member a p (member_of a.name ms) (λ c. judge_value v c) ≡ x
 member-judged a v p ms valid f (without h m) = rw (missed a.name ms m, ne_eqb a.existence required h)
 member-judged a v p ms valid f (holding {c = c} h m t) = rw (found m, ne_eqb a.existence prohibited h) (f c valid t)
 member-judged a v p ms (fails r k q) f (FirstFailure.missing h m) = rw (missed a.name ms m, h)
 member-judged a v p ms (fails r k q) f (FirstFailure.forbidden h m) = rw (found m, h)
-member-judged a v p ms (fails r k q) f (FirstFailure.valueFails {c = c} h m t) = rw (found m, ne_eqb a.existence prohibited h) (f c (fails r k q) t)
+member-judged a v p ms (fails r k q) f (FirstFailure.value_fails {c = c} h m t) = rw (found m, ne_eqb a.existence prohibited h) (f c (fails r k q) t)
 
 no-attribute : {p r k q : ℕ} {ms : Members} → ¬ AttributesFail Constraints.no_more p ms r k q
 no-attribute = elim [ ]
@@ -215,11 +215,11 @@ mutual
 
   judged : (o : Object) (d : Datum) (x : Verdict) → Told o d x → judge o d ≡ x
   judged (Constraints.object o xs) (datum p u ms) valid (admits h k) = rw (suits h) (attributes-judged xs p ms valid k)
-  judged (Constraints.object o xs) (datum p u ms) (fails r k q) (FirstFailure.typeDiffers {u = z} h) = rw (ne_same o.type z h)
+  judged (Constraints.object o xs) (datum p u ms) (fails r k q) (FirstFailure.type_differs {u = z} h) = rw (ne_same o.type z h)
   judged (Constraints.object o xs) (datum p u ms) (fails r k q) (FirstFailure.inside h g) = rw (suits h) (attributes-judged xs p ms (fails r k q) g)
 
   attributes-judged : (xs : Attributes) (p : ℕ) (ms : Members) (x : Verdict) → AttributesTold xs p ms x
-      → judgeAttributes xs p ms ≡ x
+      → judge_attributes xs p ms ≡ x
   attributes-judged Constraints.no_more p ms valid h = refl
   attributes-judged Constraints.no_more p ms (fails r k q) h = absurd (no-attribute h)
   attributes-judged (Constraints.attribute a v more) p ms valid h =
@@ -229,15 +229,15 @@ mutual
   attributes-judged (Constraints.attribute a v more) p ms (fails r k q) (FirstFailure.later s t) =
       rw (member-judged a v p ms valid (λ c y t. value-judged v c y t) s) (attributes-judged more p ms (fails r k q) t)
 
-  value-judged : (v : Value) (c : Content) (x : Verdict) → ValueTold v c x → judgeValue v c ≡ x
+  value-judged : (v : Value) (c : Content) (x : Verdict) → ValueTold v c x → judge_value v c ≡ x
   value-judged Constraints.any c valid h = refl
   value-judged Constraints.any c (fails r k q) h = absurd (no-failure h)
   value-judged (Constraints.nested o) c valid (block_of {d = d} h) = judged o d valid h
-  value-judged (Constraints.nested o) c (fails r k q) FirstFailure.stringForBlock = refl
-  value-judged (Constraints.nested o) c (fails r k q) FirstFailure.wordForBlock = refl
-  value-judged (Constraints.nested o) c (fails r k q) (FirstFailure.blockFails {d = d} h) = judged o d (fails r k q) h
-  value-judged (Constraints.leaf l) c valid (leafOf h) = leaf-finding l c admitted h
-  value-judged (Constraints.leaf l) c (fails r k q) (FirstFailure.leafFails h) = leaf-failed l c r h
+  value-judged (Constraints.nested o) c (fails r k q) FirstFailure.string_for_block = refl
+  value-judged (Constraints.nested o) c (fails r k q) FirstFailure.word_for_block = refl
+  value-judged (Constraints.nested o) c (fails r k q) (FirstFailure.block_fails {d = d} h) = judged o d (fails r k q) h
+  value-judged (Constraints.leaf l) c valid (leaf_of h) = leaf-finding l c admitted h
+  value-judged (Constraints.leaf l) c (fails r k q) (FirstFailure.leaf_fails h) = leaf-failed l c r h
 
 -- judging is valid exactly where the object admits the datum
 pub valid-admits : (o : Object) (d : Datum) → (judge o d ≡ valid) ↔ Admits o d

@@ -11,21 +11,21 @@ use lib.ListN.{get_or}
 use borrow.Author.Tests.{eqb-true, leb-true, le-leb, eq-eqb}
 use Rattle.lexis.specs.Runs.{same}
 use Rattle.lexis.proofs.Cases.{by_cond, and_left, and_right}
-use Rattle.values.specs.Integers.{integerOf}
-use Rattle.values.specs.Dates.{Date, dateOf}
-use Rattle.values.specs.Times.{timeOf}
-use Rattle.values.specs.Durations.{durationOf}
-use Rattle.values.specs.Words.{booleanOf}
-use Rattle.values.specs.Patterns.{Part, must, may, mustNot, suits, fits, fitsDate, fitsTime, fitsDuration, datePatterns, timePatterns}
-use Rattle.meaning.specs.Constraints.{Range, Text, Leaf, single, ranges, texts, booleans, datePattern, timePattern, durationPattern, integers, dates}
+use Rattle.values.specs.Integers.{integer_of}
+use Rattle.values.specs.Dates.{Date, date_of}
+use Rattle.values.specs.Times.{time_of}
+use Rattle.values.specs.Durations.{duration_of}
+use Rattle.values.specs.Words.{boolean_of}
+use Rattle.values.specs.Patterns.{Part, must, may, must_not, suits, fits, fits_date, fits_time, fits_duration, date_patterns, time_patterns}
+use Rattle.meaning.specs.Constraints.{Range, Text, Leaf, single, ranges, texts, booleans, date_pattern, time_pattern, duration_pattern, integers, dates}
 use Rattle.meaning.specs.Data.{Content}
 use Rattle.meaning.specs.Data
 use Rattle.meaning.specs.Findings.{Finding, unsuited, refuted, admitted, try}
-use Rattle.meaning.specs.Sorts.{in_range, in_some, inFlag}
-use Rattle.meaning.specs.Admission.{is_some, wordUnder, stringUnder}
+use Rattle.meaning.specs.Sorts.{in_range, in_some, in_flag}
+use Rattle.meaning.specs.Admission.{is_some, word_under, string_under}
 use Rattle.values.specs.WordRules
 use Rattle.values.specs.WordRules.{IsBoolean, IsInteger, IsDate, IsTime, IsDuration}
-use Rattle.rules_grammar.specs.Admits.{Fits, InItem, inItem, InTexts, isItem, Flagged, Readable, LeafAdmits, DatePattern, TimePattern}
+use Rattle.rules_grammar.specs.Admits.{Fits, InItem, in_item, InTexts, is_item, Flagged, Readable, LeafAdmits, DatePattern, TimePattern}
 use Rattle.rules_grammar.specs.Admits
 use Rattle.lexis.proofs.TestLaws.{false-true, none-some, some_inj, same-eq, eq-same, or_left, or_right, or_cases, and_both}
 use Rattle.values.proofs.DateWordLaws.{date-word}
@@ -40,11 +40,11 @@ unfolding in_some
 in_item v [] h = absurd (false-true h)
 in_item v (x ∷ xs) h =
     or_cases (in_range v x) (in_some v xs) h
-    (λ e. inItem x (Memᴰ.head refl) (leb-true x.low v (and_left (leb x.low v) (leb v x.high) e)) (leb-true v x.high (and_right (leb x.low v) (leb v x.high) e)))
+    (λ e. in_item x (Memᴰ.head refl) (leb-true x.low v (and_left (leb x.low v) (leb v x.high) e)) (leb-true v x.high (and_right (leb x.low v) (leb v x.high) e)))
     (λ e. more (in_item v xs e))
   where
     more : InItem v xs → InItem v (x ∷ xs)
-    more (inItem y m a b) = inItem y (Memᴰ.tail m) a b
+    more (in_item y m a b) = in_item y (Memᴰ.tail m) a b
 
 item_in : (v : ℕ) (x : Range) (l : List Range) → Memᴰ x l → x.low ≤ v → v ≤ x.high → in_some v l ≡ true
 unfolding in_some
@@ -53,18 +53,18 @@ item_in v x (y ∷ ys) (Memᴰ.head e) a b =
 item_in v x (y ∷ ys) (Memᴰ.tail m) a b = or_right (in_range v y) (in_some v ys) (item_in v x ys m a b)
 
 of-item : {v : ℕ} {l : List Range} → InItem v l → in_some v l ≡ true
-of-item {v} {l} (inItem x m a b) = item_in v x l m a b
+of-item {v} {l} (in_item x m a b) = item_in v x l m a b
 
 is-item : (w : List ℕ) (l : List Text) → is_some w l ≡ true → InTexts w l
 unfolding is_some
 is-item w [] h = absurd (false-true h)
 is-item w (x ∷ xs) h =
     or_cases (same w x.text) (is_some w xs) h
-    (λ e. isItem x (Memᴰ.head refl) (same-eq w x.text e))
+    (λ e. is_item x (Memᴰ.head refl) (same-eq w x.text e))
     (λ e. more (is-item w xs e))
   where
     more : InTexts w xs → InTexts w (x ∷ xs)
-    more (isItem y m a) = isItem y (Memᴰ.tail m) a
+    more (is_item y m a) = is_item y (Memᴰ.tail m) a
 
 item-is : (w : List ℕ) (x : Text) (l : List Text) → Memᴰ x l → w ≡ x.text → is_some w l ≡ true
 unfolding is_some
@@ -72,7 +72,7 @@ item-is w x (y ∷ ys) (Memᴰ.head e) h = or_left (same w y.text) (is_some w ys
 item-is w x (y ∷ ys) (Memᴰ.tail m) h = or_right (same w y.text) (is_some w ys) (item-is w x ys m h)
 
 string-in : {l : List Text} {p : ℕ} {w : List ℕ} → LeafAdmits (texts l) (Data.string p w) → is_some w l ≡ true
-string-in {l} {p} {w} (LeafAdmits.string (isItem x m e)) = item-is w x l m e
+string-in {l} {p} {w} (LeafAdmits.string (is_item x m e)) = item-is w x l m e
 
 -- patterns, part by part
 more_parts : (p : Part) (ps : List Part) (n : ℕ) → fits (p ∷ ps) (suc n) ≡ (suits p true && fits ps n)
@@ -85,58 +85,58 @@ fits-of [] zero h = Admits.end
 fits-of [] (suc n) h = absurd (omega (arith, eqb-true (suc n) 0 h))
 fits-of (must ∷ ps) zero h = absurd (false-true h)
 fits-of (must ∷ ps) (suc n) h = Admits.letters (fits-of ps n (sym (more_parts must ps n) ∙ h))
-fits-of (may ∷ ps) zero h = Admits.mayNotBe (fits-of ps 0 h)
-fits-of (may ∷ ps) (suc n) h = Admits.mayBe (fits-of ps n (sym (more_parts may ps n) ∙ h))
-fits-of (mustNot ∷ ps) zero h = Admits.never (fits-of ps 0 h)
-fits-of (mustNot ∷ ps) (suc n) h = absurd (false-true (sym (more_parts mustNot ps n) ∙ h))
+fits-of (may ∷ ps) zero h = Admits.may_not_be (fits-of ps 0 h)
+fits-of (may ∷ ps) (suc n) h = Admits.may_be (fits-of ps n (sym (more_parts may ps n) ∙ h))
+fits-of (must_not ∷ ps) zero h = Admits.never (fits-of ps 0 h)
+fits-of (must_not ∷ ps) (suc n) h = absurd (false-true (sym (more_parts must_not ps n) ∙ h))
 
 of-fits : {ps : List Part} {n : ℕ} → Fits ps n → fits ps n ≡ true
 unfolding fits
 of-fits Admits.end = refl
 of-fits (Admits.letters {ps = ps} {n = n} h) = more_parts must ps n ∙ of-fits h
-of-fits (Admits.mayBe {ps = ps} {n = n} h) = more_parts may ps n ∙ of-fits h
-of-fits (Admits.mayNotBe h) = of-fits h
+of-fits (Admits.may_be {ps = ps} {n = n} h) = more_parts may ps n ∙ of-fits h
+of-fits (Admits.may_not_be h) = of-fits h
 of-fits (Admits.never h) = of-fits h
 
 -- the patterns by their flags are those listed
-abbrev patternOf : List (List Part) → ℕ → List Part
-patternOf patterns flag = get_or ([] ∷ patterns) flag []
+abbrev pattern_of : List (List Part) → ℕ → List Part
+pattern_of patterns flag = get_or ([] ∷ patterns) flag []
 
-date-listed : {f : ℕ} {ps : List Part} → DatePattern f ps → patternOf datePatterns f ≡ ps
-date-listed Admits.wholeDay = refl
-date-listed Admits.mayHaveDay = refl
-date-listed Admits.mayHaveMonth = refl
-date-listed Admits.noDay = refl
-date-listed Admits.mayHaveMonthNoDay = refl
+date-listed : {f : ℕ} {ps : List Part} → DatePattern f ps → pattern_of date_patterns f ≡ ps
+date-listed Admits.whole_day = refl
+date-listed Admits.may_have_day = refl
+date-listed Admits.may_have_month = refl
+date-listed Admits.no_day = refl
+date-listed Admits.may_have_month_no_day = refl
 
-time-listed : {f : ℕ} {ps : List Part} → TimePattern f ps → patternOf timePatterns f ≡ ps
-time-listed Admits.wholeTime = refl
-time-listed Admits.noSecond = refl
-time-listed Admits.mayHaveMinuteNoSecond = refl
-time-listed Admits.mayHaveMinute = refl
+time-listed : {f : ℕ} {ps : List Part} → TimePattern f ps → pattern_of time_patterns f ≡ ps
+time-listed Admits.whole_time = refl
+time-listed Admits.no_second = refl
+time-listed Admits.may_have_minute_no_second = refl
+time-listed Admits.may_have_minute = refl
 
 -- a flag that is none has no parts, and a date or a time has one at least
 no-parts : (n : ℕ) → 1 ≤ n → fits [] n ≡ true → ⊥
 unfolding fits
 no-parts n l h = let e = eqb-true n 0 h in omega arith
 
-date-pattern : (f n : ℕ) → 1 ≤ n → fitsDate f n ≡ true → (ps : List Part) × DatePattern f ps × Fits ps n
-unfolding fitsDate
+date-pattern : (f n : ℕ) → 1 ≤ n → fits_date f n ≡ true → (ps : List Part) × DatePattern f ps × Fits ps n
+unfolding fits_date
 date-pattern zero n l h = absurd (no-parts n l h)
-date-pattern (suc zero) n l h = (_, Admits.wholeDay, fits-of _ n h)
-date-pattern (suc (suc zero)) n l h = (_, Admits.mayHaveDay, fits-of _ n h)
-date-pattern (suc (suc (suc zero))) n l h = (_, Admits.mayHaveMonth, fits-of _ n h)
-date-pattern (suc (suc (suc (suc zero)))) n l h = (_, Admits.noDay, fits-of _ n h)
-date-pattern (suc (suc (suc (suc (suc zero))))) n l h = (_, Admits.mayHaveMonthNoDay, fits-of _ n h)
+date-pattern (suc zero) n l h = (_, Admits.whole_day, fits-of _ n h)
+date-pattern (suc (suc zero)) n l h = (_, Admits.may_have_day, fits-of _ n h)
+date-pattern (suc (suc (suc zero))) n l h = (_, Admits.may_have_month, fits-of _ n h)
+date-pattern (suc (suc (suc (suc zero)))) n l h = (_, Admits.no_day, fits-of _ n h)
+date-pattern (suc (suc (suc (suc (suc zero))))) n l h = (_, Admits.may_have_month_no_day, fits-of _ n h)
 date-pattern (suc (suc (suc (suc (suc (suc f)))))) n l h = absurd (no-parts n l h)
 
-time-pattern : (f n : ℕ) → 1 ≤ n → fitsTime f n ≡ true → (ps : List Part) × TimePattern f ps × Fits ps n
-unfolding fitsTime
+time-pattern : (f n : ℕ) → 1 ≤ n → fits_time f n ≡ true → (ps : List Part) × TimePattern f ps × Fits ps n
+unfolding fits_time
 time-pattern zero n l h = absurd (no-parts n l h)
-time-pattern (suc zero) n l h = (_, Admits.wholeTime, fits-of _ n h)
-time-pattern (suc (suc zero)) n l h = (_, Admits.noSecond, fits-of _ n h)
-time-pattern (suc (suc (suc zero))) n l h = (_, Admits.mayHaveMinuteNoSecond, fits-of _ n h)
-time-pattern (suc (suc (suc (suc zero)))) n l h = (_, Admits.mayHaveMinute, fits-of _ n h)
+time-pattern (suc zero) n l h = (_, Admits.whole_time, fits-of _ n h)
+time-pattern (suc (suc zero)) n l h = (_, Admits.no_second, fits-of _ n h)
+time-pattern (suc (suc (suc zero))) n l h = (_, Admits.may_have_minute_no_second, fits-of _ n h)
+time-pattern (suc (suc (suc (suc zero)))) n l h = (_, Admits.may_have_minute, fits-of _ n h)
 time-pattern (suc (suc (suc (suc (suc f))))) n l h = absurd (no-parts n l h)
 
 date-parts : {w : List ℕ} {d : Date} → IsDate w d → 1 ≤ d.parts
@@ -150,13 +150,13 @@ time-parts (WordRules.minute h m z) = omega arith
 time-parts (WordRules.second h m s z) = omega arith
 
 -- flags of Booleans
-flagged-of : (f b : ℕ) → inFlag f b ≡ true → Flagged b f
+flagged-of : (f b : ℕ) → in_flag f b ≡ true → Flagged b f
 flagged-of f b h =
     or_cases (eqb f b) (eqb f 3) h
     (λ e. subst (λ x. Flagged b x) (sym (eqb-true f b e)) Admits.one)
     (λ e. subst (λ x. Flagged b x) (sym (eqb-true f 3 e)) Admits.both)
 
-of-flagged : {f b : ℕ} → Flagged b f → inFlag f b ≡ true
+of-flagged : {f b : ℕ} → Flagged b f → in_flag f b ≡ true
 of-flagged {b = b} Admits.one = or_left (eqb b b) (eqb b 3) (eq-eqb b b refl)
 of-flagged {b = b} Admits.both = or_right (eqb 3 b) true refl
 
@@ -186,7 +186,7 @@ boolean-read : {n f p : ℕ} {w : List ℕ} → Readable (single booleans n f) (
 boolean-read (Readable.boolean {b = b} e) = (b, e)
 
 boolean-in : {n f p : ℕ} {w : List ℕ} → LeafAdmits (single booleans n f) (Data.word p w)
-    → (b : ℕ) × IsBoolean w b × (inFlag f b ≡ true)
+    → (b : ℕ) × IsBoolean w b × (in_flag f b ≡ true)
 boolean-in (LeafAdmits.boolean {b = b} e h) = (b, e, of-flagged h)
 
 integer-read : {l : List Range} {p : ℕ} {w : List ℕ} → Readable (ranges integers l) (Data.word p w)
@@ -197,82 +197,82 @@ integer-in : {l : List Range} {p : ℕ} {w : List ℕ} → LeafAdmits (ranges in
     → (v : ℕ) × IsInteger w v × (in_some v l ≡ true)
 integer-in (LeafAdmits.integer {v = v} e h) = (v, e, of-item h)
 
-pattern-read : {n f p : ℕ} {w : List ℕ} → Readable (single datePattern n f) (Data.word p w)
+pattern-read : {n f p : ℕ} {w : List ℕ} → Readable (single date_pattern n f) (Data.word p w)
     → (d : Date) × IsDate w d
-pattern-read (Readable.patternDate {d = d} e) = (d, e)
+pattern-read (Readable.pattern_date {d = d} e) = (d, e)
 
-pattern-in : {n f p : ℕ} {w : List ℕ} → LeafAdmits (single datePattern n f) (Data.word p w)
-    → (d : Date) × IsDate w d × (fitsDate f d.parts ≡ true)
-unfolding fitsDate
-pattern-in (LeafAdmits.patternDate {d = d} e k h) = (d, e, rw (date-listed k) (of-fits h))
+pattern-in : {n f p : ℕ} {w : List ℕ} → LeafAdmits (single date_pattern n f) (Data.word p w)
+    → (d : Date) × IsDate w d × (fits_date f d.parts ≡ true)
+unfolding fits_date
+pattern-in (LeafAdmits.pattern_date {d = d} e k h) = (d, e, rw (date-listed k) (of-fits h))
 
 date-read : {l : List Range} {p : ℕ} {w : List ℕ} → Readable (ranges dates l) (Data.word p w)
     → (d : Date) × IsDate w d
-date-read (Readable.intervalDate {d = d} e) = (d, e)
+date-read (Readable.interval_date {d = d} e) = (d, e)
 
 date-in : {l : List Range} {p : ℕ} {w : List ℕ} → LeafAdmits (ranges dates l) (Data.word p w)
     → (d : Date) × IsDate w d × ((eqb d.parts 3 && in_some d.day l) ≡ true)
-date-in (LeafAdmits.fullDate {d = d} e g h) = (d, e, and_both _ _ (eq-eqb d.parts 3 g) (of-item h))
+date-in (LeafAdmits.full_date {d = d} e g h) = (d, e, and_both _ _ (eq-eqb d.parts 3 g) (of-item h))
 
-time-read : {n f p : ℕ} {w : List ℕ} → Readable (single timePattern n f) (Data.word p w) → (k : ℕ) × IsTime w k
+time-read : {n f p : ℕ} {w : List ℕ} → Readable (single time_pattern n f) (Data.word p w) → (k : ℕ) × IsTime w k
 time-read (Readable.time {parts = k} e) = (k, e)
 
-time-in : {n f p : ℕ} {w : List ℕ} → LeafAdmits (single timePattern n f) (Data.word p w)
-    → (k : ℕ) × IsTime w k × (fitsTime f k ≡ true)
-unfolding fitsTime
+time-in : {n f p : ℕ} {w : List ℕ} → LeafAdmits (single time_pattern n f) (Data.word p w)
+    → (k : ℕ) × IsTime w k × (fits_time f k ≡ true)
+unfolding fits_time
 time-in (LeafAdmits.time {parts = k} e l h) = (k, e, rw (time-listed l) (of-fits h))
 
-duration-read : {n f p : ℕ} {w : List ℕ} → Readable (single durationPattern n f) (Data.word p w)
+duration-read : {n f p : ℕ} {w : List ℕ} → Readable (single duration_pattern n f) (Data.word p w)
     → (k : ℕ) × IsDuration w k
 duration-read (Readable.duration {filled = k} e) = (k, e)
 
-duration-in : {n f p : ℕ} {w : List ℕ} → LeafAdmits (single durationPattern n f) (Data.word p w)
-    → (k : ℕ) × IsDuration w k × (fitsDuration f k ≡ true)
+duration-in : {n f p : ℕ} {w : List ℕ} → LeafAdmits (single duration_pattern n f) (Data.word p w)
+    → (k : ℕ) × IsDuration w k × (fits_duration f k ≡ true)
 duration-in {f = f} (LeafAdmits.duration {filled = k} e h) = (k, e, (fits-is f k).1 h)
 
-pub word_stands : (l : Leaf) (p : ℕ) (w : List ℕ) → Stands l (Data.word p w) (wordUnder l w)
-unfolding wordUnder fitsDate fitsTime
+pub word_stands : (l : Leaf) (p : ℕ) (w : List ℕ) → Stands l (Data.word p w) (word_under l w)
+unfolding word_under fits_date fits_time
 word_stands (single booleans n f) p w =
-    tried (IsBoolean w) (single booleans n f) (Data.word p w) (booleanOf w) (inFlag f) (boolean-word w)
+    tried (IsBoolean w) (single booleans n f) (Data.word p w) (boolean_of w) (in_flag f) (boolean-word w)
     (λ b e. Readable.boolean e)
     boolean-read
     (λ b e h. LeafAdmits.boolean e (flagged-of f b h))
     boolean-in
 word_stands (ranges integers l) p w =
-    tried (IsInteger w) (ranges integers l) (Data.word p w) (integerOf w) (λ v. in_some v l) (integer-word w)
+    tried (IsInteger w) (ranges integers l) (Data.word p w) (integer_of w) (λ v. in_some v l) (integer-word w)
     (λ v e. Readable.integer e)
     integer-read
     (λ v e h. LeafAdmits.integer e (in_item v l h))
     integer-in
 word_stands (texts l) p w = elim [ ]
-word_stands (single datePattern n f) p w =
-    tried (IsDate w) (single datePattern n f) (Data.word p w) (dateOf w) (λ d. fitsDate f d.parts) (date-word w)
-    (λ d e. Readable.patternDate e)
+word_stands (single date_pattern n f) p w =
+    tried (IsDate w) (single date_pattern n f) (Data.word p w) (date_of w) (λ d. fits_date f d.parts) (date-word w)
+    (λ d e. Readable.pattern_date e)
     pattern-read
-    (λ d e h. let (ps, k, x) = date-pattern f d.parts (date-parts e) h in LeafAdmits.patternDate e k x)
+    (λ d e h. let (ps, k, x) = date-pattern f d.parts (date-parts e) h in LeafAdmits.pattern_date e k x)
     pattern-in
 word_stands (ranges dates l) p w =
-    tried (IsDate w) (ranges dates l) (Data.word p w) (dateOf w) (λ d. eqb d.parts 3 && in_some d.day l) (date-word w)
-    (λ d e. Readable.intervalDate e)
+    tried (IsDate w) (ranges dates l) (Data.word p w) (date_of w) (λ d. eqb d.parts 3 && in_some d.day l) (date-word w)
+    (λ d e. Readable.interval_date e)
     date-read
-    (λ d e h. LeafAdmits.fullDate e (eqb-true d.parts 3 (and_left (eqb d.parts 3) (in_some d.day l) h)) (in_item d.day l (and_right (eqb d.parts 3) (in_some d.day l) h)))
+    (λ d e h. LeafAdmits.full_date e (eqb-true d.parts 3 (and_left (eqb d.parts 3) (in_some d.day l) h)) (in_item d.day l (and_right (eqb d.parts 3) (in_some d.day l) h)))
     date-in
-word_stands (single timePattern n f) p w =
-    tried (IsTime w) (single timePattern n f) (Data.word p w) (timeOf w) (fitsTime f) (time-word w)
+word_stands (single time_pattern n f) p w =
+    tried (IsTime w) (single time_pattern n f) (Data.word p w) (time_of w) (fits_time f) (time-word w)
     (λ k e. Readable.time e)
     time-read
     (λ k e h. let (ps, l, x) = time-pattern f k (time-parts e) h in LeafAdmits.time e l x)
     time-in
-word_stands (single durationPattern n f) p w =
-    tried (IsDuration w) (single durationPattern n f) (Data.word p w) (durationOf w) (fitsDuration f) (duration-word w)
+word_stands (single duration_pattern n f) p w =
+    tried (IsDuration w) (single duration_pattern n f) (Data.word p w) (duration_of w) (fits_duration f) (duration-word w)
     (λ k e. Readable.duration e)
     duration-read
     (λ k e h. LeafAdmits.duration e ((fits-is f k).0 h))
     duration-in
 
 -- a string is read under strings alone
-pub string-stands : (l : Leaf) (p : ℕ) (w : List ℕ) → Stands l (Data.string p w) (stringUnder l w)
-unfolding stringUnder
+pub string-stands : (l : Leaf) (p : ℕ) (w : List ℕ) → Stands l (Data.string p w) (string_under l w)
+unfolding string_under
 string-stands (single sort n f) p w = elim [ ]
 string-stands (ranges sort l) p w = elim [ ]
 string-stands (texts l) p w =

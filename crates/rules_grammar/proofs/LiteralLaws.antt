@@ -7,11 +7,11 @@ use Prim.Native.Nat.{ℕ}
 use native.Mathlib.Omega.{arith}
 use lib.ListN.{length, length-append}
 use Rattle.lexis.specs.Tokens.{integer, date}
-use Rattle.values.specs.Dates.{Date, dateOf}
-use Rattle.cadl_intervals.specs.Intervals.{literalValue}
+use Rattle.values.specs.Dates.{Date, date_of}
+use Rattle.cadl_intervals.specs.Intervals.{literal_value}
 use Rattle.values.specs.WordRules.{IsDate, fixed}
 use Rattle.values.specs.WordRules
-use Rattle.rules_grammar.specs.LeafGrammar.{IsLiteral, anInteger, aFullDate}
+use Rattle.rules_grammar.specs.LeafGrammar.{IsLiteral, an_integer, a_full_date}
 use Rattle.lexis.proofs.TestLaws.{none-some, some_inj}
 use Rattle.values.proofs.DateWordLaws.{date-word}
 use Rattle.values.proofs.WordLaws.{integer-word}
@@ -22,16 +22,16 @@ all-parts (WordRules.year (fixed h _) i) l = absurd (omega arith)
 all-parts (WordRules.month (fixed h _) (fixed k _) i) l = absurd (omega (arith, simp length-append at l))
 all-parts (WordRules.day y m d i) l = refl
 
-pub literal-of : {kind v : ℕ} {w : List ℕ} → IsLiteral kind w v → literalValue kind w ≡ some v
-literal-of {w = w} (anInteger {v = v} h) = (integer-word w v).1 h
-literal-of {w = w} (aFullDate {d = d} h e) = rw ((date-word w d).1 h)
+pub literal-of : {kind v : ℕ} {w : List ℕ} → IsLiteral kind w v → literal_value kind w ≡ some v
+literal-of {w = w} (an_integer {v = v} h) = (integer-word w v).1 h
+literal-of {w = w} (a_full_date {d = d} h e) = rw ((date-word w d).1 h)
 
-pub integer-literal : (w : List ℕ) (v : ℕ) → (literalValue integer w ≡ some v) ↔ IsLiteral integer w v
-integer-literal w v = (λ e. anInteger ((integer-word w v).0 e), literal-of)
+pub integer-literal : (w : List ℕ) (v : ℕ) → (literal_value integer w ≡ some v) ↔ IsLiteral integer w v
+integer-literal w v = (λ e. an_integer ((integer-word w v).0 e), literal-of)
 
-pub date-literal : (w : List ℕ) (v : ℕ) → length w ≡ 10 → (literalValue date w ≡ some v) ↔ IsLiteral date w v
-date-literal w v l = (go (dateOf w) refl, literal-of)
+pub date-literal : (w : List ℕ) (v : ℕ) → length w ≡ 10 → (literal_value date w ≡ some v) ↔ IsLiteral date w v
+date-literal w v l = (go (date_of w) refl, literal-of)
   where
-    go : (o : Option Date) → dateOf w ≡ o → map (λ (d : Date). d.day) o ≡ some v → IsLiteral date w v
+    go : (o : Option Date) → date_of w ≡ o → map (λ (d : Date). d.day) o ≡ some v → IsLiteral date w v
     go none e f = absurd (none-some f)
-    go (some d) e f = let h = (date-word w d).0 e in subst (IsLiteral date w) (some_inj f) (aFullDate h (all-parts h l))
+    go (some d) e f = let h = (date-word w d).0 e in subst (IsLiteral date w) (some_inj f) (a_full_date h (all-parts h l))

@@ -1,13 +1,13 @@
 -- What an object admits, as rules. Document 01, 'Meaning': "An object admits a block whose type, if written, is its own and whose members satisfy each attribute. `*` in an object
 -- admits any members (its type still counts), in an attribute any leaf or block. Members that no attribute names are admitted. Lists admit a value in some item; a date interval admits
 -- full dates only. Patterns: lettered parts must be there, `??` may, `XX` may not, and no part without the one before it; the zone is free."
--- Document 02, 1: "A value is admitted when each slot it fills is in the pattern". Proved one with judge, booleanOf, integerOf, dateOf, timeOf, durationOf, fitsDuration. Assumes nothing.
+-- Document 02, 1: "A value is admitted when each slot it fills is in the pattern". Proved one with judge, boolean_of, integer_of, date_of, time_of, duration_of, fits_duration. Assumes nothing.
 use Rattle.std.specs.Prelude.{◌≡◌, ◌≢◌, ℕ, zero, suc, ◌≤◌}
 use Rattle.std.proofs.Math.Option.{Option, none, some}
 use mathlib.Core.List.{List, [], ◌∷◌, Memᴰ}
 use Rattle.values.specs.Dates.{Date}
-use Rattle.values.specs.Patterns.{Part, must, may, mustNot}
-use Rattle.meaning.specs.Constraints.{Range, Text, Leaf, single, ranges, texts, booleans, datePattern, timePattern, durationPattern, integers, dates, ObjectHead, Object, AttributeHead, Attributes, Value}
+use Rattle.values.specs.Patterns.{Part, must, may, must_not}
+use Rattle.meaning.specs.Constraints.{Range, Text, Leaf, single, ranges, texts, booleans, date_pattern, time_pattern, duration_pattern, integers, dates, ObjectHead, Object, AttributeHead, Attributes, Value}
 use Rattle.meaning.specs.Constraints
 use Rattle.meaning.specs.Data.{Datum, datum, Members, Content}
 use Rattle.meaning.specs.Data
@@ -37,31 +37,31 @@ Missing w ms = (c : Content) → ¬ MemberOf w c ms
 pub data Fits : List Part → ℕ → Type 0 where
   end : Fits [] zero
   letters : {ps : List Part} {n : ℕ} → Fits ps n → Fits (must ∷ ps) (suc n)
-  mayBe : {ps : List Part} {n : ℕ} → Fits ps n → Fits (may ∷ ps) (suc n)
-  mayNotBe : {ps : List Part} → Fits ps zero → Fits (may ∷ ps) zero
-  never : {ps : List Part} → Fits ps zero → Fits (mustNot ∷ ps) zero
+  may_be : {ps : List Part} {n : ℕ} → Fits ps n → Fits (may ∷ ps) (suc n)
+  may_not_be : {ps : List Part} → Fits ps zero → Fits (may ∷ ps) zero
+  never : {ps : List Part} → Fits ps zero → Fits (must_not ∷ ps) zero
 
 -- what a date pattern's flag says of year, month and day: yyyy-mm-dd, yyyy-mm-??, yyyy-??-??, yyyy-mm-XX, yyyy-??-XX
 pub data DatePattern : (flag : ℕ) → List Part → Type 0 where
-  wholeDay : DatePattern 1 (must ∷ must ∷ must ∷ [])
-  mayHaveDay : DatePattern 2 (must ∷ must ∷ may ∷ [])
-  mayHaveMonth : DatePattern 3 (must ∷ may ∷ may ∷ [])
-  noDay : DatePattern 4 (must ∷ must ∷ mustNot ∷ [])
-  mayHaveMonthNoDay : DatePattern 5 (must ∷ may ∷ mustNot ∷ [])
+  whole_day : DatePattern 1 (must ∷ must ∷ must ∷ [])
+  may_have_day : DatePattern 2 (must ∷ must ∷ may ∷ [])
+  may_have_month : DatePattern 3 (must ∷ may ∷ may ∷ [])
+  no_day : DatePattern 4 (must ∷ must ∷ must_not ∷ [])
+  may_have_month_no_day : DatePattern 5 (must ∷ may ∷ must_not ∷ [])
 
 -- what a time pattern's flag says of hour, minute and second: Thh:mm:ss, Thh:mm:XX, Thh:??:XX, Thh:??:??
 pub data TimePattern : (flag : ℕ) → List Part → Type 0 where
-  wholeTime : TimePattern 1 (must ∷ must ∷ must ∷ [])
-  noSecond : TimePattern 2 (must ∷ must ∷ mustNot ∷ [])
-  mayHaveMinuteNoSecond : TimePattern 3 (must ∷ may ∷ mustNot ∷ [])
-  mayHaveMinute : TimePattern 4 (must ∷ may ∷ may ∷ [])
+  whole_time : TimePattern 1 (must ∷ must ∷ must ∷ [])
+  no_second : TimePattern 2 (must ∷ must ∷ must_not ∷ [])
+  may_have_minute_no_second : TimePattern 3 (must ∷ may ∷ must_not ∷ [])
+  may_have_minute : TimePattern 4 (must ∷ may ∷ may ∷ [])
 
 -- a number, a day or a text in some item of a list
 pub data InItem (v : ℕ) (l : List Range) : Type 0 where
-  inItem : (x : Range) → Memᴰ x l → x.low ≤ v → v ≤ x.high → InItem v l
+  in_item : (x : Range) → Memᴰ x l → x.low ≤ v → v ≤ x.high → InItem v l
 
 pub data InTexts (w : List ℕ) (l : List Text) : Type 0 where
-  isItem : (x : Text) → Memᴰ x l → w ≡ x.text → InTexts w l
+  is_item : (x : Text) → Memᴰ x l → w ≡ x.text → InTexts w l
 
 -- True is 1, False 2, both 3
 pub data Flagged (b : ℕ) : ℕ → Type 0 where
@@ -74,13 +74,13 @@ pub data Readable : Leaf → Content → Type 0 where
   integer : {l : List Range} {p v : ℕ} {w : List ℕ} → IsInteger w v
       → Readable (ranges integers l) (Data.word p w)
   string : {l : List Text} {p : ℕ} {w : List ℕ} → Readable (texts l) (Data.string p w)
-  patternDate : {n f p : ℕ} {w : List ℕ} {d : Date} → IsDate w d
-      → Readable (single datePattern n f) (Data.word p w)
-  intervalDate : {l : List Range} {p : ℕ} {w : List ℕ} {d : Date} → IsDate w d
+  pattern_date : {n f p : ℕ} {w : List ℕ} {d : Date} → IsDate w d
+      → Readable (single date_pattern n f) (Data.word p w)
+  interval_date : {l : List Range} {p : ℕ} {w : List ℕ} {d : Date} → IsDate w d
       → Readable (ranges dates l) (Data.word p w)
-  time : {n f p parts : ℕ} {w : List ℕ} → IsTime w parts → Readable (single timePattern n f) (Data.word p w)
+  time : {n f p parts : ℕ} {w : List ℕ} → IsTime w parts → Readable (single time_pattern n f) (Data.word p w)
   duration : {n f p filled : ℕ} {w : List ℕ} → IsDuration w filled
-      → Readable (single durationPattern n f) (Data.word p w)
+      → Readable (single duration_pattern n f) (Data.word p w)
 
 -- what a leaf admits
 pub data LeafAdmits : Leaf → Content → Type 0 where
@@ -89,15 +89,15 @@ pub data LeafAdmits : Leaf → Content → Type 0 where
   integer : {l : List Range} {p v : ℕ} {w : List ℕ} → IsInteger w v → InItem v l
       → LeafAdmits (ranges integers l) (Data.word p w)
   string : {l : List Text} {p : ℕ} {w : List ℕ} → InTexts w l → LeafAdmits (texts l) (Data.string p w)
-  patternDate : {n f p : ℕ} {w : List ℕ} {d : Date} {ps : List Part} → IsDate w d → DatePattern f ps
+  pattern_date : {n f p : ℕ} {w : List ℕ} {d : Date} {ps : List Part} → IsDate w d → DatePattern f ps
       → Fits ps d.parts
-      → LeafAdmits (single datePattern n f) (Data.word p w)
-  fullDate : {l : List Range} {p : ℕ} {w : List ℕ} {d : Date} → IsDate w d → d.parts ≡ 3 → InItem d.day l
+      → LeafAdmits (single date_pattern n f) (Data.word p w)
+  full_date : {l : List Range} {p : ℕ} {w : List ℕ} {d : Date} → IsDate w d → d.parts ≡ 3 → InItem d.day l
       → LeafAdmits (ranges dates l) (Data.word p w)
   time : {n f p parts : ℕ} {w : List ℕ} {ps : List Part} → IsTime w parts → TimePattern f ps → Fits ps parts
-      → LeafAdmits (single timePattern n f) (Data.word p w)
+      → LeafAdmits (single time_pattern n f) (Data.word p w)
   duration : {n f p filled : ℕ} {w : List ℕ} → IsDuration w filled → SlotsWithin f filled
-      → LeafAdmits (single durationPattern n f) (Data.word p w)
+      → LeafAdmits (single duration_pattern n f) (Data.word p w)
 
 mutual
   -- an object admits a block whose type, if written, is its own and whose members satisfy each attribute; `*` is no attribute
@@ -118,4 +118,4 @@ mutual
   pub data ValueAdmits : Value → Content → Type 0 where
     anything : {c : Content} → ValueAdmits Constraints.any c
     block_of : {o : Object} {d : Datum} → Admits o d → ValueAdmits (Constraints.nested o) (Data.block d)
-    leafOf : {l : Leaf} {c : Content} → LeafAdmits l c → ValueAdmits (Constraints.leaf l) c
+    leaf_of : {l : Leaf} {c : Content} → LeafAdmits l c → ValueAdmits (Constraints.leaf l) c

@@ -1,18 +1,18 @@
 -- The grammar of data text, as productions. Document 01, 'Data text': "At most 16,384 bytes .. Datum: optional `(`TYPE`)`, `<`, members, `>`. Member: NAME `=` then a datum, or `<`
 -- leaf `>` with no type. `<>` is a block without members. A leaf is a string or a word .. A `<` is a leaf's when it has no type, isn't the outermost, and a string or word follows; else
 -- a block's"; a word "is good if it reads as at least one of" the kinds; 'Table', lengths of types, names and strings; 'Meaning': "at most 16 levels"; 'Numbers of refusal', 9: a
--- "member named twice" is refused. Tokens are those of LongestMatch. Each relation says that a part of the text s, from one place up to another, derives a tree. Proved one with blockOf, datumOf, dataTokenAt, typeTokenAt. Assumes nothing.
+-- "member named twice" is refused. Tokens are those of LongestMatch. Each relation says that a part of the text s, from one place up to another, derives a tree. Proved one with blockOf, datum_of, data_token_at, type_token_at. Assumes nothing.
 use Rattle.std.specs.Prelude.{◌≡◌, ℕ, suc, ◌≤◌, max, length}
 use Rattle.std.proofs.Math.Option.{none, some}
 use mathlib.Core.List.{List, [], ◌∷◌, Memᴰ}
 use Rattle.lexis.specs.Spelling.{less, greater}
-use Rattle.lexis.specs.Tokens.{textEnd, typeName, name, spelling, inner}
+use Rattle.lexis.specs.Tokens.{text_end, type_name, name, spelling, inner}
 use Rattle.lexis.specs.Tokens
-use Rattle.lexis.specs.DataTokens.{equals, openRound, closeRound, wordRun}
+use Rattle.lexis.specs.DataTokens.{equals, open_round, close_round, word_run}
 use Rattle.lexis.specs.declared.Token.{Token}
-use Rattle.refusals.specs.Limits.{textLimit, nameLimit, stringLimit}
-use Rattle.dadl.specs.Placed.{Block, block, Entries, no_more, entry, PlacedContent, string, word, inside, spelledSpan}
-use Rattle.dadl.specs.Data.{span_of, innerSpan}
+use Rattle.refusals.specs.Limits.{text_limit, name_limit, string_limit}
+use Rattle.dadl.specs.Placed.{Block, block, Entries, no_more, entry, PlacedContent, string, word, inside, spelled_span}
+use Rattle.dadl.specs.Data.{span_of, inner_span}
 use Rattle.lexis.specs.LongestMatch.{NextDataIs, Classed, ClassedBehind}
 use Rattle.values.specs.WordRules.{IsGood}
 
@@ -22,38 +22,38 @@ pub data NextDataToken (s : List ℕ) (from sort : ℕ) : Token → Type 0 where
 
 -- the next token from a place behind `(` on, a TYPE
 pub data NextType (s : List ℕ) (from : ℕ) : Token → Type 0 where
-  nextType : {t : Token} → NextDataIs ClassedBehind s from t → t.sort ≡ typeName → NextType s from t
+  next_type : {t : Token} → NextDataIs ClassedBehind s from t → t.sort ≡ type_name → NextType s from t
 
 -- the names of members
 unfoldable pub names_of : List ℕ → Entries → List (List ℕ)
 names_of s no_more = []
-names_of s (entry w c more) = spelledSpan s w ∷ names_of s more
+names_of s (entry w c more) = spelled_span s w ∷ names_of s more
 
 -- no name is one of those before it
 pub data Distinct : (before names : List (List ℕ)) → Type 0 where
-  noName : {before : List (List ℕ)} → Distinct before []
-  newName : {before names : List (List ℕ)} {w : List ℕ} → ¬ Memᴰ w before → Distinct (w ∷ before) names
+  no_name : {before : List (List ℕ)} → Distinct before []
+  new_name : {before names : List (List ℕ)} {w : List ℕ} → ¬ Memᴰ w before → Distinct (w ∷ before) names
       → Distinct before (w ∷ names)
 
 -- levels of blocks
 unfoldable mutual
-  pub levelsOf : Block → ℕ
-  levelsOf (block p t ms) = suc (memberLevels ms)
+  pub levels_of : Block → ℕ
+  levels_of (block p t ms) = suc (member_levels ms)
 
-  pub memberLevels : Entries → ℕ
-  memberLevels no_more = 0
-  memberLevels (entry w c more) = max (contentLevels c) (memberLevels more)
+  pub member_levels : Entries → ℕ
+  member_levels no_more = 0
+  member_levels (entry w c more) = max (content_levels c) (member_levels more)
 
-  pub contentLevels : PlacedContent → ℕ
-  contentLevels (string p x) = 0
-  contentLevels (word p x) = 0
-  contentLevels (inside b) = levelsOf b
+  pub content_levels : PlacedContent → ℕ
+  content_levels (string p x) = 0
+  content_levels (word p x) = 0
+  content_levels (inside b) = levels_of b
 
 -- a leaf, whose `<` stands at a place: a string, or a good word
 pub data DerivesDataLeaf (s : List ℕ) (place from : ℕ) : PlacedContent → ℕ → Type 0 where
-  aString : {t : Token} → NextDataToken s from Tokens.string t → length (inner s t) ≤ stringLimit
-      → DerivesDataLeaf s place from (string place (innerSpan t)) t.end
-  aWord : {t : Token} → NextDataToken s from wordRun t → IsGood (spelling s t)
+  a_string : {t : Token} → NextDataToken s from Tokens.string t → length (inner s t) ≤ string_limit
+      → DerivesDataLeaf s place from (string place (inner_span t)) t.end
+  a_word : {t : Token} → NextDataToken s from word_run t → IsGood (spelling s t)
       → DerivesDataLeaf s place from (word place (span_of t)) t.end
 
 mutual
@@ -66,10 +66,10 @@ mutual
         → Distinct [] (names_of s ms)
         → DerivesDatum s from (block l.start none ms) g.end
     typed : {from p : ℕ} {o t c l g : Token} {ms : Entries}
-        → NextDataToken s from openRound o
+        → NextDataToken s from open_round o
         → NextType s o.end t
-        → length (spelling s t) ≤ nameLimit
-        → NextDataToken s t.end closeRound c
+        → length (spelling s t) ≤ name_limit
+        → NextDataToken s t.end close_round c
         → NextDataToken s c.end less l
         → DerivesMembers s l.end ms p
         → NextDataToken s p greater g
@@ -78,10 +78,10 @@ mutual
 
   -- no member, or one and more: NAME `=` and its content
   pub data DerivesMembers (s : List ℕ) : ℕ → Entries → ℕ → Type 0 where
-    noMember : {from : ℕ} → DerivesMembers s from no_more from
-    oneMore : {from p q : ℕ} {n e : Token} {c : PlacedContent} {ms : Entries}
+    no_member : {from : ℕ} → DerivesMembers s from no_more from
+    one_more : {from p q : ℕ} {n e : Token} {c : PlacedContent} {ms : Entries}
         → NextDataToken s from name n
-        → length (spelling s n) ≤ nameLimit
+        → length (spelling s n) ≤ name_limit
         → NextDataToken s n.end equals e
         → DerivesContent s e.end c p
         → DerivesMembers s p ms q
@@ -89,11 +89,11 @@ mutual
 
   -- a datum, or `<` leaf `>`
   pub data DerivesContent (s : List ℕ) : ℕ → PlacedContent → ℕ → Type 0 where
-    aDatum : {from p : ℕ} {b : Block} → DerivesDatum s from b p → DerivesContent s from (inside b) p
-    aLeaf : {from p : ℕ} {l g : Token} {c : PlacedContent} → NextDataToken s from less l
+    a_datum : {from p : ℕ} {b : Block} → DerivesDatum s from b p → DerivesContent s from (inside b) p
+    a_leaf : {from p : ℕ} {l g : Token} {c : PlacedContent} → NextDataToken s from less l
         → DerivesDataLeaf s l.start l.end c p → NextDataToken s p greater g → DerivesContent s from c g.end
 
 -- a data text: one datum of at most so many levels, and the text's end behind it
 pub data DerivesData (levels : ℕ) (s : List ℕ) : Block → Type 0 where
-  wholeText : {b : Block} {p : ℕ} {e : Token} → length s ≤ textLimit → DerivesDatum s 0 b p
-      → NextDataToken s p textEnd e → levelsOf b ≤ levels → DerivesData levels s b
+  whole_text : {b : Block} {p : ℕ} {e : Token} → length s ≤ text_limit → DerivesDatum s 0 b p
+      → NextDataToken s p text_end e → levels_of b ≤ levels → DerivesData levels s b

@@ -7,20 +7,20 @@ use Rattle.meaning.specs.Constraints.{Leaf, ObjectHead, Object, AttributeHead, A
 use Rattle.meaning.specs.Constraints
 use Rattle.meaning.specs.Data.{Datum, datum, Members, Content}
 use Rattle.meaning.specs.Data
-use Rattle.meaning.specs.Admission.{leafNumber}
-use Rattle.meaning.specs.Judging.{place_of, objectNumber}
+use Rattle.meaning.specs.Admission.{leaf_number}
+use Rattle.meaning.specs.Judging.{place_of, object_number}
 use Rattle.rules_grammar.specs.Admits.{TypeSuits, MemberOf, Missing, Readable, LeafAdmits, Satisfy}
 
 -- a leaf's value fails with a reason: it is a block, cannot be read as the kind asked, or is not admitted
 pub data LeafFails : Leaf → Content → ℕ → Type 0 where
-  blockForLeaf : {l : Leaf} {d : Datum} → LeafFails l (Data.block d) 20
+  block_for_leaf : {l : Leaf} {d : Datum} → LeafFails l (Data.block d) 20
   unreadable : {l : Leaf} {c : Content} → ¬ Readable l c → LeafFails l c 20
-  notAdmitted : {l : Leaf} {c : Content} → Readable l c → ¬ LeafAdmits l c → LeafFails l c 24
+  not_admitted : {l : Leaf} {c : Content} → Readable l c → ¬ LeafAdmits l c → LeafFails l c 24
 
 mutual
   -- the first failure of a datum under an object: reason, record and data place
   pub data FirstFailure : Object → Datum → (reason number place : ℕ) → Type 0 where
-    typeDiffers : {o : ObjectHead} {p : ℕ} {u : List ℕ} {xs : Attributes} {ms : Members} → o.type ≢ u
+    type_differs : {o : ObjectHead} {p : ℕ} {u : List ℕ} {xs : Attributes} {ms : Members} → o.type ≢ u
         → FirstFailure (Constraints.object o xs) (datum p (some u) ms) 21 o.number p
     inside : {o : ObjectHead} {p r k q : ℕ} {xs : Attributes} {u : Option (List ℕ)} {ms : Members}
         → TypeSuits o.type u
@@ -44,7 +44,7 @@ mutual
         → a.existence ≡ 0
         → MemberOf a.name c ms
         → AttributeFails a v p ms 23 a.number (place_of c)
-    valueFails : {a : AttributeHead} {p r k q : ℕ} {v : Value} {ms : Members} {c : Content}
+    value_fails : {a : AttributeHead} {p r k q : ℕ} {v : Value} {ms : Members} {c : Content}
         → a.existence ≢ 0
         → MemberOf a.name c ms
         → ValueFails v c r k q
@@ -52,11 +52,11 @@ mutual
 
   -- the failure of a member's content under an attribute's value
   pub data ValueFails : Value → Content → (reason number place : ℕ) → Type 0 where
-    stringForBlock : {o : Object} {p : ℕ} {w : List ℕ}
-        → ValueFails (Constraints.nested o) (Data.string p w) 20 (objectNumber o) p
-    wordForBlock : {o : Object} {p : ℕ} {w : List ℕ}
-        → ValueFails (Constraints.nested o) (Data.word p w) 20 (objectNumber o) p
-    blockFails : {o : Object} {d : Datum} {r k q : ℕ} → FirstFailure o d r k q
+    string_for_block : {o : Object} {p : ℕ} {w : List ℕ}
+        → ValueFails (Constraints.nested o) (Data.string p w) 20 (object_number o) p
+    word_for_block : {o : Object} {p : ℕ} {w : List ℕ}
+        → ValueFails (Constraints.nested o) (Data.word p w) 20 (object_number o) p
+    block_fails : {o : Object} {d : Datum} {r k q : ℕ} → FirstFailure o d r k q
         → ValueFails (Constraints.nested o) (Data.block d) r k q
-    leafFails : {l : Leaf} {c : Content} {r : ℕ} → LeafFails l c r
-        → ValueFails (Constraints.leaf l) c r (leafNumber l) (place_of c)
+    leaf_fails : {l : Leaf} {c : Content} {r : ℕ} → LeafFails l c r
+        → ValueFails (Constraints.leaf l) c r (leaf_number l) (place_of c)

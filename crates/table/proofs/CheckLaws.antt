@@ -12,13 +12,13 @@ use borrow.Author.Tests.{eqb-true, leb-true, eq-eqb, le-leb}
 use Rattle.lexis.specs.Bytes.{within}
 use Rattle.lexis.proofs.Cases.{by_cond}
 use Rattle.values.proofs.Common.{by_order}
-use Rattle.refusals.specs.Limits.{recordLimit, poolLimit}
+use Rattle.refusals.specs.Limits.{record_limit, pool_limit}
 use Rattle.refusals.specs.Refusals.{refusal}
 use Rattle.refusals.specs.declared.Cause.TheVariants.{NotATable, BrokenRecord}
-use Rattle.table.specs.Records.{Record, Image, recordSize, fieldCount, isMarked, decode, field, count, header, headerOf, decodes, encodes, image_of, bytes_of}
+use Rattle.table.specs.Records.{Record, Image, record_size, field_count, is_marked, decode, field, count, header, header_of, decodes, encodes, image_of, bytes_of}
 use Rattle.table.specs.Rows.{shape_of, unnamed, row_of}
-use Rattle.table.specs.Check.{kinds, kind_at, fieldRight, fieldsRight, usesOf, flagRight, obeys, clean, allNought, recordRight, broken, framed, brokenRecord, tableFault}
-use Rattle.table.specs.Names.{recordAt}
+use Rattle.table.specs.Check.{kinds, kind_at, field_right, fields_right, uses_of, flag_right, obeys, clean, all_nought, record_right, broken, framed, broken_record, table_fault}
+use Rattle.table.specs.Names.{record_at}
 use Rattle.table.proofs.Checked.{RecordGood, RecordsGood, Checked}
 use Rattle.table.proofs.RecordLaws.{Fits, AllFit, ImageFits, fit-counted, decode-counted, bytes-marked, marked-part, drop-front, length-decodes, length-bytes, header-of-bytes, bytes-behind, image-of-bytes}
 use Rattle.table.proofs.UseLaws.{Passed, each-passed, uses-counted, use-at, row-tied, fields-small}
@@ -26,19 +26,19 @@ use Rattle.table.proofs.UseLaws.{Passed, each-passed, uses-counted, use-at, row-
 module _ {m : Image} {n : ℕ} {r : Record} (g : RecordGood m n r) where
   -- a good record passes the tests of its kind and its flag, of its fields and of all of them
   pub good-tests : Passed
-      (flagRight r.kind r.flag ∷ fieldsRight m n (usesOf r) r.fields ∷ (row_of r.kind).across m n r.fields
+      (flag_right r.kind r.flag ∷ fields_right m n (uses_of r) r.fields ∷ (row_of r.kind).across m n r.fields
       ∷ [])
   unfolding obeys
-  good-tests = each-passed (flagRight r.kind r.flag) (fieldsRight m n (usesOf r) r.fields ∷ (row_of r.kind).across m n r.fields ∷ []) g.obeyed
+  good-tests = each-passed (flag_right r.kind r.flag) (fields_right m n (uses_of r) r.fields ∷ (row_of r.kind).across m n r.fields ∷ []) g.obeyed
 
   -- its fields keep their rules
-  pub good-fields : fieldsRight m n (usesOf r) r.fields ≡ true
+  pub good-fields : fields_right m n (uses_of r) r.fields ≡ true
   good-fields = good-tests.1.0
 
   -- the field at a place keeps the rule of what it is
-  pub field_at : (i : ℕ) → i < fieldCount
-      → fieldRight m n (get_or (usesOf r) i unnamed) (field r i) (field r (suc i)) ≡ true
-  field_at i h = use-at m n (usesOf r) r.fields i good-fields (rw (uses-counted (shape_of r.kind) r.fields) h) (rw g.counted h)
+  pub field_at : (i : ℕ) → i < field_count
+      → field_right m n (get_or (uses_of r) i unnamed) (field r i) (field r (suc i)) ≡ true
+  field_at i h = use-at m n (uses_of r) r.fields i good-fields (rw (uses-counted (shape_of r.kind) r.fields) h) (rw g.counted h)
 
 -- of good records each is good
 pub good-at : {m : Image} (i k : ℕ) (rs : List Record) (d : Record) → RecordsGood m i rs → k < length rs
@@ -54,28 +54,28 @@ kinds-at (r ∷ rs) d zero = refl
 kinds-at (r ∷ rs) d (suc n) = kinds-at rs d n
 
 -- the kind at a number is that of the record there
-pub kind-record : (m : Image) (n : ℕ) → kind_at m n ≡ (recordAt m n).kind
-kind-record m n = kinds-at (headerOf m ∷ m.records) (headerOf m) n
+pub kind-record : (m : Image) (n : ℕ) → kind_at m n ≡ (record_at m n).kind
+kind-record m n = kinds-at (header_of m ∷ m.records) (header_of m) n
 
 -- the record with a number of a checked table is good
-pub record-good : (m : Image) (n : ℕ) → Checked m → 1 ≤ n → n < count m → RecordGood m n (recordAt m n)
+pub record-good : (m : Image) (n : ℕ) → Checked m → 1 ≤ n → n < count m → RecordGood m n (record_at m n)
 record-good m zero h l k = absurd (not-suc-le-zero l)
 record-good m (suc n) h l k =
     let e : 1 + n ≡ suc n = omega arith in
-    rw (← e) (good-at 1 n m.records (headerOf m) h.records (le_of_suc-le-suc k))
+    rw (← e) (good-at 1 n m.records (header_of m) h.records (le_of_suc-le-suc k))
 
 -- a good record fits, where records and pool are within their limits
-pub good-fits : {m : Image} {n : ℕ} {r : Record} → RecordGood m n r → count m ≤ recordLimit
-    → length m.pool ≤ poolLimit → Fits r
+pub good-fits : {m : Image} {n : ℕ} {r : Record} → RecordGood m n r → count m ≤ record_limit
+    → length m.pool ≤ pool_limit → Fits r
 unfolding clean
 good-fits {m} {n} {r} g few small = record {
   counted = g.counted;
-  small = fields-small m few small n false (usesOf r) r.fields (row-tied (shape_of r.kind) r.fields) (λ e. absurd (false≢true e)) (rw (g.counted, uses-counted (shape_of r.kind) r.fields) (omega arith)) (good-fields g) g.cleaned;
+  small = fields-small m few small n false (uses_of r) r.fields (row-tied (shape_of r.kind) r.fields) (λ e. absurd (false≢true e)) (rw (g.counted, uses-counted (shape_of r.kind) r.fields) (omega arith)) (good-fields g) g.cleaned;
 }
 
 -- so do good records
-goods-fit : (m : Image) (i : ℕ) (rs : List Record) → RecordsGood m i rs → count m ≤ recordLimit
-    → length m.pool ≤ poolLimit → AllFit rs
+goods-fit : (m : Image) (i : ℕ) (rs : List Record) → RecordsGood m i rs → count m ≤ record_limit
+    → length m.pool ≤ pool_limit → AllFit rs
 goods-fit m i [] g few small = tt
 goods-fit m i (r ∷ rs) g few small = (good-fits g.0 few small, goods-fit m (suc i) rs g.1 few small)
 
@@ -108,15 +108,15 @@ image-back little m h = image-of-bytes little m (image-fits m h)
 
 -- the frame: the length, the header and the root
 pub record Framed (bs : List ℕ) : Type 0 where
-  pub long : recordSize ≤ length bs
-  pub mark : isMarked bs ≡ true
+  pub long : record_size ≤ length bs
+  pub mark : is_marked bs ≡ true
   pub kind : (header bs).kind ≡ 0
   pub flag : (header bs).flag ≡ 0
-  pub rest : allNought (drop 3 (header bs).fields) ≡ true
+  pub rest : all_nought (drop 3 (header bs).fields) ≡ true
   pub some : 2 ≤ field (header bs) 0
-  pub few : field (header bs) 0 ≤ recordLimit
-  pub pool : field (header bs) 1 ≤ poolLimit
-  pub whole : length bs ≡ recordSize * field (header bs) 0 + field (header bs) 1
+  pub few : field (header bs) 0 ≤ record_limit
+  pub pool : field (header bs) 1 ≤ pool_limit
+  pub whole : length bs ≡ record_size * field (header bs) 0 + field (header bs) 1
   pub root : kind_at (image_of bs) (field (header bs) 2) ≡ 1
 
 -- what passes the test has the frame
@@ -124,26 +124,26 @@ pub framed_is : (bs : List ℕ) → framed bs ≡ true → Framed bs
 unfolding framed
 framed_is bs e =
     let h = header bs in
-    let p = each-passed (leb recordSize (length bs)) (
-    isMarked bs
-    ∷ (eqb h.kind 0 && eqb h.flag 0 && allNought (drop 3 h.fields))
-    ∷ within 2 recordLimit (field h 0)
-    ∷ leb (field h 1) poolLimit
-    ∷ eqb (length bs) (recordSize * field h 0 + field h 1)
+    let p = each-passed (leb record_size (length bs)) (
+    is_marked bs
+    ∷ (eqb h.kind 0 && eqb h.flag 0 && all_nought (drop 3 h.fields))
+    ∷ within 2 record_limit (field h 0)
+    ∷ leb (field h 1) pool_limit
+    ∷ eqb (length bs) (record_size * field h 0 + field h 1)
     ∷ eqb (kind_at (image_of bs) (field h 2)) 1
     ∷ []) e in
-    let q = each-passed (eqb h.kind 0) (eqb h.flag 0 ∷ allNought (drop 3 h.fields) ∷ []) p.1.1.0 in
-    let c = each-passed (leb 2 (field h 0)) (leb (field h 0) recordLimit ∷ []) p.1.1.1.0 in
+    let q = each-passed (eqb h.kind 0) (eqb h.flag 0 ∷ all_nought (drop 3 h.fields) ∷ []) p.1.1.0 in
+    let c = each-passed (leb 2 (field h 0)) (leb (field h 0) record_limit ∷ []) p.1.1.1.0 in
     record {
-      long = leb-true recordSize (length bs) p.0;
+      long = leb-true record_size (length bs) p.0;
       mark = p.1.0;
       kind = eqb-true h.kind 0 q.0;
       flag = eqb-true h.flag 0 q.1.0;
       rest = q.1.1.0;
       some = leb-true 2 (field h 0) c.0;
-      few = leb-true (field h 0) recordLimit c.1.0;
-      pool = leb-true (field h 1) poolLimit p.1.1.1.1.0;
-      whole = eqb-true (length bs) (recordSize * field h 0 + field h 1) p.1.1.1.1.1.0;
+      few = leb-true (field h 0) record_limit c.1.0;
+      pool = leb-true (field h 1) pool_limit p.1.1.1.1.0;
+      whole = eqb-true (length bs) (record_size * field h 0 + field h 1) p.1.1.1.1.1.0;
       root = eqb-true (kind_at (image_of bs) (field h 2)) 1 p.1.1.1.1.1.1.0;
     }
 
@@ -153,15 +153,15 @@ unfolding framed
 is_framed bs f =
     let h = header bs in
     rw (
-      le-leb recordSize (length bs) f.long,
+      le-leb record_size (length bs) f.long,
       f.mark,
       f.kind,
       f.flag,
       f.rest,
       le-leb 2 (field h 0) f.some,
-      le-leb (field h 0) recordLimit f.few,
-      le-leb (field h 1) poolLimit f.pool,
-      eq-eqb (length bs) (recordSize * field h 0 + field h 1) f.whole,
+      le-leb (field h 0) record_limit f.few,
+      le-leb (field h 1) pool_limit f.pool,
+      eq-eqb (length bs) (record_size * field h 0 + field h 1) f.whole,
       f.root,
     )
 
@@ -170,7 +170,7 @@ no-fault : {A P : Type 0} (a : A) → some a ≡ none → P
 no-fault a e = let z : ◌≡◌ {A = ℕ} 0 1 = cc in absurd (omega arith)
 
 -- where no record is told there is none
-none-broken : (o : Option ℕ) → brokenRecord o ≡ none → o ≡ none
+none-broken : (o : Option ℕ) → broken_record o ≡ none → o ≡ none
 none-broken none e = refl
 none-broken (some n) e = no-fault (refusal BrokenRecord n) e
 
@@ -180,11 +180,11 @@ pub unbroken-good : (m : Image) (n k : ℕ) (bs : List ℕ) → broken m n (deco
 unfolding broken
 unbroken-good m n zero bs e = tt
 unbroken-good m n (suc k) bs e =
-    let r = decode (take recordSize bs) in
-    by_cond (λ o. o ≡ none → RecordsGood m n (decodes (suc k) bs)) (recordRight m n (take recordSize bs) r)
+    let r = decode (take record_size bs) in
+    by_cond (λ o. o ≡ none → RecordsGood m n (decodes (suc k) bs)) (record_right m n (take record_size bs) r)
     (λ t h.
-    let p = each-passed (isMarked (take recordSize bs)) (obeys m n r ∷ clean r ∷ []) t in
-    (record { counted = decode-counted (take recordSize bs); obeyed = p.1.0; cleaned = p.1.1.0 }, unbroken-good m (suc n) k (drop recordSize bs) h))
+    let p = each-passed (is_marked (take record_size bs)) (obeys m n r ∷ clean r ∷ []) t in
+    (record { counted = decode-counted (take record_size bs); obeyed = p.1.0; cleaned = p.1.1.0 }, unbroken-good m (suc n) k (drop record_size bs) h))
     (λ t. no-fault n) e
 
 -- good records are not broken, written in either order
@@ -200,7 +200,7 @@ module _ (bs : List ℕ) (f : Framed bs) where
   -- what has the frame holds as many records as its header says
   pub count-framed : count (image_of bs) ≡ field (header bs) 0
   unfolding image_of
-  count-framed = rw (length-decodes (field (header bs) 0 - 1) (drop recordSize bs)) (omega arith)
+  count-framed = rw (length-decodes (field (header bs) 0 - 1) (drop record_size bs)) (omega arith)
 
   -- and as long a pool
   pub pool-framed : length (image_of bs).pool ≡ field (header bs) 1
@@ -210,19 +210,19 @@ module _ (bs : List ℕ) (f : Framed bs) where
 -- the frame is there, and no record is broken
 pub record Sound (bs : List ℕ) : Type 0 where
   pub frame : Framed bs
-  pub whole : broken (image_of bs) 1 (image_of bs).records (drop recordSize bs) ≡ none
+  pub whole : broken (image_of bs) 1 (image_of bs).records (drop record_size bs) ≡ none
 
 -- bytes that pass the check are so
-pub fault-none : (bs : List ℕ) → tableFault bs ≡ none → Sound bs
-unfolding tableFault
+pub fault-none : (bs : List ℕ) → table_fault bs ≡ none → Sound bs
+unfolding table_fault
 fault-none bs =
-    let told = broken (image_of bs) 1 (image_of bs).records (drop recordSize bs) in
+    let told = broken (image_of bs) 1 (image_of bs).records (drop record_size bs) in
     by_cond (λ o. o ≡ none → Sound bs) (framed bs)
     (λ t e. record { frame = framed_is bs t; whole = none-broken told e })
     (λ t. no-fault (refusal NotATable 0))
 
 -- bytes that pass the check hold a checked table
-pub check_sound : (bs : List ℕ) → tableFault bs ≡ none → Checked (image_of bs)
+pub check_sound : (bs : List ℕ) → table_fault bs ≡ none → Checked (image_of bs)
 unfolding image_of
 check_sound bs e =
     let s = fault-none bs e in
@@ -233,7 +233,7 @@ check_sound bs e =
       few = omega arith;
       pool = omega arith;
       root = s.frame.root;
-      records = unbroken-good (image_of bs) 1 (field (header bs) 0 - 1) (drop recordSize bs) s.whole;
+      records = unbroken-good (image_of bs) 1 (field (header bs) 0 - 1) (drop record_size bs) s.whole;
     }
 
 -- a checked table, written in either order, has the frame
@@ -247,7 +247,7 @@ bytes-framed little m h =
       mark = bytes-marked little m;
       kind = ap (λ r. r.kind) e;
       flag = ap (λ r. r.flag) e;
-      rest = ap (λ r. allNought (drop 3 r.fields)) e;
+      rest = ap (λ r. all_nought (drop 3 r.fields)) e;
       some = rw e h.some;
       few = rw e h.few;
       pool = rw e h.pool;
@@ -256,7 +256,7 @@ bytes-framed little m h =
     }
 
 -- a checked table, written in either order, passes the check
-pub check-complete : (little : Bool) (m : Image) → Checked m → tableFault (bytes_of little m) ≡ none
-unfolding tableFault
+pub check-complete : (little : Bool) (m : Image) → Checked m → table_fault (bytes_of little m) ≡ none
+unfolding table_fault
 check-complete little m h =
     rw (is_framed (bytes_of little m) (bytes-framed little m h), image-back little m h, bytes-behind little m, good-unbroken little m 1 m.records m.pool h.records)

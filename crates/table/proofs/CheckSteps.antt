@@ -10,12 +10,12 @@ use lib.ListN.{length, take, drop}
 use lib.Seq.{drop-drop}
 use borrow.Author.Tests.{not-true, not-false, le-leb, lt-leb, eqb-true, leb-true}
 use Rattle.lexis.proofs.Cases.{and_left, and_right}
-use Rattle.refusals.specs.Limits.{recordLimit, poolLimit}
+use Rattle.refusals.specs.Limits.{record_limit, pool_limit}
 use Rattle.refusals.specs.Refusals.{refusal}
 use Rattle.refusals.specs.declared.Cause.TheVariants.{NotATable, BrokenRecord}
-use Rattle.table.specs.Records.{recordSize, isMarked, decode, field, header, decodes, image_of}
-use Rattle.table.specs.Check.{kind_at, obeys, clean, recordRight, broken, brokenRecord, framed, tableFault}
-use Rattle.table.specs.contracts.Answers.{recordOf, Opened, plainHeader, countsRight, faultOf}
+use Rattle.table.specs.Records.{record_size, is_marked, decode, field, header, decodes, image_of}
+use Rattle.table.specs.Check.{kind_at, obeys, clean, record_right, broken, broken_record, framed, table_fault}
+use Rattle.table.specs.Clauses.Answers.{record_of, Opened, plain_header, counts_right, fault_of}
 use Rattle.table.specs.declared.records.Entry.{Entry}
 use Rattle.table.specs.declared.records.Frame.{Frame}
 use Rattle.table.specs.declared.check.CheckAnswer.{CheckAnswer}
@@ -28,24 +28,24 @@ use Rattle.table.proofs.FrameLaws.{framed-opened}
 module _ (bs : List ℕ) where
   pub too_short : length bs < 24 → false ≡ framed bs
   unfolding framed
-  too_short h = rw (lt-leb recordSize (length bs) h)
+  too_short h = rw (lt-leb record_size (length bs) h)
 
-  module _ (k : Bool) (l : 24 ≤ length bs) (e : k ≡ isMarked bs) where
+  module _ (k : Bool) (l : 24 ≤ length bs) (e : k ≡ is_marked bs) where
     pub unmarked : not k ≡ true → false ≡ framed bs
     unfolding framed
-    unmarked h = rw (le-leb recordSize (length bs) l, ← e, not-true k h)
+    unmarked h = rw (le-leb record_size (length bs) l, ← e, not-true k h)
 
     -- and those of the header that was read, in the order taken
-    module _ (h : Entry) (m : not k ≡ false) (q : recordOf h ≡ decode (take recordSize bs)) where
-      framed-chain : framed bs ≡ (plainHeader h && (countsRight h (length bs) && eqb (kind_at (image_of bs) h.c) 1))
+    module _ (h : Entry) (m : not k ≡ false) (q : record_of h ≡ decode (take record_size bs)) where
+      framed-chain : framed bs ≡ (plain_header h && (counts_right h (length bs) && eqb (kind_at (image_of bs) h.c) 1))
       unfolding framed
-      framed-chain = rw (le-leb recordSize (length bs) l, ← e, not-false k m, ← q) (simp and_assoc)
+      framed-chain = rw (le-leb record_size (length bs) l, ← e, not-false k m, ← q) (simp and_assoc)
 
-      module _ (p : Bool) (ep : p ≡ plainHeader h) where
+      module _ (p : Bool) (ep : p ≡ plain_header h) where
         pub not_plain : not p ≡ true → false ≡ framed bs
         not_plain g = rw (framed-chain, ← ep, not-true p g)
 
-        module _ (c : Bool) (gp : not p ≡ false) (ec : c ≡ countsRight h (length bs)) where
+        module _ (c : Bool) (gp : not p ≡ false) (ec : c ≡ counts_right h (length bs)) where
           pub counts-wrong : not c ≡ true → false ≡ framed bs
           counts-wrong g = rw (framed-chain, ← ep, not-false p gp, ← ec, not-true c g)
 
@@ -53,13 +53,13 @@ module _ (bs : List ℕ) where
           root_told r g er = rw (framed-chain, ← ep, not-false p gp, ← ec, not-false c g, ← er)
 
 -- counts that are right open the table
-pub counts-open : (bs : List ℕ) (h : Entry) (c : Bool) → recordOf h ≡ decode (take recordSize bs)
-    → c ≡ countsRight h (length bs) → not c ≡ false
+pub counts-open : (bs : List ℕ) (h : Entry) (c : Bool) → record_of h ≡ decode (take record_size bs)
+    → c ≡ counts_right h (length bs) → not c ≡ false
     → Opened bs (record { count = h.a; pool = h.b })
 counts-open bs h c q e g =
-    let few = leb h.a recordLimit in
-    let small = leb h.b poolLimit in
-    let whole = eqb (length bs) (recordSize * h.a + h.b) in
+    let few = leb h.a record_limit in
+    let small = leb h.b pool_limit in
+    let whole = eqb (length bs) (record_size * h.a + h.b) in
     let t : (leb 2 h.a && (few && (small && whole))) ≡ true = sym e ∙ not-false c g in
     let t1 = and_right (leb 2 h.a) (few && (small && whole)) t in
     let t2 = and_right few (small && whole) t1 in
@@ -67,22 +67,22 @@ counts-open bs h c q e g =
       records = ap (λ r. field r 0) q;
       bytes = ap (λ r. field r 1) q;
       some = leb-true 2 h.a (and_left (leb 2 h.a) (few && (small && whole)) t);
-      few = leb-true h.a recordLimit (and_left few (small && whole) t1);
-      small = leb-true h.b poolLimit (and_left small whole t2);
-      whole = eqb-true (length bs) (recordSize * h.a + h.b) (and_right small whole t2);
+      few = leb-true h.a record_limit (and_left few (small && whole) t1);
+      small = leb-true h.b pool_limit (and_left small whole t2);
+      whole = eqb-true (length bs) (record_size * h.a + h.b) (and_right small whole t2);
     }
 
 -- a record: its mark and its rules
-module _ (bs : List ℕ) (n at : ℕ) (k : Bool) (ea : at ≡ recordSize * n) (e : k ≡ isMarked (drop at bs)) where
+module _ (bs : List ℕ) (n at : ℕ) (k : Bool) (ea : at ≡ record_size * n) (e : k ≡ is_marked (drop at bs)) where
   pub record-unmarked : k ≡ false
-      → k ≡ recordRight (image_of bs) n (take recordSize (drop (recordSize * n) bs))
-      (decode (take recordSize (drop (recordSize * n) bs)))
+      → k ≡ record_right (image_of bs) n (take record_size (drop (record_size * n) bs))
+      (decode (take record_size (drop (record_size * n) bs)))
   record-unmarked h = rw (← ea, marked-in bs at, ← e, h)
 
-  pub record-ruled : (x : Entry) (r : Bool) → k ≡ true → recordOf x ≡ decode (take recordSize (drop at bs))
-      → r ≡ (obeys (image_of bs) n (recordOf x) && clean (recordOf x))
-      → r ≡ recordRight (image_of bs) n (take recordSize (drop (recordSize * n) bs))
-      (decode (take recordSize (drop (recordSize * n) bs)))
+  pub record-ruled : (x : Entry) (r : Bool) → k ≡ true → record_of x ≡ decode (take record_size (drop at bs))
+      → r ≡ (obeys (image_of bs) n (record_of x) && clean (record_of x))
+      → r ≡ record_right (image_of bs) n (take record_size (drop (record_size * n) bs))
+      (decode (take record_size (drop (record_size * n) bs)))
   record-ruled x r h q g = rw (← ea, marked-in bs at, ← e, h, ← q) g
 
 -- the records from number n on are at fault as all are
@@ -90,8 +90,8 @@ pub record Reached (bs : List ℕ) (f : Frame) (n : ℕ) : Type 0 where
   pub low : 1 ≤ n
   pub high : n ≤ f.count
   pub opened : Opened bs f
-  pub is : broken (image_of bs) n (decodes (f.count - n) (drop (recordSize * n) bs))
-      (drop (recordSize * n) bs) ≡ broken (image_of bs) 1 (image_of bs).records (drop recordSize bs)
+  pub is : broken (image_of bs) n (decodes (f.count - n) (drop (record_size * n) bs))
+      (drop (record_size * n) bs) ≡ broken (image_of bs) 1 (image_of bs).records (drop record_size bs)
 
 pub reach-first : (bs : List ℕ) (f : Frame) → Opened bs f → Reached bs f 1
 unfolding image_of
@@ -99,50 +99,50 @@ reach-first bs f o = record { low = omega arith; high = omega arith; opened = o;
 
 module _ (bs : List ℕ) (f : Frame) (n : ℕ) (i : Reached bs f n) where
   pub reach-end : f.count ≤ n
-      → faultOf Passed ≡ brokenRecord (broken (image_of bs) 1 (image_of bs).records (drop recordSize bs))
+      → fault_of Passed ≡ broken_record (broken (image_of bs) 1 (image_of bs).records (drop record_size bs))
   unfolding broken
   reach-end h =
       let z : f.count - n ≡ 0 = omega arith in
-      ap brokenRecord (rw z at i.is)
+      ap broken_record (rw z at i.is)
 
   module _ (r : Bool) (h : n < f.count)
-      (e : r ≡ recordRight (image_of bs) n (take recordSize (drop (recordSize * n) bs))
-      (decode (take recordSize (drop (recordSize * n) bs)))) where
+      (e : r ≡ record_right (image_of bs) n (take record_size (drop (record_size * n) bs))
+      (decode (take record_size (drop (record_size * n) bs)))) where
     one_more : f.count - n ≡ suc (f.count - (n + 1))
     one_more = omega arith
 
     pub reach-fault : not r ≡ true
-        → faultOf (Refused (refusal BrokenRecord n))
-        ≡ brokenRecord (broken (image_of bs) 1 (image_of bs).records (drop recordSize bs))
+        → fault_of (Refused (refusal BrokenRecord n))
+        ≡ broken_record (broken (image_of bs) 1 (image_of bs).records (drop record_size bs))
     unfolding broken
-    reach-fault g = ap brokenRecord (rw (one_more, ← e, not-true r g) at i.is)
+    reach-fault g = ap broken_record (rw (one_more, ← e, not-true r g) at i.is)
 
     pub reach-next : not r ≡ false → Reached bs f (n + 1)
     unfolding broken
     reach-next g =
-        let s : recordSize * n + recordSize ≡ recordSize * (n + 1) = omega arith in
-        record { low = omega arith; high = omega arith; opened = i.opened; is = rw (one_more, ← e, not-false r g, drop-drop recordSize (recordSize * n) bs, s, ← (add-one n)) at i.is }
+        let s : record_size * n + record_size ≡ record_size * (n + 1) = omega arith in
+        record { low = omega arith; high = omega arith; opened = i.opened; is = rw (one_more, ← e, not-false r g, drop-drop record_size (record_size * n) bs, s, ← (add-one n)) at i.is }
 
 -- the whole check
 module _ (bs : List ℕ) (b : Bool) (e : b ≡ framed bs) where
-  pub no_table : not b ≡ true → faultOf (Refused (refusal NotATable 0)) ≡ tableFault bs
-  unfolding tableFault
+  pub no_table : not b ≡ true → fault_of (Refused (refusal NotATable 0)) ≡ table_fault bs
+  unfolding table_fault
   no_table h = rw (← e, not-true b h)
 
   module _ (h : not b ≡ false) where
     passed : framed bs ≡ true
     passed = sym e ∙ not-false b h
 
-    pub long-enough : recordSize ≤ length bs
+    pub long-enough : record_size ≤ length bs
     long-enough = (framed_is bs passed).long
 
     pub table-open : (f : Frame) → (f.count ≡ field (header bs) 0) × (f.pool ≡ field (header bs) 1) → Opened bs f
     table-open f q = framed-opened bs f (framed_is bs passed) q.0 q.1
 
     pub table-told : (a : CheckAnswer)
-        → faultOf a ≡ brokenRecord (broken (image_of bs) 1 (image_of bs).records (drop recordSize bs))
-        → faultOf a ≡ tableFault bs
-    unfolding tableFault
+        → fault_of a ≡ broken_record (broken (image_of bs) 1 (image_of bs).records (drop record_size bs))
+        → fault_of a ≡ table_fault bs
+    unfolding table_fault
     table-told a q = rw passed q
 
 pub ruleset check-steps = (too_short, unmarked, not_plain, counts-wrong, root_told, counts-open, record-unmarked, record-ruled, reach-first, reach-end, reach-fault, reach-next, no_table, long-enough, table-open, table-told)

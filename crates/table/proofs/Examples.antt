@@ -6,15 +6,15 @@ use mathlib.Core.List.{List, []}
 use Prim.Native.Nat.{ℕ}
 use lib.Dec.{eqb}
 use Rattle.lexis.specs.Runs.{same}
-use Rattle.refusals.proofs.Examples.{isRefusal, is_refused, isGiven}
+use Rattle.refusals.proofs.Examples.{is_refusal, is_refused, is_given}
 use Rattle.refusals.specs.declared.Refusal.{Refusal}
 use Rattle.meaning.specs.Constraints.{Object}
-use Rattle.meaning.proofs.Trees.{objectList}
+use Rattle.meaning.proofs.Trees.{object_list}
 use Rattle.table.specs.Order.{put, get}
-use Rattle.table.specs.Records.{Record, numberSize, isLittle, isMarked, decode, encode, image_of, bytes_of}
-use Rattle.table.specs.Check.{tableFault}
-use Rattle.table.specs.Names.{nameAnswer, sliceBytes}
-use Rattle.table.specs.Trees.{objectAt}
+use Rattle.table.specs.Records.{Record, number_size, is_little, is_marked, decode, encode, image_of, bytes_of}
+use Rattle.table.specs.Check.{table_fault}
+use Rattle.table.specs.Names.{name_answer, slice_bytes}
+use Rattle.table.specs.Trees.{object_at}
 
 abbrev pub alike : Bool → Bool → Bool
 alike true b = b
@@ -24,23 +24,23 @@ alike false b = not b
 pub data NumberCase : Type 0 where
   spelled : (little : Bool) (number : ℕ) (four : List ℕ) → NumberCase
 
-unfoldable pub numberRight : NumberCase → Bool
-numberRight (spelled little n bs) = same (put little numberSize n) bs && eqb (get little bs) n
+unfoldable pub number_right : NumberCase → Bool
+number_right (spelled little n bs) = same (put little number_size n) bs && eqb (get little bs) n
 
 -- records
 pub data RecordCase : Type 0 where
   holds : (bytes : List ℕ) (little : Bool) (kind flag : ℕ) (fields : List ℕ) → RecordCase
   marked : (bytes : List ℕ) (good : Bool) → RecordCase
 
-abbrev pub isRecord : Record → ℕ → ℕ → List ℕ → Bool
-isRecord r kind flag fields = eqb r.kind kind && eqb r.flag flag && same r.fields fields
+abbrev pub is_record : Record → ℕ → ℕ → List ℕ → Bool
+is_record r kind flag fields = eqb r.kind kind && eqb r.flag flag && same r.fields fields
 
-unfoldable pub recordRight : RecordCase → Bool
-recordRight (holds bs little kind flag fields) =
-    alike (isLittle bs) little
-    && isRecord (decode bs) kind flag fields
+unfoldable pub record_right : RecordCase → Bool
+record_right (holds bs little kind flag fields) =
+    alike (is_little bs) little
+    && is_record (decode bs) kind flag fields
     && same (encode little (record { kind = kind; flag = flag; fields = fields })) bs
-recordRight (marked bs good) = alike (isMarked bs) good
+record_right (marked bs good) = alike (is_marked bs) good
 
 -- the check, and a table's bytes written anew in either order
 pub data CheckCase : Type 0 where
@@ -48,42 +48,42 @@ pub data CheckCase : Type 0 where
   refuses : List ℕ → (number place : ℕ) → CheckCase
   rewrites : List ℕ → (little : Bool) → List ℕ → CheckCase
 
-abbrev pub isFault : Option Refusal → ℕ → ℕ → Bool
-isFault none number place = false
-isFault (some r) number place = isRefusal r number place
+abbrev pub is_fault : Option Refusal → ℕ → ℕ → Bool
+is_fault none number place = false
+is_fault (some r) number place = is_refusal r number place
 
-abbrev pub noFault : Option Refusal → Bool
-noFault none = true
-noFault (some r) = false
+abbrev pub no_fault : Option Refusal → Bool
+no_fault none = true
+no_fault (some r) = false
 
-unfoldable pub checkRight : CheckCase → Bool
-checkRight (passes bs) = noFault (tableFault bs)
-checkRight (refuses bs number place) = isFault (tableFault bs) number place
-checkRight (rewrites bs little out) = noFault (tableFault bs) && same (bytes_of little (image_of bs)) out
+unfoldable pub check_right : CheckCase → Bool
+check_right (passes bs) = no_fault (table_fault bs)
+check_right (refuses bs number place) = is_fault (table_fault bs) number place
+check_right (rewrites bs little out) = no_fault (table_fault bs) && same (bytes_of little (image_of bs)) out
 
 -- names
 pub data NameCase : Type 0 where
   names : List ℕ → (n : ℕ) → (start length : ℕ) → (name : List ℕ) → NameCase
-  noName : List ℕ → (n : ℕ) → (number place : ℕ) → NameCase
+  no_name : List ℕ → (n : ℕ) → (number place : ℕ) → NameCase
 
-unfoldable pub nameRight : NameCase → Bool
-nameRight (names bs n start length name) =
-    isGiven (nameAnswer bs n) (λ p. eqb p.start start && eqb p.length length) && same (sliceBytes bs (nameAnswer bs n)) name
-nameRight (noName bs n number place) = is_refused (nameAnswer bs n) (λ r. isRefusal r number place) && same (sliceBytes bs (nameAnswer bs n)) []
+unfoldable pub name_right : NameCase → Bool
+name_right (names bs n start length name) =
+    is_given (name_answer bs n) (λ p. eqb p.start start && eqb p.length length) && same (slice_bytes bs (name_answer bs n)) name
+name_right (no_name bs n number place) = is_refused (name_answer bs n) (λ r. is_refusal r number place) && same (slice_bytes bs (name_answer bs n)) []
 
 -- the tree of an object of the table
 pub data TreeCase : Type 0 where
   tree : List ℕ → (n : ℕ) → Object → TreeCase
-  noTree : List ℕ → (n : ℕ) → TreeCase
+  no_tree : List ℕ → (n : ℕ) → TreeCase
 
-abbrev pub isTree : Option Object → List ℕ → Bool
-isTree none l = false
-isTree (some o) l = same (objectList o) l
+abbrev pub is_tree : Option Object → List ℕ → Bool
+is_tree none l = false
+is_tree (some o) l = same (object_list o) l
 
-abbrev pub isMissing : Option Object → Bool
-isMissing none = true
-isMissing (some o) = false
+abbrev pub is_missing : Option Object → Bool
+is_missing none = true
+is_missing (some o) = false
 
-unfoldable pub treeRight : TreeCase → Bool
-treeRight (tree bs n o) = isTree (objectAt (image_of bs) n) (objectList o)
-treeRight (noTree bs n) = isMissing (objectAt (image_of bs) n)
+unfoldable pub tree_right : TreeCase → Bool
+tree_right (tree bs n o) = is_tree (object_at (image_of bs) n) (object_list o)
+tree_right (no_tree bs n) = is_missing (object_at (image_of bs) n)

@@ -6,10 +6,10 @@ use native.Mathlib.Nat.{not-suc-le-zero, le_of_suc-le-suc}
 use native.Mathlib.Omega.{arith}
 use lib.ListN.{length, get_or, take, drop, length-take, length-drop, get_or-eq_default}
 use lib.Seq.{drop-drop, get_or-take, get_or-drop}
-use Rattle.table.specs.Records.{Record, recordSize, decode, field, count, header, headerOf, decodes, image_of}
+use Rattle.table.specs.Records.{Record, record_size, decode, field, count, header, header_of, decodes, image_of}
 use Rattle.table.specs.Check.{kinds, kind_at}
-use Rattle.table.specs.Names.{recordAt}
-use Rattle.table.specs.contracts.Answers.{recordOf, Opened}
+use Rattle.table.specs.Names.{record_at}
+use Rattle.table.specs.Clauses.Answers.{record_of, Opened}
 use Rattle.table.specs.declared.records.Entry.{Entry}
 use Rattle.table.specs.declared.records.Frame.{Frame}
 use Rattle.table.proofs.RecordLaws.{length-decodes}
@@ -18,23 +18,23 @@ use Rattle.table.proofs.CheckLaws.{length-kinds}
 
 -- the record so many records on decodes the bytes there
 pub decodes-at : (k j : ℕ) (bs : List ℕ) (d : Record) → j < k
-    → get_or (decodes k bs) j d ≡ decode (take recordSize (drop (recordSize * j) bs))
+    → get_or (decodes k bs) j d ≡ decode (take record_size (drop (record_size * j) bs))
 decodes-at zero j bs d h = absurd (not-suc-le-zero h)
 decodes-at (suc k) zero bs d h = refl
 decodes-at (suc k) (suc j) bs d h =
-    let e : recordSize + recordSize * j ≡ recordSize * suc j = omega arith in
-    decodes-at k j (drop recordSize bs) d (le_of_suc-le-suc h) ∙ rw (drop-drop (recordSize * j) recordSize bs, e)
+    let e : record_size + record_size * j ≡ record_size * suc j = omega arith in
+    decodes-at k j (drop record_size bs) d (le_of_suc-le-suc h) ∙ rw (drop-drop (record_size * j) record_size bs, e)
 
 -- a record's kind is its third byte
-pub decode-kind : (bs : List ℕ) (at : ℕ) → (decode (take recordSize (drop at bs))).kind ≡ get_or bs (at + 2) 0
+pub decode-kind : (bs : List ℕ) (at : ℕ) → (decode (take record_size (drop at bs))).kind ≡ get_or bs (at + 2) 0
 unfolding decode
-decode-kind bs at = get_or-take recordSize (drop at bs) 2 0 (omega arith) ∙ get_or-drop at bs 2 0
+decode-kind bs at = get_or-take record_size (drop at bs) 2 0 (omega arith) ∙ get_or-drop at bs 2 0
 
 module _ (bs : List ℕ) (f : Frame) (o : Opened bs f) where
   -- as many records as the frame says, and as long a pool
   pub count-opened : count (image_of bs) ≡ f.count
   unfolding image_of
-  count-opened = rw (length-decodes (field (header bs) 0 - 1) (drop recordSize bs), ← o.records) (omega arith)
+  count-opened = rw (length-decodes (field (header bs) 0 - 1) (drop record_size bs), ← o.records) (omega arith)
 
   pub pool-opened : length (image_of bs).pool ≡ f.pool
   unfolding image_of
@@ -42,17 +42,17 @@ module _ (bs : List ℕ) (f : Frame) (o : Opened bs f) where
 
   -- the record with a number decodes the 24 bytes at 24 times the number
   pub record-opened : (n : ℕ) → 1 ≤ n → n < f.count
-      → recordAt (image_of bs) n ≡ decode (take recordSize (drop (recordSize * n) bs))
+      → record_at (image_of bs) n ≡ decode (take record_size (drop (record_size * n) bs))
   unfolding image_of
   record-opened zero h l = absurd (not-suc-le-zero h)
   record-opened (suc n) h l =
       let k : n < field (header bs) 0 - 1 = omega arith in
-      let e : recordSize + recordSize * n ≡ recordSize * suc n = omega arith in
-      decodes-at (field (header bs) 0 - 1) n (drop recordSize bs) (headerOf (image_of bs)) k ∙ rw (drop-drop (recordSize * n) recordSize bs, e)
+      let e : record_size + record_size * n ≡ record_size * suc n = omega arith in
+      decodes-at (field (header bs) 0 - 1) n (drop record_size bs) (header_of (image_of bs)) k ∙ rw (drop-drop (record_size * n) record_size bs, e)
 
   -- so its kind is the byte there
-  pub kind-opened : (n : ℕ) → 1 ≤ n → n < f.count → kind_at (image_of bs) n ≡ get_or bs (recordSize * n + 2) 0
-  kind-opened n h l = kind-record (image_of bs) n ∙ ap (λ r. r.kind) (record-opened n h l) ∙ decode-kind bs (recordSize * n)
+  pub kind-opened : (n : ℕ) → 1 ≤ n → n < f.count → kind_at (image_of bs) n ≡ get_or bs (record_size * n + 2) 0
+  kind-opened n h l = kind-record (image_of bs) n ∙ ap (λ r. r.kind) (record-opened n h l) ∙ decode-kind bs (record_size * n)
 
   -- a number that no record has is of kind 0
   pub kind-past : (n : ℕ) → f.count ≤ n → kind_at (image_of bs) n ≡ 0
@@ -67,7 +67,7 @@ pub framed-opened : (bs : List ℕ) (f : Frame) → Framed bs → f.count ≡ fi
 framed-opened bs f h c p = record { records = c; bytes = p; some = rw c h.some; few = rw c h.few; small = rw p h.pool; whole = rw (c, p) h.whole }
 
 -- the counts, as they are read
-pub counts-read : (bs : List ℕ) (e : Entry) → recordOf e ≡ decode (take recordSize bs)
+pub counts-read : (bs : List ℕ) (e : Entry) → record_of e ≡ decode (take record_size bs)
     → (e.a ≡ field (header bs) 0) × (e.b ≡ field (header bs) 1)
 counts-read bs e q = (ap (λ r. field r 0) q, ap (λ r. field r 1) q)
 
@@ -76,7 +76,7 @@ module _ (bs : List ℕ) (f : Frame) (n : ℕ) (o : Opened bs f) where
   pub kind-none : f.count ≤ n → 0 ≡ kind_at (image_of bs) n
   kind-none h = sym (kind-past bs f o n h)
 
-  pub kind-byte : (at : ℕ) → (n ≡ 0 → ⊥) → n < f.count → at ≡ recordSize * n
+  pub kind-byte : (at : ℕ) → (n ≡ 0 → ⊥) → n < f.count → at ≡ record_size * n
       → get_or bs (at + 2) 0 ≡ kind_at (image_of bs) n
   kind-byte at h l e = rw e (sym (kind-opened bs f o n (omega arith) l))
 

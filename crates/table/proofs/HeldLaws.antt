@@ -8,7 +8,7 @@ use lib.ListN.{length, get_or, take, drop, length-take, length-drop}
 use lib.Seq.{get_or-take, get_or-drop}
 use borrow.Author.Tests.{eqb-true}
 use Rattle.table.specs.Order.{put, get}
-use Rattle.table.specs.Records.{Record, recordSize, numberSize, fieldCount, mark, isLittle, isMarked, numbers, decode, put_all, encode}
+use Rattle.table.specs.Records.{Record, record_size, number_size, field_count, mark, is_little, is_marked, numbers, decode, put_all, encode}
 use Rattle.table.specs.TableRules.{Holds}
 use Rattle.table.proofs.OrderLaws.{Bytes, lowest-value}
 use Rattle.table.proofs.HoldsLaws.{holds-is, holds-marked, holds-order, holds-room}
@@ -20,11 +20,11 @@ mark-back true x y h k e = let a : x ≡ 0xAD = omega arith in let b : y ≡ 0xC
 mark-back false x y h k e = let a : x ≡ 0xC0 = omega arith in let b : y ≡ 0xAD = omega arith in rw (a, b)
 
 number-back : (little : Bool) (w x y z : ℕ) → Bytes (w ∷ x ∷ y ∷ z ∷ [])
-    → put little numberSize (get little (w ∷ x ∷ y ∷ z ∷ [])) ≡ w ∷ x ∷ y ∷ z ∷ []
+    → put little number_size (get little (w ∷ x ∷ y ∷ z ∷ [])) ≡ w ∷ x ∷ y ∷ z ∷ []
 number-back true w x y z h = lowest-value (w ∷ x ∷ y ∷ z ∷ []) h
 number-back false w x y z h = ap reverse (lowest-value (z ∷ y ∷ x ∷ w ∷ []) (h.1.1.1.0, (h.1.1.0, (h.1.0, (h.0, tt)))))
 
-numbers-back : (little : Bool) (n : ℕ) (xs : List ℕ) → length xs ≡ numberSize * n → Bytes xs
+numbers-back : (little : Bool) (n : ℕ) (xs : List ℕ) → length xs ≡ number_size * n → Bytes xs
     → put_all little (numbers little n xs) ≡ xs
 numbers-back little zero [] e h = refl
 numbers-back little zero (x ∷ xs) e h = absurd (omega arith)
@@ -36,26 +36,26 @@ numbers-back little (suc n) (w ∷ x ∷ y ∷ z ∷ xs) e h =
     ap₂ ◌++◌ (number-back little w x y z (h.0, (h.1.0, (h.1.1.0, (h.1.1.1.0, tt))))) (numbers-back little n xs (omega arith) h.1.1.1.1)
 
 -- the mark is read in the record's own order
-marked-get : (bs : List ℕ) → isMarked bs ≡ true → get (isLittle bs) (take 2 bs) ≡ mark
-marked-get bs h = by (isLittle bs) refl
+marked-get : (bs : List ℕ) → is_marked bs ≡ true → get (is_little bs) (take 2 bs) ≡ mark
+marked-get bs h = by (is_little bs) refl
   where
-    by : (b : Bool) → isLittle bs ≡ b → get b (take 2 bs) ≡ mark
+    by : (b : Bool) → is_little bs ≡ b → get b (take 2 bs) ≡ mark
     by true e = eqb-true (get true (take 2 bs)) mark e
     by false e = eqb-true (get false (take 2 bs)) mark (rw e at h)
 
 -- a record is written back as it was read
-encode-decode : (bs : List ℕ) → length bs ≡ recordSize → Bytes bs → isMarked bs ≡ true
-    → encode (isLittle bs) (decode bs) ≡ bs
+encode-decode : (bs : List ℕ) → length bs ≡ record_size → Bytes bs → is_marked bs ≡ true
+    → encode (is_little bs) (decode bs) ≡ bs
 unfolding encode decode
 encode-decode [] e h k = absurd (omega arith)
 encode-decode (a ∷ []) e h k = absurd (omega arith)
 encode-decode (a ∷ b ∷ []) e h k = absurd (omega arith)
 encode-decode (a ∷ b ∷ c ∷ []) e h k = absurd (omega arith)
 encode-decode (a ∷ b ∷ c ∷ d ∷ bs) e h k =
-    let o = isLittle (a ∷ b ∷ c ∷ d ∷ bs) in
+    let o = is_little (a ∷ b ∷ c ∷ d ∷ bs) in
     ap₂ (λ x y. x ++ (c ∷ d ∷ y))
     (mark-back o a b h.0 h.1.0 (marked-get (a ∷ b ∷ c ∷ d ∷ bs) k))
-    (numbers-back o fieldCount bs (omega arith) h.1.1.1.1)
+    (numbers-back o field_count bs (omega arith) h.1.1.1.1)
 
 -- each of a list is a byte, by its place
 all-bytes : (xs : List ℕ) → ((k : ℕ) → k < length xs → get_or xs k 0 < 256) → Bytes xs
@@ -64,12 +64,12 @@ all-bytes (x ∷ xs) f = (f 0 (omega arith), all-bytes xs (λ k h. f (suc k) (om
 
 -- a record and its order fix the bytes that hold it
 pub held-is : (bs : List ℕ) (n : ℕ) (little : Bool) (r : Record) → Holds bs n little r
-    → ((k : ℕ) → k < recordSize → get_or bs (recordSize * n + k) 0 < 256)
-    → take recordSize (drop (recordSize * n) bs) ≡ encode little r
+    → ((k : ℕ) → k < record_size → get_or bs (record_size * n + k) 0 < 256)
+    → take record_size (drop (record_size * n) bs) ≡ encode little r
 held-is bs n little r h f =
-    let part = take recordSize (drop (recordSize * n) bs) in
+    let part = take record_size (drop (record_size * n) bs) in
     let room = holds-room bs n little r h in
-    let e : length part ≡ recordSize = rw (length-take, length-drop) (omega arith) in
+    let e : length part ≡ record_size = rw (length-take, length-drop) (omega arith) in
     let g : (k : ℕ) → k < length part → get_or part k 0 < 256 =
-    λ k l. rw (get_or-take recordSize (drop (recordSize * n) bs) k 0 (omega arith), get_or-drop (recordSize * n) bs k 0) (f k (omega arith)) in
+    λ k l. rw (get_or-take record_size (drop (record_size * n) bs) k 0 (omega arith), get_or-drop (record_size * n) bs k 0) (f k (omega arith)) in
     sym (encode-decode part e (all-bytes part g) (holds-marked bs n little r h)) ∙ ap₂ encode (holds-order bs n little r h) (sym (holds-is bs n little r h))

@@ -9,24 +9,24 @@ use Prim.Native.String.{String, [], ◌∷◌}
 use lib.Dec.{eqb, ltb}
 
 -- `0` to `9` and `A` to `F`
-abbrev pub digitOf : Char → ℕ
-digitOf c = cond (ltb (code c) 58) (code c - 48) (code c - 55)
+abbrev pub digit_of : Char → ℕ
+digit_of c = cond (ltb (code c) 58) (code c - 48) (code c - 55)
 
 -- the digit that waits for its second behind a character; a blank may stand between two bytes
 abbrev pub waiting : Option ℕ → Char → Option ℕ
-waiting none c = cond (eqb (code c) 32) none (some (digitOf c))
+waiting none c = cond (eqb (code c) 32) none (some (digit_of c))
 waiting (some d) c = none
 
 abbrev pub emit : Option ℕ → Char → List ℕ → List ℕ
 emit none c more = more
-emit (some d) c more = List.◌∷◌ (d * 16 + digitOf c) more
+emit (some d) c more = List.◌∷◌ (d * 16 + digit_of c) more
 
-abbrev pub hexFrom : Option ℕ → String → List ℕ
-hexFrom d [] = List.[]
-hexFrom d (c ∷ s) = emit d c (hexFrom (waiting d c) s)
+abbrev pub hex_from : Option ℕ → String → List ℕ
+hex_from d [] = List.[]
+hex_from d (c ∷ s) = emit d c (hex_from (waiting d c) s)
 
 abbrev pub hex : String → List ℕ
-hex s = hexFrom none s
+hex s = hex_from none s
 
 -- so many bytes of an output before a job: byte i is fill + 151 × i
 abbrev pub filling : ℕ → ℕ → List ℕ

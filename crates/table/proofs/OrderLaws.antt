@@ -6,18 +6,18 @@ use Prim.Native.Nat.{ℕ, zero, suc, ◌+◌, ◌*◌, ◌/◌, ◌%◌, ◌^◌
 use native.Mathlib.Nat.{mod-add-div, div-lt_iff_lt-mul, pow-suc}
 use native.Mathlib.Omega.{arith}
 use lib.ListN.{length, length-reverse}
-use Rattle.table.specs.Order.{lowestFirst, bytesValue, put, get}
+use Rattle.table.specs.Order.{lowest_first, bytes_value, put, get}
 
 -- a number that fits so many bytes is the value of its bytes
-pub value-lowest : (width n : ℕ) → n < 256 ^ width → bytesValue (lowestFirst width n) ≡ n
+pub value-lowest : (width n : ℕ) → n < 256 ^ width → bytes_value (lowest_first width n) ≡ n
 value-lowest zero n h = omega arith
 value-lowest (suc width) n h =
     rw (value-lowest width (n / 256) ((div-lt_iff_lt-mul (omega arith)).1 (rw pow-suc at h))) (mod-add-div n 256)
 
 -- what is got back in the order it was put in is the value of the lowest bytes first: the order is in the parameter alone
-pub get-put-value : (little : Bool) (width n : ℕ) → get little (put little width n) ≡ bytesValue (lowestFirst width n)
+pub get-put-value : (little : Bool) (width n : ℕ) → get little (put little width n) ≡ bytes_value (lowest_first width n)
 get-put-value true width n = refl
-get-put-value false width n = ap bytesValue (reverse-reverse (lowestFirst width n))
+get-put-value false width n = ap bytes_value (reverse-reverse (lowest_first width n))
 
 -- so it is the same for either order
 pub order-free : (a b : Bool) (width n : ℕ) → get a (put a width n) ≡ get b (put b width n)
@@ -28,14 +28,14 @@ pub get-put : (little : Bool) (width n : ℕ) → n < 256 ^ width → get little
 get-put little width n h = get-put-value little width n ∙ value-lowest width n h
 
 -- there are as many bytes as asked, the lowest first
-pub length-lowest : (width n : ℕ) → length (lowestFirst width n) ≡ width
+pub length-lowest : (width n : ℕ) → length (lowest_first width n) ≡ width
 length-lowest zero n = refl
 length-lowest (suc width) n = ap suc (length-lowest width (n / 256))
 
 -- and in either order
 pub length-put : (little : Bool) (width n : ℕ) → length (put little width n) ≡ width
 length-put true width n = length-lowest width n
-length-put false width n = length-reverse (lowestFirst width n) ∙ length-lowest width n
+length-put false width n = length-reverse (lowest_first width n) ∙ length-lowest width n
 
 -- a number with a byte in front: its lowest byte, and what is above it
 lowest-front : (x v : ℕ) → x < 256 → (x + 256 * v) % 256 ≡ x
@@ -50,6 +50,6 @@ Bytes [] = Unit {0}
 Bytes (x ∷ xs) = (x < 256) × Bytes xs
 
 -- bytes are those of their value, the lowest first
-pub lowest-value : (xs : List ℕ) → Bytes xs → lowestFirst (length xs) (bytesValue xs) ≡ xs
+pub lowest-value : (xs : List ℕ) → Bytes xs → lowest_first (length xs) (bytes_value xs) ≡ xs
 lowest-value [] h = refl
-lowest-value (x ∷ xs) h = rw (lowest-front x (bytesValue xs) h.0, rest-front x (bytesValue xs) h.0, lowest-value xs h.1)
+lowest-value (x ∷ xs) h = rw (lowest-front x (bytes_value xs) h.0, rest-front x (bytes_value xs) h.0, lowest-value xs h.1)

@@ -7,8 +7,8 @@ use native.Mathlib.Numerals.{add-one, add-two, add-three}
 use native.Mathlib.Omega.{arith}
 use lib.ListN.{length, get_or, take, drop}
 use lib.Seq.{drop-cons, sets}
-use Rattle.table.specs.Order.{bytesValue, get, put}
-use Rattle.table.specs.contracts.Answers.{ordered}
+use Rattle.table.specs.Order.{bytes_value, get, put}
+use Rattle.table.specs.Clauses.Answers.{ordered}
 use Rattle.table.proofs.OrderLaws.{lowest-value}
 
 -- a number's lowest byte is one
@@ -26,21 +26,21 @@ four_bytes s at h =
 
 -- the number read in either order
 module _ (s : List ℕ) (at : ℕ) (little : Bool) (r : ℕ) where
-  pub little2 : at + 2 ≤ length s → little ≡ true → r ≡ bytesValue (get_or s at 0 ∷ get_or s (at + 1) 0 ∷ [])
+  pub little2 : at + 2 ≤ length s → little ≡ true → r ≡ bytes_value (get_or s at 0 ∷ get_or s (at + 1) 0 ∷ [])
       → r ≡ get little (take 2 (drop at s))
   little2 h l e = rw (l, two_bytes s at h) e
 
-  pub big2 : at + 2 ≤ length s → little ≡ false → r ≡ bytesValue (get_or s (at + 1) 0 ∷ get_or s at 0 ∷ [])
+  pub big2 : at + 2 ≤ length s → little ≡ false → r ≡ bytes_value (get_or s (at + 1) 0 ∷ get_or s at 0 ∷ [])
       → r ≡ get little (take 2 (drop at s))
   big2 h l e = rw (l, two_bytes s at h) e
 
   pub little4 : at + 4 ≤ length s → little ≡ true
-      → r ≡ bytesValue (get_or s at 0 ∷ get_or s (at + 1) 0 ∷ get_or s (at + 2) 0 ∷ get_or s (at + 3) 0 ∷ [])
+      → r ≡ bytes_value (get_or s at 0 ∷ get_or s (at + 1) 0 ∷ get_or s (at + 2) 0 ∷ get_or s (at + 3) 0 ∷ [])
       → r ≡ get little (take 4 (drop at s))
   little4 h l e = rw (l, four_bytes s at h) e
 
   pub big4 : at + 4 ≤ length s → little ≡ false
-      → r ≡ bytesValue (get_or s (at + 3) 0 ∷ get_or s (at + 2) 0 ∷ get_or s (at + 1) 0 ∷ get_or s at 0 ∷ [])
+      → r ≡ bytes_value (get_or s (at + 3) 0 ∷ get_or s (at + 2) 0 ∷ get_or s (at + 1) 0 ∷ get_or s at 0 ∷ [])
       → r ≡ get little (take 4 (drop at s))
   big4 h l e = rw (l, four_bytes s at h) e
 

@@ -10,14 +10,14 @@ use lib.ListN
 use borrow.Author.Rules.{zero≤}
 use borrow.Author.Tests.{eq-eqb, ne_eqb, le-leb, lt-leb, lt-ltb}
 use Rattle.lexis.specs.Bytes.{within, among}
-use Rattle.values.specs.Integers.{twosComplement}
+use Rattle.values.specs.Integers.{twos_complement}
 use Rattle.values.specs.Calendar.{real}
 use Rattle.values.proofs.Common.{below}
 use Rattle.table.specs.Records.{count, image_of}
 use Rattle.meaning.specs.Constraints.{integers, dates}
-use Rattle.table.specs.Rows.{tableHeader, shapes, shape_of, objectKind, isItem, link, items}
-use Rattle.table.specs.Check.{kind_at, pairRight, fieldRight, flagRight}
-use Rattle.table.specs.contracts.Answers.{Opened, RecordPlaceIs}
+use Rattle.table.specs.Rows.{table_header, shapes, shape_of, object_kind, is_item, link, items}
+use Rattle.table.specs.Check.{kind_at, pair_right, field_right, flag_right}
+use Rattle.table.specs.Clauses.Answers.{Opened, RecordPlaceIs}
 use Rattle.table.specs.declared.records.Frame.{Frame}
 use Rattle.table.proofs.FrameLaws.{count-opened}
 use Rattle.table.proofs.UseLaws.{past-shapes, item-shape}
@@ -46,74 +46,74 @@ next a k h g = omega arith
 
 -- the flags of a kind that is known, and of a kind that no record has
 module _ (kind flag : ℕ) where
-  pub flag-of : (k : ℕ) (x : Bool) → kind ≡ k → x ≡ flagRight k flag → x ≡ flagRight kind flag
+  pub flag-of : (k : ℕ) (x : Bool) → kind ≡ k → x ≡ flag_right k flag → x ≡ flag_right kind flag
   flag-of k x h e = rw h e
 
   pub flag-of-none : (kind ≡ 0 → ⊥) → (kind ≡ 1 → ⊥) → (kind ≡ 2 → ⊥) → (kind ≡ 3 → ⊥) → (kind ≡ 4 → ⊥) → (kind ≡ 5 → ⊥)
       → (kind ≡ 6 → ⊥) → (kind ≡ 7 → ⊥) → (kind ≡ 8 → ⊥) → (kind ≡ 9 → ⊥)
-      → false ≡ flagRight kind flag
+      → false ≡ flag_right kind flag
   unfolding shape_of
   flag-of-none h0 h1 h2 h3 h4 h5 h6 h7 h8 h9 =
       let l5 = next 4 kind (next 3 kind (next 2 kind (next 1 kind (next 0 kind zero≤ h0) h1) h2) h3) h4 in
       let l = next 9 kind (next 8 kind (next 7 kind (next 6 kind (next 5 kind l5 h5) h6) h7) h8) h9 in
-      let e : get_or shapes kind tableHeader ≡ tableHeader = get_or-eq_default shapes tableHeader {n = kind} l in
+      let e : get_or shapes kind table_header ≡ table_header = get_or-eq_default shapes table_header {n = kind} l in
       rw e
 
 -- a place and its length
 module _ (pool least most x next : ℕ) where
   pub place_short : next < least → RecordPlaceIs pool least most x next false
-  unfolding fieldRight
+  unfolding field_right
   place_short h = record { is = λ m n e. rw (lt-leb least next h) }
 
   module _ (l : least ≤ next) where
     pub place-long : most < next → RecordPlaceIs pool least most x next false
-    unfolding fieldRight
+    unfolding field_right
     place-long h = record { is = λ m n e. rw (le-leb least next l, lt-leb next most h) }
 
     module _ (k : next ≤ most) where
       pub place-empty : next ≡ 0 → RecordPlaceIs pool least most x next (eqb x 0)
-      unfolding fieldRight
+      unfolding field_right
       place-empty h = record { is = λ m n e. rw (le-leb least next l, le-leb next most k, eq-eqb next 0 h) }
 
       pub place_inside : (next ≡ 0 → ⊥) → RecordPlaceIs pool least most x next (leb (x + next) pool)
-      unfolding fieldRight
+      unfolding field_right
       place_inside h = record { is = λ m n e. rw (le-leb least next l, le-leb next most k, ne_eqb next 0 h, e) }
 
 -- a pair of integers
-pub integers-told : (x next a b : ℕ) → x < 2 ^ 32 → next < 2 ^ 32 → a ≡ twosComplement x → b ≡ twosComplement next
-    → leb a b ≡ pairRight integers x next
-unfolding pairRight
+pub integers-told : (x next a b : ℕ) → x < 2 ^ 32 → next < 2 ^ 32 → a ≡ twos_complement x → b ≡ twos_complement next
+    → leb a b ≡ pair_right integers x next
+unfolding pair_right
 integers-told x next a b h g p q = rw (p, q, lt-ltb x (2 ^ 32) h, lt-ltb next (2 ^ 32) g)
 
 -- a pair of dates
 module _ (x next : ℕ) (a : Bool) (p : a ≡ real x) where
-  pub low-unreal : a ≡ false → a ≡ pairRight dates x next
-  unfolding pairRight
+  pub low-unreal : a ≡ false → a ≡ pair_right dates x next
+  unfolding pair_right
   low-unreal h = rw (← p, h)
 
   module _ (b : Bool) (h : a ≡ true) (q : b ≡ real next) where
-    pub high-unreal : b ≡ false → b ≡ pairRight dates x next
-    unfolding pairRight
+    pub high-unreal : b ≡ false → b ≡ pair_right dates x next
+    unfolding pair_right
     high-unreal g = rw (← p, ← q, h, g)
 
-    pub dates-ordered : b ≡ true → leb x next ≡ pairRight dates x next
-    unfolding pairRight
+    pub dates-ordered : b ≡ true → leb x next ≡ pair_right dates x next
+    unfolding pair_right
     dates-ordered g = rw (← p, ← q, h, g)
 
 -- a link of the record with number n
 module _ (bs : List ℕ) (n x : ℕ) (ks : List ℕ) where
-  pub link-none : x ≡ 0 → eqb x 0 ≡ fieldRight (image_of bs) n (link ks) x 0
-  unfolding fieldRight
+  pub link-none : x ≡ 0 → eqb x 0 ≡ field_right (image_of bs) n (link ks) x 0
+  unfolding field_right
   link-none h = rw (eq-eqb x 0 h)
 
   module _ (f : Frame) (b : Bool) (h : x ≡ 0 → ⊥) (o : Opened bs f) (e : b ≡ (ltb n x && ltb x f.count)) where
-    pub link-astray : b ≡ false → b ≡ fieldRight (image_of bs) n (link ks) x 0
-    unfolding fieldRight
+    pub link-astray : b ≡ false → b ≡ field_right (image_of bs) n (link ks) x 0
+    unfolding field_right
     link-astray g = rw (ne_eqb x 0 h, count-opened bs f o, ← e, g)
 
     pub link-kind : (k : ℕ) (r : Bool) → b ≡ true → k ≡ kind_at (image_of bs) x → r ≡ among k ks
-        → r ≡ fieldRight (image_of bs) n (link ks) x 0
-    unfolding fieldRight
+        → r ≡ field_right (image_of bs) n (link ks) x 0
+    unfolding field_right
     link-kind k r g ek q = rw (ne_eqb x 0 h, count-opened bs f o, ← e, g, ← ek) q
 
 -- of one kind alone
@@ -122,21 +122,21 @@ only-kind k kind = sym (or-false (eqb k kind))
 
 -- an object's kind or an item's
 module _ (k : ℕ) where
-  pub value-known : (j : ℕ) (x : Bool) → k ≡ j → x ≡ among j (objectKind ∷ items) → x ≡ among k (objectKind ∷ items)
+  pub value-known : (j : ℕ) (x : Bool) → k ≡ j → x ≡ among j (object_kind ∷ items) → x ≡ among k (object_kind ∷ items)
   value-known j x h e = rw h e
 
   pub value-item : (k ≡ 0 → ⊥) → (k ≡ 1 → ⊥) → (k ≡ 2 → ⊥) → k < ListN.length shapes
-      → true ≡ among k (objectKind ∷ items)
+      → true ≡ among k (object_kind ∷ items)
   value-item h0 h1 h2 g =
-      let e = below (ListN.length shapes) (λ x. cond (leb 3 x) (among x (objectKind ∷ items)) true) refl k g in
+      let e = below (ListN.length shapes) (λ x. cond (leb 3 x) (among x (object_kind ∷ items)) true) refl k g in
       sym (rw (le-leb 3 k (next 2 k (next 1 k (next 0 k zero≤ h0) h1) h2)) at e)
 
-  pub value-past : ListN.length shapes ≤ k → false ≡ among k (objectKind ∷ items)
+  pub value-past : ListN.length shapes ≤ k → false ≡ among k (object_kind ∷ items)
   value-past h = by (among k items) refl
     where
-      by : (b : Bool) → among k items ≡ b → false ≡ among k (objectKind ∷ items)
-      by true e = absurd (false≢true (subst (λ x. isItem x ≡ true) (past-shapes k h) (item-shape k e)))
-      by false e = rw (ne_eqb k objectKind (λ q. omega arith)) (sym e)
+      by : (b : Bool) → among k items ≡ b → false ≡ among k (object_kind ∷ items)
+      by true e = absurd (false≢true (subst (λ x. is_item x ≡ true) (past-shapes k h) (item-shape k e)))
+      by false e = rw (ne_eqb k object_kind (λ q. omega arith)) (sym e)
 
 pub ruleset flag-steps = (flag-in, flag-set, flag-unset, flag-over, flag-none, flag-of, flag-of-none)
 

@@ -15,17 +15,17 @@ use Rattle.lexis.specs.Bytes.{among}
 use Rattle.lexis.proofs.Cases.{by_cond, and_left, and_right}
 use Rattle.values.proofs.Common.{by_order}
 use Rattle.values.proofs.DayLaws.{packed-day}
-use Rattle.refusals.specs.Limits.{nameLimit, codeLimit, stringLimit}
+use Rattle.refusals.specs.Limits.{name_limit, code_limit, string_limit}
 use Rattle.refusals.specs.Refusals.{refusal}
 use Rattle.refusals.specs.declared.Refusal.{Refusal}
 use Rattle.refusals.specs.declared.Cause.TheVariants.{BrokenRecord}
-use Rattle.meaning.specs.Constraints.{SingleSort, booleans, datePattern, timePattern, durationPattern, integers, dates}
-use Rattle.meaning.specs.Sorts.{singleRow}
-use Rattle.table.specs.Records.{Record, recordSize, fieldCount, isMarked, isLittle, make, field, header, decodes, image_of, recordIn}
-use Rattle.table.specs.Rows.{Shape, shape_of, items, unnamed, place, link, rowFor}
-use Rattle.table.specs.Check.{kind_at, fieldRight, isNought, usesOf, flagRight, obeys, clean, recordRight, broken, framed, brokenRecord, tableFault, allNought}
+use Rattle.meaning.specs.Constraints.{SingleSort, booleans, date_pattern, time_pattern, duration_pattern, integers, dates}
+use Rattle.meaning.specs.Sorts.{single_row}
+use Rattle.table.specs.Records.{Record, record_size, field_count, is_marked, is_little, make, field, header, decodes, image_of, record_in}
+use Rattle.table.specs.Rows.{Shape, shape_of, items, unnamed, place, link, row_for}
+use Rattle.table.specs.Check.{kind_at, field_right, is_nought, uses_of, flag_right, obeys, clean, record_right, broken, framed, broken_record, table_fault, all_nought}
 use Rattle.table.specs.TableRules.{Holds, IsFrame, PoolPair, Link, IsRecord, IsTable, NoTable}
-use Rattle.table.specs.contracts.Answers.{Opened}
+use Rattle.table.specs.Clauses.Answers.{Opened}
 use Rattle.table.specs.declared.records.Frame.{Frame}
 use Rattle.table.proofs.RecordLaws.{decode-counted}
 use Rattle.table.proofs.UseLaws.{each-passed, place-right, by-link, integers-right, dates-right, across-none}
@@ -44,24 +44,24 @@ frame_is bs count pool root f =
 
 -- the kind at a number is that of the record read there
 kind-read : (bs : List ℕ) (f : Frame) → Opened bs f → (n : ℕ) → 1 ≤ n → n < f.count
-    → kind_at (image_of bs) n ≡ (recordIn bs n).kind
-kind-read bs f o n h l = kind-opened bs f o n h l ∙ sym (decode-kind bs (recordSize * n))
+    → kind_at (image_of bs) n ≡ (record_in bs n).kind
+kind-read bs f o n h l = kind-opened bs f o n h l ∙ sym (decode-kind bs (record_size * n))
 
 -- the header of bytes with the frame is made of its three numbers
 header_made : (bs : List ℕ) → Framed bs
     → header bs ≡ make 0 0 (field (header bs) 0 ∷ field (header bs) 1 ∷ field (header bs) 2 ∷ [])
 header_made bs f =
     let h = header bs in
-    let counted = decode-counted (take recordSize bs) in
+    let counted = decode-counted (take record_size bs) in
     let last = eqb (field h 4) 0 && true in
-    let rest : (eqb (field h 3) 0 && last) ≡ true = subst (λ l. allNought (drop 3 l) ≡ true) (all-fields h.fields counted) f.rest in
+    let rest : (eqb (field h 3) 0 && last) ≡ true = subst (λ l. all_nought (drop 3 l) ≡ true) (all-fields h.fields counted) f.rest in
     let d = eqb-true (field h 3) 0 (and_left (eqb (field h 3) 0) last rest) in
     let e = eqb-true (field h 4) 0 (and_left (eqb (field h 4) 0) true (and_right (eqb (field h 3) 0) last rest)) in
     made h counted ∙ (λ i. record { kind = f.kind i; flag = f.flag i; fields = field h 0 ∷ field h 1 ∷ field h 2 ∷ d i ∷ e i ∷ [] })
 
 -- the mark is in the first bytes
-marked-same : (bs : List ℕ) → isMarked (take recordSize bs) ≡ isMarked bs
-marked-same bs = rw (take-take 2 recordSize bs (omega arith))
+marked-same : (bs : List ℕ) → is_marked (take record_size bs) ≡ is_marked bs
+marked-same bs = rw (take-take 2 record_size bs (omega arith))
 
 -- where the header has kind 0, a number of kind 1 is not its own
 behind : (kinds : ℕ → ℕ) (n : ℕ) → kinds 0 ≡ 0 → kinds n ≡ 1 → 1 ≤ n
@@ -77,8 +77,8 @@ framed-has bs f =
     let k = kind-inside (image_of bs) root (rw f.root (omega arith)) in
     let a = behind (kind_at (image_of bs)) root refl f.root in
     record {
-      little = isLittle (take recordSize bs);
-      header = subst (Holds bs 0 (isLittle (take recordSize bs))) (header_made bs f) (holds-there bs 0 (rw (marked-same bs) f.mark) f.long);
+      little = is_little (take record_size bs);
+      header = subst (Holds bs 0 (is_little (take record_size bs))) (header_made bs f) (holds-there bs 0 (rw (marked-same bs) f.mark) f.long);
       least = f.some;
       most = f.few;
       pooled = f.pool;
@@ -95,7 +95,7 @@ module _ (bs : List ℕ) (count pool root : ℕ) (f : IsFrame bs count pool root
       record { records = q.0; bytes = q.1; some = f.least; few = f.most; small = f.pooled; whole = f.sized }
 
   -- a number below the count has the kind of the record read there
-  frame-kind : (x : ℕ) → 1 ≤ x → x < count → kind_at (image_of bs) x ≡ (recordIn bs x).kind
+  frame-kind : (x : ℕ) → 1 ≤ x → x < count → kind_at (image_of bs) x ≡ (record_in bs x).kind
   frame-kind = kind-read bs (record { count = count; pool = pool }) frame_opened
 
   -- bytes that have the frame by the rules pass its test
@@ -111,12 +111,12 @@ module _ (bs : List ℕ) (count pool root : ℕ) (f : IsFrame bs count pool root
         mark = rw (marked-same bs) at (holds-marked bs 0 f.little r f.header);
         kind = z;
         flag = ap (λ x. x.flag) e;
-        rest = ap (λ x. allNought (drop 3 x.fields)) e;
+        rest = ap (λ x. all_nought (drop 3 x.fields)) e;
         some = omega arith;
         few = omega arith;
         pool = omega arith;
         whole = omega arith;
-        root = ap (kind_at (image_of bs)) (sym q.2) ∙ frame-kind root (behind (λ x. (recordIn bs x).kind) root z k) f.inside ∙ k;
+        root = ap (kind_at (image_of bs)) (sym q.2) ∙ frame-kind root (behind (λ x. (record_in bs x).kind) root z k) f.inside ∙ k;
       }
 
 -- the test of the frame and its rules are one
@@ -127,8 +127,8 @@ framed-frame bs = (λ e. framed-has bs (framed_is bs e), λ f. is_framed bs (has
 module _ (bs : List ℕ) (count pool root n : ℕ) (f : IsFrame bs count pool root) where
   -- a link by the rule passes the test of a link
   link-is : (ks : List ℕ) {Needed : ℕ → Type 0} → ((k : ℕ) → (among k ks ≡ true) ↔ Needed k) → {x : ℕ} (next : ℕ)
-      → Link bs count n Needed x → fieldRight (image_of bs) n (link ks) x next ≡ true
-  unfolding fieldRight
+      → Link bs count n Needed x → field_right (image_of bs) n (link ks) x next ≡ true
+  unfolding field_right
   link-is ks needed next Link.nowhere = refl
   link-is ks needed next (Link.leads {x = x} {kind = kind} a b k d) =
       let c = count-opened bs _ (frame_opened bs count pool root f) in
@@ -137,7 +137,7 @@ module _ (bs : List ℕ) (count pool root n : ℕ) (f : IsFrame bs count pool ro
 
   -- and one that passes it is so by the rule
   link-has : (ks : List ℕ) {Needed : ℕ → Type 0} → ((k : ℕ) → (among k ks ≡ true) ↔ Needed k) → (x next : ℕ)
-      → fieldRight (image_of bs) n (link ks) x next ≡ true → Link bs count n Needed x
+      → field_right (image_of bs) n (link ks) x next ≡ true → Link bs count n Needed x
   link-has ks {Needed} needed x next h =
       by-link (image_of bs) n ks x next h
       (λ e. subst (Link bs count n Needed) (sym e) Link.nowhere)
@@ -146,33 +146,33 @@ module _ (bs : List ℕ) (count pool root n : ℕ) (f : IsFrame bs count pool ro
       let b : x < count = omega arith in
       let s = f.sized in
       let k = frame-kind bs count pool root f x (omega arith) b in
-      Link.leads l.above b (kind-there bs x (omega arith)) ((needed (recordIn bs x).kind).0 (rw k at l.kind)))
+      Link.leads l.above b (kind-there bs x (omega arith)) ((needed (record_in bs x).kind).0 (rw k at l.kind)))
 
   -- a place and a length, in the pool of the frame
   placed-is : {least most x next : ℕ} → PoolPair pool least most x next
-      → fieldRight (image_of bs) n (place least most) x next ≡ true
+      → field_right (image_of bs) n (place least most) x next ≡ true
   placed-is p = place_is (image_of bs) n (rw (pool-opened bs _ (frame_opened bs count pool root f)) p)
 
-  placed-has : (least most x next : ℕ) → fieldRight (image_of bs) n (place least most) x next ≡ true
+  placed-has : (least most x next : ℕ) → field_right (image_of bs) n (place least most) x next ≡ true
       → PoolPair pool least most x next
   placed-has least most x next h =
       let p = place-has (image_of bs) least most x next (place-right (image_of bs) n least most x next h) in
       rw (pool-opened bs _ (frame_opened bs count pool root f)) at p
 
   -- a record that bytes hold passes its tests where it passes those of its flag and of its fields
-  right_by : {little : Bool} {r : Record} → Holds bs n little r → flagRight r.kind r.flag ≡ true
-      → Ruled (image_of bs) n (usesOf r) r.fields → clean r ≡ true
-      → recordRight (image_of bs) n (take recordSize (drop (recordSize * n) bs)) (recordIn bs n) ≡ true
+  right_by : {little : Bool} {r : Record} → Holds bs n little r → flag_right r.kind r.flag ≡ true
+      → Ruled (image_of bs) n (uses_of r) r.fields → clean r ≡ true
+      → record_right (image_of bs) n (take record_size (drop (record_size * n) bs)) (record_in bs n) ≡ true
   unfolding obeys
   right_by {little} {r} h g k c =
-      let e = ruled-right (image_of bs) n (usesOf r) r.fields k in
+      let e = ruled-right (image_of bs) n (uses_of r) r.fields k in
       let a = across-none (shape_of r.kind) (image_of bs) n r.fields in
       rw (holds-marked bs n little r h, ← (holds-is bs n little r h), g, e, a, c)
 
   -- a record by the rules passes its tests
   record-right : IsRecord bs count pool n
-      → recordRight (image_of bs) n (take recordSize (drop (recordSize * n) bs)) (recordIn bs n) ≡ true
-  unfolding clean shape_of fieldRight
+      → record_right (image_of bs) n (take record_size (drop (record_size * n) bs)) (record_in bs n) ≡ true
+  unfolding clean shape_of field_right
   record-right (IsRecord.object h p q l) =
       right_by h refl (placed-is p, (refl, (placed-is q, (refl, (link-is (2 ∷ []) (only-rule 2) 0 l, tt))))) refl
   record-right (IsRecord.attribute {flag = g} {c = c} {d = d} h k p l o) =
@@ -182,78 +182,78 @@ module _ (bs : List ℕ) (count pool root n : ℕ) (f : IsFrame bs count pool ro
   record-right (IsRecord.integer h a b k l) =
       right_by h refl (integers-are a b k, (refl, (refl, (refl, (link-is (4 ∷ []) (only-rule 4) 0 l, tt))))) refl
   record-right (IsRecord.string h p l) = right_by h refl (placed-is p, (refl, (refl, (refl, (link-is (5 ∷ []) (only-rule 5) 0 l, tt))))) refl
-  record-right (IsRecord.datePattern {flag = g} h k o) = right_by h (rw (le-leb 1 g k, le-leb g 5 o)) (refl, (refl, (refl, (refl, (refl, tt))))) refl
-  record-right (IsRecord.dateInterval h a b k l) =
+  record-right (IsRecord.date_pattern {flag = g} h k o) = right_by h (rw (le-leb 1 g k, le-leb g 5 o)) (refl, (refl, (refl, (refl, (refl, tt))))) refl
+  record-right (IsRecord.date_interval h a b k l) =
       right_by h refl (dates-are a b k, (refl, (refl, (refl, (link-is (7 ∷ []) (only-rule 7) 0 l, tt))))) refl
-  record-right (IsRecord.timePattern {flag = g} h k o) = right_by h (rw (le-leb 1 g k, le-leb g 4 o)) (refl, (refl, (refl, (refl, (refl, tt))))) refl
-  record-right (IsRecord.durationPattern {flag = g} h k o) = right_by h (rw (le-leb 1 g k, le-leb g 127 o)) (refl, (refl, (refl, (refl, (refl, tt))))) refl
+  record-right (IsRecord.time_pattern {flag = g} h k o) = right_by h (rw (le-leb 1 g k, le-leb g 4 o)) (refl, (refl, (refl, (refl, (refl, tt))))) refl
+  record-right (IsRecord.duration_pattern {flag = g} h k o) = right_by h (rw (le-leb 1 g k, le-leb g 127 o)) (refl, (refl, (refl, (refl, (refl, tt))))) refl
 
-  module _ (little : Bool) (h : Holds bs n little (recordIn bs n)) where
+  module _ (little : Bool) (h : Holds bs n little (record_in bs n)) where
     -- the record read, made of its parts, is held
-    held : {k g a b c d e : ℕ} → (recordIn bs n).kind ≡ k → (recordIn bs n).flag ≡ g → field (recordIn bs n) 0 ≡ a
-        → field (recordIn bs n) 1 ≡ b → field (recordIn bs n) 2 ≡ c → field (recordIn bs n) 3 ≡ d
-        → field (recordIn bs n) 4 ≡ e
+    held : {k g a b c d e : ℕ} → (record_in bs n).kind ≡ k → (record_in bs n).flag ≡ g → field (record_in bs n) 0 ≡ a
+        → field (record_in bs n) 1 ≡ b → field (record_in bs n) 2 ≡ c → field (record_in bs n) 3 ≡ d
+        → field (record_in bs n) 4 ≡ e
         → Holds bs n little (make k g (a ∷ b ∷ c ∷ d ∷ e ∷ []))
     held p q u v w x y =
-        subst (Holds bs n little) (made (recordIn bs n) h.counted ∙ (λ i. make (p i) (q i) (u i ∷ v i ∷ w i ∷ x i ∷ y i ∷ []))) h
+        subst (Holds bs n little) (made (record_in bs n) h.counted ∙ (λ i. make (p i) (q i) (u i ∷ v i ∷ w i ∷ x i ∷ y i ∷ []))) h
 
     -- a field not named is 0
-    nought : {s : Shape} → Kept (image_of bs) n (recordIn bs n) s → (i : ℕ) → i < fieldCount
-        → isNought (get_or ((rowFor s).uses (recordIn bs n).fields) i unnamed) (field (recordIn bs n) i)
-        ≡ eqb (field (recordIn bs n) i) 0
-        → field (recordIn bs n) i ≡ 0
-    nought k i l e = eqb-true (field (recordIn bs n) i) 0 (sym e ∙ k.rest i l)
+    nought : {s : Shape} → Kept (image_of bs) n (record_in bs n) s → (i : ℕ) → i < field_count
+        → is_nought (get_or ((row_for s).uses (record_in bs n).fields) i unnamed) (field (record_in bs n) i)
+        ≡ eqb (field (record_in bs n) i) 0
+        → field (record_in bs n) i ≡ 0
+    nought k i l e = eqb-true (field (record_in bs n) i) 0 (sym e ∙ k.rest i l)
 
     -- a record of one flag, with no field named
-    single-held : (sort : SingleSort) → Kept (image_of bs) n (recordIn bs n) (Shape.single sort)
-        → Holds bs n little (make (singleRow sort).kind (recordIn bs n).flag [])
+    single-held : (sort : SingleSort) → Kept (image_of bs) n (record_in bs n) (Shape.single sort)
+        → Holds bs n little (make (single_row sort).kind (record_in bs n).flag [])
     single-held sort k =
         held k.kind refl (nought k 0 (omega arith) refl) (nought k 1 (omega arith) refl) (nought k 2 (omega arith) refl) (nought k 3 (omega arith) refl)
         (nought k 4 (omega arith) refl)
 
     -- a record that keeps what its shape asks is one by the rules
-    right-record : (s : Shape) → Kept (image_of bs) n (recordIn bs n) s → IsRecord bs count pool n
-    right-record Shape.tableHeader k = absurd (false≢true k.known)
+    right-record : (s : Shape) → Kept (image_of bs) n (record_in bs n) s → IsRecord bs count pool n
+    right-record Shape.table_header k = absurd (false≢true k.known)
     right-record Shape.object k =
-        IsRecord.object (held k.kind (omega (arith, k.most)) refl refl refl refl refl) (placed-has 1 nameLimit _ _ (k.named 0 (omega arith)))
-        (placed-has 0 codeLimit _ _ (k.named 2 (omega arith))) (link-has (2 ∷ []) (only-rule 2) _ _ (k.named 4 (omega arith)))
+        IsRecord.object (held k.kind (omega (arith, k.most)) refl refl refl refl refl) (placed-has 1 name_limit _ _ (k.named 0 (omega arith)))
+        (placed-has 0 code_limit _ _ (k.named 2 (omega arith))) (link-has (2 ∷ []) (only-rule 2) _ _ (k.named 4 (omega arith)))
     right-record Shape.attribute k =
         IsRecord.attribute (held k.kind refl refl refl refl refl (nought k 4 (omega arith) refl)) k.most
-        (placed-has 1 nameLimit _ _ (k.named 0 (omega arith))) (link-has (1 ∷ items) value-rule _ _ (k.named 2 (omega arith)))
+        (placed-has 1 name_limit _ _ (k.named 0 (omega arith))) (link-has (1 ∷ items) value-rule _ _ (k.named 2 (omega arith)))
         (link-has (2 ∷ []) (only-rule 2) _ _ (k.named 3 (omega arith)))
     right-record Shape.text k =
         IsRecord.string (held k.kind (omega (arith, k.most)) refl refl (nought k 2 (omega arith) refl) (nought k 3 (omega arith) refl) refl)
-        (placed-has 0 stringLimit _ _ (k.named 0 (omega arith))) (link-has (5 ∷ []) (only-rule 5) _ _ (k.named 4 (omega arith)))
+        (placed-has 0 string_limit _ _ (k.named 0 (omega arith))) (link-has (5 ∷ []) (only-rule 5) _ _ (k.named 4 (omega arith)))
     right-record (Shape.single booleans) k = IsRecord.boolean (single-held booleans k) k.least k.most
-    right-record (Shape.single datePattern) k = IsRecord.datePattern (single-held datePattern k) k.least k.most
-    right-record (Shape.single timePattern) k = IsRecord.timePattern (single-held timePattern k) k.least k.most
-    right-record (Shape.single durationPattern) k = IsRecord.durationPattern (single-held durationPattern k) k.least k.most
+    right-record (Shape.single date_pattern) k = IsRecord.date_pattern (single-held date_pattern k) k.least k.most
+    right-record (Shape.single time_pattern) k = IsRecord.time_pattern (single-held time_pattern k) k.least k.most
+    right-record (Shape.single duration_pattern) k = IsRecord.duration_pattern (single-held duration_pattern k) k.least k.most
     right-record (Shape.range integers) k =
-        let p = integers-right (field (recordIn bs n) 0) (field (recordIn bs n) 1) (unfold fieldRight in k.named 0 (omega arith)) in
+        let p = integers-right (field (record_in bs n) 0) (field (record_in bs n) 1) (unfold field_right in k.named 0 (omega arith)) in
         IsRecord.integer (held k.kind (omega (arith, k.most)) refl refl (nought k 2 (omega arith) refl) (nought k 3 (omega arith) refl) refl)
         (twos-has _ p.low) (twos-has _ p.high) p.order (link-has (4 ∷ []) (only-rule 4) _ _ (k.named 4 (omega arith)))
     right-record (Shape.range dates) k =
-        let p = dates-right (field (recordIn bs n) 0) (field (recordIn bs n) 1) (unfold fieldRight in k.named 0 (omega arith)) in
-        IsRecord.dateInterval (held k.kind (omega (arith, k.most)) refl refl (nought k 2 (omega arith) refl) (nought k 3 (omega arith) refl) refl)
+        let p = dates-right (field (record_in bs n) 0) (field (record_in bs n) 1) (unfold field_right in k.named 0 (omega arith)) in
+        IsRecord.date_interval (held k.kind (omega (arith, k.most)) refl refl (nought k 2 (omega arith) refl) (nought k 3 (omega arith) refl) refl)
         ((packed-day _).0 p.low) ((packed-day _).0 p.high) p.order (link-has (7 ∷ []) (only-rule 7) _ _ (k.named 4 (omega arith)))
 
 -- the test of the record with a number
 abbrev right : List ℕ → ℕ → Bool
-right bs n = recordRight (image_of bs) n (take recordSize (drop (recordSize * n) bs)) (recordIn bs n)
+right bs n = record_right (image_of bs) n (take record_size (drop (record_size * n) bs)) (record_in bs n)
 
 -- a record passes its tests exactly where it obeys the rules of its kind
 pub record-rule : (bs : List ℕ) (count pool root n : ℕ) → IsFrame bs count pool root → 1 ≤ n → n < count
-    → (recordRight (image_of bs) n (take recordSize (drop (recordSize * n) bs)) (recordIn bs n) ≡ true)
+    → (record_right (image_of bs) n (take record_size (drop (record_size * n) bs)) (record_in bs n) ≡ true)
     ↔ IsRecord bs count pool n
 record-rule bs count pool root n f l h = (there, record-right bs count pool root n f)
   where
     there : right bs n ≡ true → IsRecord bs count pool n
     there e =
-        let s = take recordSize (drop (recordSize * n) bs) in
-        let r = recordIn bs n in
-        let p = each-passed (isMarked s) (obeys (image_of bs) n r ∷ clean r ∷ []) e in
+        let s = take record_size (drop (record_size * n) bs) in
+        let r = record_in bs n in
+        let p = each-passed (is_marked s) (obeys (image_of bs) n r ∷ clean r ∷ []) e in
         let z = f.sized in
-        right-record bs count pool root n f (isLittle s) (holds-there bs n p.0 (omega arith)) (shape_of r.kind)
+        right-record bs count pool root n f (is_little s) (holds-there bs n p.0 (omega arith)) (shape_of r.kind)
         (kept (image_of bs) n r (record { counted = decode-counted s; obeyed = p.1.0; cleaned = p.1.1.0 }))
 
 -- what the lowest number that fails a test is, of k from number i on
@@ -272,15 +272,15 @@ lowest-more test i k (some n) e p =
 
 -- the record told is the lowest that fails its tests
 broken-lowest : (bs : List ℕ) (k i : ℕ)
-    → Lowest (right bs) i k (broken (image_of bs) i (decodes k (drop (recordSize * i) bs)) (drop (recordSize * i) bs))
+    → Lowest (right bs) i k (broken (image_of bs) i (decodes k (drop (record_size * i) bs)) (drop (record_size * i) bs))
 unfolding broken
 broken-lowest bs zero i = λ n h l. absurd (omega arith)
 broken-lowest bs (suc k) i =
-    let next = drop (recordSize * suc i) bs in
-    let s : recordSize * i + recordSize ≡ recordSize * suc i = omega arith in
+    let next = drop (record_size * suc i) bs in
+    let s : record_size * i + record_size ≡ record_size * suc i = omega arith in
     by_cond (Lowest (right bs) i (suc k)) (right bs i)
     (λ e.
-    rw (drop-drop recordSize (recordSize * i) bs, s)
+    rw (drop-drop record_size (record_size * i) bs, s)
     (lowest-more (right bs) i k (broken (image_of bs) (suc i) (decodes k next) next) e (broken-lowest bs k (suc i))))
     (λ e. (omega arith, omega arith, e, λ j a b. absurd (omega arith)))
 
@@ -291,7 +291,7 @@ Told bs (some r) = NoTable bs r
 
 -- it says so of bytes with the frame
 records-told : (bs : List ℕ) (count pool root : ℕ) → IsFrame bs count pool root → (o : Option ℕ)
-    → Lowest (right bs) 1 (count - 1) o → Told bs (brokenRecord o)
+    → Lowest (right bs) 1 (count - 1) o → Told bs (broken_record o)
 records-told bs count pool root f none p =
     let l = f.least in
     (count, pool, root, record { frame = f; records = λ n a b. (record-rule bs count pool root n f a b).0 (p n a (omega arith)) })
@@ -304,12 +304,12 @@ records-told bs count pool root f (some n) p =
     (λ j u v. (record-rule bs count pool root j f u (omega arith)).0 (p.3 j u v))
 
 -- and of any bytes
-told : (bs : List ℕ) → Told bs (tableFault bs)
-unfolding tableFault image_of
+told : (bs : List ℕ) → Told bs (table_fault bs)
+unfolding table_fault image_of
 told bs =
     by_cond (Told bs) (framed bs)
     (λ e.
-    let lowest = broken (image_of bs) 1 (image_of bs).records (drop recordSize bs) in
+    let lowest = broken (image_of bs) 1 (image_of bs).records (drop record_size bs) in
     records-told bs _ _ _ ((framed-frame bs).0 e) lowest (broken-lowest bs (field (header bs) 0 - 1) 1))
     (λ e. NoTable.unframed (λ count pool root f. false≢true (sym e ∙ is_framed bs (has-framed bs count pool root f))))
 
@@ -339,8 +339,8 @@ one-reason (NoTable.broken {n = n} f a b h l) (NoTable.broken {n = m} g c d k o)
 
 -- bytes pass the check exactly where they are a table
 pub passes : (bs : List ℕ)
-    → (tableFault bs ≡ none) ↔ ((count : ℕ) × (pool : ℕ) × (root : ℕ) × IsTable bs count pool root)
-passes bs = (λ e. subst (Told bs) e (told bs), λ t. by t (tableFault bs) (told bs))
+    → (table_fault bs ≡ none) ↔ ((count : ℕ) × (pool : ℕ) × (root : ℕ) × IsTable bs count pool root)
+passes bs = (λ e. subst (Told bs) e (told bs), λ t. by t (table_fault bs) (told bs))
   where
     by : ((count : ℕ) × (pool : ℕ) × (root : ℕ) × IsTable bs count pool root) → (o : Option Refusal) → Told bs o
         → o ≡ none
@@ -348,8 +348,8 @@ passes bs = (λ e. subst (Told bs) e (told bs), λ t. by t (tableFault bs) (told
     by t (some r) u = absurd (not-both t.3 u)
 
 -- and are refused exactly for the reason that they are no table
-pub no_table : (bs : List ℕ) (r : Refusal) → (tableFault bs ≡ some r) ↔ NoTable bs r
-no_table bs r = (λ e. subst (Told bs) e (told bs), λ t. by t (tableFault bs) (told bs))
+pub no_table : (bs : List ℕ) (r : Refusal) → (table_fault bs ≡ some r) ↔ NoTable bs r
+no_table bs r = (λ e. subst (Told bs) e (told bs), λ t. by t (table_fault bs) (told bs))
   where
     by : NoTable bs r → (o : Option Refusal) → Told bs o → o ≡ some r
     by t none u = absurd (not-both u.3 t)

@@ -11,12 +11,12 @@ use lib.ListN.{get_or, take, drop}
 use lib.Seq.{get_or-drop}
 use Rattle.meaning.specs.Constraints.{ObjectHead, AttributeHead, ranges, texts}
 use Rattle.meaning.specs.Constraints
-use Rattle.meaning.specs.Sorts.{rangeRow}
-use Rattle.table.specs.Records.{Record, Image, fieldCount, field, count}
-use Rattle.table.specs.Rows.{Shape, tableHeader, object, attribute, text, single, range, shape_of, Use, unnamed, link, rowFor, row_of}
-use Rattle.table.specs.Check.{fieldRight, usesOf}
-use Rattle.table.specs.Names.{recordAt}
-use Rattle.table.specs.Trees.{number, part_of, parts_of, Cell, cell, cells, cells_of, part_at, stepIn, Tree, nothing, ofObject, ofAttributes, ofLeaf, attributesIn, valueIn, rangesOf, textsOf, items_in, reach, treeBy, tree_of, trees, treesOf, treeAt}
+use Rattle.meaning.specs.Sorts.{range_row}
+use Rattle.table.specs.Records.{Record, Image, field_count, field, count}
+use Rattle.table.specs.Rows.{Shape, table_header, object, attribute, text, single, range, shape_of, Use, unnamed, link, row_for, row_of}
+use Rattle.table.specs.Check.{field_right, uses_of}
+use Rattle.table.specs.Names.{record_at}
+use Rattle.table.specs.Trees.{number, part_of, parts_of, Cell, cell, cells, cells_of, part_at, step_in, Tree, nothing, of_object, of_attributes, of_leaf, attributes_in, value_in, ranges_of, texts_of, items_in, reach, tree_by, tree_of, trees, trees_of, tree_at}
 use Rattle.table.proofs.Checked.{Checked, RecordGood}
 use Rattle.table.proofs.UseLaws.{uses-counted, by-link}
 use Rattle.table.proofs.CheckLaws.{record-good, field_at}
@@ -48,9 +48,9 @@ parts-there pool n (u ∷ us) (x ∷ xs) zero h k = refl
 parts-there pool n (u ∷ us) (x ∷ xs) (suc i) h k = parts-there pool n us xs i (omega arith) (omega arith)
 
 -- a link, read as a step up, leads to the tree of the record that it names
-link-there : (m : Image) (k x : ℕ) (ks : List ℕ) (next : ℕ) → fieldRight m (suc k) (link ks) x next ≡ true
-    → reach (drop (suc k) (treesOf m)) (x - suc k) ≡ treeAt m x
-unfolding treeAt
+link-there : (m : Image) (k x : ℕ) (ks : List ℕ) (next : ℕ) → field_right m (suc k) (link ks) x next ≡ true
+    → reach (drop (suc k) (trees_of m)) (x - suc k) ≡ tree_at m x
+unfolding tree_at
 link-there m k x ks next h = by-link m (suc k) ks x next h
     (λ z. let e : 0 - suc k ≡ 0 = omega arith in rw (z, e))
     (λ l.
@@ -59,7 +59,7 @@ link-there m k x ks next h = by-link m (suc k) ks x next h
     let e : x - suc k ≡ suc j = omega arith in
     let f : suc k + j ≡ x - 1 = omega arith in
     let g : x ≡ suc (x - 1) = omega arith in
-    rw (e, get_or-drop, f) (sym (ap (λ y. get_or (nothing ∷ treesOf m) y nothing) g)))
+    rw (e, get_or-drop, f) (sym (ap (λ y. get_or (nothing ∷ trees_of m) y nothing) g)))
 
 -- the name that two fields of a record give
 abbrev pub name_at : Image → Record → ℕ → List ℕ
@@ -67,43 +67,43 @@ name_at m r i = take (field r (suc i)) (drop (field r i) m.pool)
 
 -- what a record stands for by what it is, its links followed by number
 abbrev pub node_by : Shape → Image → ℕ → Record → Tree
-node_by tableHeader m n r = nothing
+node_by table_header m n r = nothing
 node_by object m n r =
     let head : ObjectHead = record { number = n; type = name_at m r 0; code = name_at m r 2 } in
-    ofObject (Constraints.object head (attributesIn (treeAt m (field r 4))))
+    of_object (Constraints.object head (attributes_in (tree_at m (field r 4))))
 node_by attribute m n r =
     let head : AttributeHead = record { number = n; existence = r.flag; name = name_at m r 0 } in
-    ofAttributes (Constraints.attribute head (valueIn (treeAt m (field r 2))) (attributesIn (treeAt m (field r 3))))
-node_by text m n r = ofLeaf (texts (record { number = n; text = name_at m r 0 } ∷ items_in textsOf (treeAt m (field r 4))))
-node_by (single sort) m n r = ofLeaf (Constraints.single sort n r.flag)
+    of_attributes (Constraints.attribute head (value_in (tree_at m (field r 2))) (attributes_in (tree_at m (field r 3))))
+node_by text m n r = of_leaf (texts (record { number = n; text = name_at m r 0 } ∷ items_in texts_of (tree_at m (field r 4))))
+node_by (single sort) m n r = of_leaf (Constraints.single sort n r.flag)
 node_by (range sort) m n r =
-    let end : ℕ → ℕ = λ i. (rangeRow sort).end (field r i) in
-    ofLeaf (ranges sort (record { number = n; low = end 0; high = end 1 } ∷ items_in rangesOf (treeAt m (field r 4))))
+    let end : ℕ → ℕ = λ i. (range_row sort).end (field r i) in
+    of_leaf (ranges sort (record { number = n; low = end 0; high = end 1 } ∷ items_in ranges_of (tree_at m (field r 4))))
 
 abbrev pub node_of : Image → ℕ → Record → Tree
 node_of m n r = node_by (shape_of r.kind) m n r
 
 module _ (m : Image) (k : ℕ) (r : Record) (g : RecordGood m (suc k) r) (s : Shape) (e : shape_of r.kind ≡ s) where
   -- a field as it is meant, where the record's shape is known
-  part-there : (i : ℕ) → i < fieldCount
+  part-there : (i : ℕ) → i < field_count
       → part_at (cell m.pool (suc k) r) i
-      ≡ part_of m.pool (suc k) (get_or ((rowFor s).uses r.fields) i unnamed) (field r i) (field r (suc i))
+      ≡ part_of m.pool (suc k) (get_or ((row_for s).uses r.fields) i unnamed) (field r i) (field r (suc i))
   part-there i h =
-      parts-there m.pool (suc k) (usesOf r) r.fields i (omega (arith, uses-counted (shape_of r.kind) r.fields)) (omega (arith, g.counted))
-      ∙ ap (λ x. part_of m.pool (suc k) (get_or ((rowFor x).uses r.fields) i unnamed) (field r i) (field r (suc i))) e
+      parts-there m.pool (suc k) (uses_of r) r.fields i (omega (arith, uses-counted (shape_of r.kind) r.fields)) (omega (arith, g.counted))
+      ∙ ap (λ x. part_of m.pool (suc k) (get_or ((row_for x).uses r.fields) i unnamed) (field r i) (field r (suc i))) e
 
   -- where a link leads
-  to-there : (i : ℕ) (ks : List ℕ) → i < fieldCount → get_or ((rowFor s).uses r.fields) i unnamed ≡ link ks
-      → reach (drop (suc k) (treesOf m)) (stepIn (part_at (cell m.pool (suc k) r) i)) ≡ treeAt m (field r i)
+  to-there : (i : ℕ) (ks : List ℕ) → i < field_count → get_or ((row_for s).uses r.fields) i unnamed ≡ link ks
+      → reach (drop (suc k) (trees_of m)) (step_in (part_at (cell m.pool (suc k) r) i)) ≡ tree_at m (field r i)
   to-there i ks h u =
       let f = field_at g i h in
-      let w : fieldRight m (suc k) (link ks) (field r i) (field r (suc i)) ≡ true = rw (usesOf, row_of, e, u) at f in
-      ap (λ p. reach (drop (suc k) (treesOf m)) (stepIn p)) (part-there i h ∙ ap (λ v. part_of m.pool (suc k) v (field r i) (field r (suc i))) u)
+      let w : field_right m (suc k) (link ks) (field r i) (field r (suc i)) ≡ true = rw (uses_of, row_of, e, u) at f in
+      ap (λ p. reach (drop (suc k) (trees_of m)) (step_in p)) (part-there i h ∙ ap (λ v. part_of m.pool (suc k) v (field r i) (field r (suc i))) u)
       ∙ link-there m k (field r i) ks (field r (suc i)) w
 
 node-there : (m : Image) (k : ℕ) (r : Record) → RecordGood m (suc k) r → (s : Shape) → shape_of r.kind ≡ s
-    → treeBy s (suc k) (cell m.pool (suc k) r) (drop (suc k) (treesOf m)) ≡ node_by s m (suc k) r
-node-there m k r g tableHeader e = refl
+    → tree_by s (suc k) (cell m.pool (suc k) r) (drop (suc k) (trees_of m)) ≡ node_by s m (suc k) r
+node-there m k r g table_header e = refl
 node-there m k r g object e = rw (part-there m k r g object e 0 (lit< tt), part-there m k r g object e 2 (lit< tt), to-there m k r g object e 4 _ (lit< tt) refl)
 node-there m k r g attribute e =
     rw (part-there m k r g attribute e 0 (lit< tt), to-there m k r g attribute e 2 _ (lit< tt) refl, to-there m k r g attribute e 3 _ (lit< tt) refl)
@@ -113,14 +113,14 @@ node-there m k r g (range sort) e =
     rw (part-there m k r g (range sort) e 0 (lit< tt), part-there m k r g (range sort) e 1 (lit< tt), to-there m k r g (range sort) e 4 _ (lit< tt) refl)
 
 -- the tree at a record of a checked table is the record's, with the trees at its links
-pub tree-node : (m : Image) → Checked m → (n : ℕ) → 1 ≤ n → n < count m → treeAt m n ≡ node_of m n (recordAt m n)
-unfolding treeAt treesOf cells_of
+pub tree-node : (m : Image) → Checked m → (n : ℕ) → 1 ≤ n → n < count m → tree_at m n ≡ node_of m n (record_at m n)
+unfolding tree_at trees_of cells_of
 tree-node m h zero a b = absurd (omega arith)
 tree-node m h (suc k) a b =
-    let r = recordAt m (suc k) in
+    let r = record_at m (suc k) in
     let z : Cell = cell m.pool 0 r in
     let one : 1 + k ≡ suc k = omega arith in
     trees-there 1 k (cells_of m) z (rw length-cells (omega arith))
-    ∙ ap (λ x. tree_of (1 + k) x (drop (suc k) (treesOf m))) (cells-there m.pool 1 k m.records _ z (omega arith))
-    ∙ ap (λ j. tree_of j (cell m.pool j r) (drop (suc k) (treesOf m))) one
+    ∙ ap (λ x. tree_of (1 + k) x (drop (suc k) (trees_of m))) (cells-there m.pool 1 k m.records _ z (omega arith))
+    ∙ ap (λ j. tree_of j (cell m.pool j r) (drop (suc k) (trees_of m))) one
     ∙ node-there m k r (record-good m (suc k) h a b) (shape_of r.kind) refl

@@ -9,7 +9,7 @@ use lib.Seq.{sets}
 use Rattle.lexis.proofs.Stores.{sets_behind}
 use Rattle.table.specs.Order.{put}
 use Rattle.table.specs.Records.{mark, encode, field}
-use Rattle.table.specs.contracts.Answers.{recordOf, orderedAs}
+use Rattle.table.specs.Clauses.Answers.{record_of, ordered_as}
 use Rattle.table.specs.declared.records.Entry.{Entry}
 use Rattle.table.proofs.OrderLaws.{length-put}
 use Rattle.table.proofs.OrderSteps.{put-ordered}
@@ -33,7 +33,7 @@ record-put : (s s0 s1 s2 s3 s4 s5 : List ℕ) (at : ℕ) (little : Bool) (r : En
     → s1 ≡ sets s0 (at + 4) (put little 4 r.a) → s2 ≡ sets s1 (at + 8) (put little 4 r.b)
     → s3 ≡ sets s2 (at + 12) (put little 4 r.c)
     → s4 ≡ sets s3 (at + 16) (put little 4 r.d) → s5 ≡ sets s4 (at + 20) (put little 4 r.e)
-    → s5 ≡ sets s at (encode little (recordOf r))
+    → s5 ≡ sets s at (encode little (record_of r))
 unfolding encode
 record-put s s0 s1 s2 s3 s4 s5 at little r e0 e1 e2 e3 e4 e5 =
     let h = put little 2 mark ++ (r.kind ∷ r.flag ∷ []) in
@@ -50,14 +50,14 @@ record-put s s0 s1 s2 s3 s4 s5 at little r e0 e1 e2 e3 e4 e5 =
 
 -- the numbers may be put in order first, and then be written lowest first
 pub record-ordered : (s s0 s1 s2 s3 s4 s5 : List ℕ) (at : ℕ) (little : Bool) (r t : Entry)
-    → recordOf t ≡ orderedAs little (recordOf r)
+    → record_of t ≡ ordered_as little (record_of r)
     → s0 ≡ sets s at (put little 2 mark ++ (r.kind ∷ r.flag ∷ []))
     → s1 ≡ sets s0 (at + 4) (put true 4 t.a) → s2 ≡ sets s1 (at + 8) (put true 4 t.b)
     → s3 ≡ sets s2 (at + 12) (put true 4 t.c)
     → s4 ≡ sets s3 (at + 16) (put true 4 t.d) → s5 ≡ sets s4 (at + 20) (put true 4 t.e)
-    → s5 ≡ sets s at (encode little (recordOf r))
+    → s5 ≡ sets s at (encode little (record_of r))
 record-ordered s s0 s1 s2 s3 s4 s5 at little r t o e0 e1 e2 e3 e4 e5 =
-    let n : (i : ℕ) → put true 4 (field (recordOf t) i) ≡ put true 4 (field (orderedAs little (recordOf r)) i) = λ i. ap (λ x. put true 4 (field x i)) o in
+    let n : (i : ℕ) → put true 4 (field (record_of t) i) ≡ put true 4 (field (ordered_as little (record_of r)) i) = λ i. ap (λ x. put true 4 (field x i)) o in
     record-put s s0 s1 s2 s3 s4 s5 at little r e0
     (e1 ∙ ap (sets s0 (at + 4)) (n 0 ∙ put-ordered little r.a))
     (e2 ∙ ap (sets s1 (at + 8)) (n 1 ∙ put-ordered little r.b))

@@ -9,10 +9,10 @@ use lib.ListN.{length, get_or, take, drop, get_or-append}
 use lib.Seq.{drop-drop, get_or-drop}
 use Rattle.lexis.proofs.Cases.{and_left, and_right}
 use Rattle.values.proofs.Common.{le_right}
-use Rattle.meaning.specs.Constraints.{booleans, datePattern, timePattern, durationPattern, integers, dates}
+use Rattle.meaning.specs.Constraints.{booleans, date_pattern, time_pattern, duration_pattern, integers, dates}
 use Rattle.table.specs.Order.{put}
-use Rattle.table.specs.Records.{Record, Image, recordSize, numberSize, isLittle, isMarked, decode, put_all, encode, count, headerOf, encodes, recordIn, bytes_of}
-use Rattle.table.specs.Rows.{Shape, tableHeader, object, attribute, text, single, range, shape_of, kind_of, isKnown, rowFor}
+use Rattle.table.specs.Records.{Record, Image, record_size, number_size, is_little, is_marked, decode, put_all, encode, count, header_of, encodes, record_in, bytes_of}
+use Rattle.table.specs.Rows.{Shape, table_header, object, attribute, text, single, range, shape_of, kind_of, is_known, row_for}
 use Rattle.table.specs.TableRules.{Holds}
 use Rattle.table.proofs.Checked.{RecordGood, RecordsGood, Checked}
 use Rattle.table.proofs.OrderLaws.{Bytes}
@@ -22,18 +22,18 @@ use Rattle.table.proofs.CheckLaws.{good-tests, image-fits}
 use Rattle.table.proofs.HoldsLaws.{holds-there}
 
 -- a table's bytes are its records', the header's first, and its pool
-bytes-are : (little : Bool) (m : Image) → bytes_of little m ≡ encodes little (headerOf m ∷ m.records) ++ m.pool
+bytes-are : (little : Bool) (m : Image) → bytes_of little m ≡ encodes little (header_of m ∷ m.records) ++ m.pool
 unfolding bytes_of
-bytes-are little m = sym (append_assoc (encode little (headerOf m)) (encodes little m.records) m.pool)
+bytes-are little m = sym (append_assoc (encode little (header_of m)) (encodes little m.records) m.pool)
 
 -- behind so many records stands the next
 encodes-at : (little : Bool) (rs : List Record) (d : Record) (more : List ℕ) → AllFit rs → (n : ℕ) → n < length rs
-    → (rest : List ℕ) × (drop (recordSize * n) (encodes little rs ++ more) ≡ encode little (get_or rs n d) ++ rest)
+    → (rest : List ℕ) × (drop (record_size * n) (encodes little rs ++ more) ≡ encode little (get_or rs n d) ++ rest)
 encodes-at little [] d more f n l = absurd (omega arith)
 encodes-at little (r ∷ rs) d more f zero l = (encodes little rs ++ more, append_assoc (encode little r) (encodes little rs) more)
 encodes-at little (r ∷ rs) d more f (suc n) l =
-    let e : recordSize * suc n ≡ recordSize + recordSize * n = omega arith in
-    rw (e, ← drop-drop (recordSize * n) recordSize (encodes little (r ∷ rs) ++ more), append_assoc, drop-front little r (encodes little rs ++ more) f.0.counted)
+    let e : record_size * suc n ≡ record_size + record_size * n = omega arith in
+    rw (e, ← drop-drop (record_size * n) record_size (encodes little (r ∷ rs) ++ more), append_assoc, drop-front little r (encodes little rs ++ more) f.0.counted)
     (encodes-at little rs d more f.1 n (omega arith))
 
 -- of records that fit each does
@@ -44,32 +44,32 @@ fit_at (r ∷ rs) d f (suc n) l = fit_at rs d f.1 n (omega arith)
 
 -- a record that is written is of the order asked
 order-part : (little : Bool) (r : Record) (more : List ℕ)
-    → isLittle (take recordSize (encode little r ++ more)) ≡ little
+    → is_little (take record_size (encode little r ++ more)) ≡ little
 unfolding encode
 order-part true r more = refl
 order-part false r more = refl
 
 -- a table that fits, written, holds each record
 pub written-holds : (little : Bool) (m : Image) → ImageFits m → (d : Record) (n : ℕ) → n < count m
-    → Holds (bytes_of little m) n little (get_or (headerOf m ∷ m.records) n d)
+    → Holds (bytes_of little m) n little (get_or (header_of m ∷ m.records) n d)
 written-holds little m f d n l =
-    let rs = headerOf m ∷ m.records in
+    let rs = header_of m ∷ m.records in
     let bs = bytes_of little m in
     let r = get_or rs n d in
     let g : AllFit rs = (header-fits m f, f.records) in
     let a = encodes-at little rs d m.pool g n l in
-    let p : drop (recordSize * n) bs ≡ encode little r ++ a.0 = ap (drop (recordSize * n)) (bytes-are little m) ∙ a.1 in
+    let p : drop (record_size * n) bs ≡ encode little r ++ a.0 = ap (drop (record_size * n)) (bytes-are little m) ∙ a.1 in
     let e = length-bytes little m (fit-counted m.records f.records) in
-    let h = holds-there bs n (ap (λ x. isMarked (take recordSize x)) p ∙ marked-part little r a.0) (omega arith) in
-    let o : isLittle (take recordSize (drop (recordSize * n) bs)) ≡ little = ap (λ x. isLittle (take recordSize x)) p ∙ order-part little r a.0 in
-    let q : recordIn bs n ≡ r = ap (λ x. decode (take recordSize x)) p ∙ decode-front little r a.0 (fit_at rs d g n l) in
-    subst (λ x. Holds bs n x r) o (subst (λ x. Holds bs n (isLittle (take recordSize (drop (recordSize * n) bs))) x) q h)
+    let h = holds-there bs n (ap (λ x. is_marked (take record_size x)) p ∙ marked-part little r a.0) (omega arith) in
+    let o : is_little (take record_size (drop (record_size * n) bs)) ≡ little = ap (λ x. is_little (take record_size x)) p ∙ order-part little r a.0 in
+    let q : record_in bs n ≡ r = ap (λ x. decode (take record_size x)) p ∙ decode-front little r a.0 (fit_at rs d g n l) in
+    subst (λ x. Holds bs n x r) o (subst (λ x. Holds bs n (is_little (take record_size (drop (record_size * n) bs))) x) q h)
 
 -- behind the records stands the pool
 pub pool-byte : (little : Bool) (m : Image) → ImageFits m → (k : ℕ)
-    → get_or (bytes_of little m) (recordSize * count m + k) 0 ≡ get_or m.pool k 0
+    → get_or (bytes_of little m) (record_size * count m + k) 0 ≡ get_or m.pool k 0
 pool-byte little m f k =
-    sym (get_or-drop (recordSize * count m) (bytes_of little m) k 0) ∙ ap (λ l. get_or l k 0) (pool-behind little m (fit-counted m.records f.records))
+    sym (get_or-drop (record_size * count m) (bytes_of little m) k 0) ∙ ap (λ l. get_or l k 0) (pool-behind little m (fit-counted m.records f.records))
 
 -- bytes one behind another
 bytes-append : (xs ys : List ℕ) → Bytes xs → Bytes ys → Bytes (xs ++ ys)
@@ -83,29 +83,29 @@ bytes-at (x ∷ xs) h zero = h.0
 bytes-at (x ∷ xs) h (suc k) = bytes-at xs h.1 k
 
 -- a number, numbers and a record are written in bytes
-put-bytes : (little : Bool) (n : ℕ) → Bytes (put little numberSize n)
+put-bytes : (little : Bool) (n : ℕ) → Bytes (put little number_size n)
 put-bytes true n = omega arith
 put-bytes false n = omega arith
 
-putAll-bytes : (little : Bool) (xs : List ℕ) → Bytes (put_all little xs)
-putAll-bytes little [] = tt
-putAll-bytes little (x ∷ xs) = bytes-append (put little numberSize x) (put_all little xs) (put-bytes little x) (putAll-bytes little xs)
+put_all-bytes : (little : Bool) (xs : List ℕ) → Bytes (put_all little xs)
+put_all-bytes little [] = tt
+put_all-bytes little (x ∷ xs) = bytes-append (put little number_size x) (put_all little xs) (put-bytes little x) (put_all-bytes little xs)
 
 encode-bytes : (little : Bool) (r : Record) → r.kind < 256 → r.flag < 256 → Bytes (encode little r)
 unfolding encode
-encode-bytes true r h k = (omega arith, (omega arith, (h, (k, putAll-bytes true r.fields))))
-encode-bytes false r h k = (omega arith, (omega arith, (h, (k, putAll-bytes false r.fields))))
+encode-bytes true r h k = (omega arith, (omega arith, (h, (k, put_all-bytes true r.fields))))
+encode-bytes false r h k = (omega arith, (omega arith, (h, (k, put_all-bytes false r.fields))))
 
 -- a shape's kind, and the greatest of its flags, are bytes
-shape-small : (s : Shape) → (kind_of s < 256) × ((rowFor s).most < 256)
-shape-small tableHeader = omega arith
+shape-small : (s : Shape) → (kind_of s < 256) × ((row_for s).most < 256)
+shape-small table_header = omega arith
 shape-small object = omega arith
 shape-small attribute = omega arith
 shape-small text = omega arith
 shape-small (single booleans) = omega arith
-shape-small (single datePattern) = omega arith
-shape-small (single timePattern) = omega arith
-shape-small (single durationPattern) = omega arith
+shape-small (single date_pattern) = omega arith
+shape-small (single time_pattern) = omega arith
+shape-small (single duration_pattern) = omega arith
 shape-small (range integers) = omega arith
 shape-small (range dates) = omega arith
 
@@ -114,8 +114,8 @@ good-bytes : {m : Image} {n : ℕ} {r : Record} (little : Bool) → RecordGood m
 good-bytes {r = r} little g =
     let s = shape_of r.kind in
     let f = (good-tests g).0 in
-    let k = kind-shape r.kind (and_left (isKnown s) _ f) in
-    let l = le_right (leb (rowFor s).least r.flag) r.flag (rowFor s).most (and_right (isKnown s) _ f) in
+    let k = kind-shape r.kind (and_left (is_known s) _ f) in
+    let l = le_right (leb (row_for s).least r.flag) r.flag (row_for s).most (and_right (is_known s) _ f) in
     let h = shape-small s in
     encode-bytes little r (omega arith) (omega arith)
 
@@ -123,12 +123,12 @@ goods-bytes : (little : Bool) (m : Image) (n : ℕ) (rs : List Record) → Recor
 goods-bytes little m n [] g = tt
 goods-bytes little m n (r ∷ rs) g = bytes-append (encode little r) (encodes little rs) (good-bytes little g.0) (goods-bytes little m (suc n) rs g.1)
 
-pub record-bytes : (little : Bool) (m : Image) → Checked m → (k : ℕ) → k < recordSize * count m
+pub record-bytes : (little : Bool) (m : Image) → Checked m → (k : ℕ) → k < record_size * count m
     → get_or (bytes_of little m) k 0 < 256
 record-bytes little m h k l =
-    let rs = headerOf m ∷ m.records in
+    let rs = header_of m ∷ m.records in
     let f = image-fits m h in
     let e = length-encodes little rs (refl, fit-counted m.records f.records) in
-    let first = encode-bytes little (headerOf m) (omega arith) (omega arith) in
-    let b = bytes-append (encode little (headerOf m)) (encodes little m.records) first (goods-bytes little m 1 m.records h.records) in
+    let first = encode-bytes little (header_of m) (omega arith) (omega arith) in
+    let b = bytes-append (encode little (header_of m)) (encodes little m.records) first (goods-bytes little m 1 m.records h.records) in
     rw (bytes-are little m, get_or-append (encodes little rs) m.pool 0 k (omega arith)) (bytes-at (encodes little rs) b k)

@@ -5,15 +5,15 @@ use Rattle.std.specs.Prelude.{Bool, true, cond, ◌&&◌, ◌||◌, List, [], �
 use Rattle.std.proofs.Math.Option.{Option, none, some}
 use Rattle.std.proofs.Math.ListN
 use Rattle.lexis.specs.Bytes.{within, among}
-use Rattle.values.specs.Integers.{twosComplement}
+use Rattle.values.specs.Integers.{twos_complement}
 use Rattle.values.specs.Calendar.{real}
-use Rattle.refusals.specs.Limits.{recordLimit, poolLimit}
+use Rattle.refusals.specs.Limits.{record_limit, pool_limit}
 use Rattle.refusals.specs.Refusals.{refusal}
 use Rattle.refusals.specs.declared.Refusal.{Refusal}
 use Rattle.refusals.specs.declared.Cause.TheVariants.{NotATable, BrokenRecord}
 use Rattle.meaning.specs.Constraints.{RangeSort, integers, dates}
-use Rattle.table.specs.Records.{Record, Image, recordSize, isMarked, field, count, header, image_of}
-use Rattle.table.specs.Rows.{shape_of, objectKind, isKnown, Use, unnamed, place, length, link, low, high, row_of}
+use Rattle.table.specs.Records.{Record, Image, record_size, is_marked, field, count, header, image_of}
+use Rattle.table.specs.Rows.{shape_of, object_kind, is_known, Use, unnamed, place, length, link, low, high, row_of}
 
 -- the kinds of records
 abbrev pub kinds : List Record → List ℕ
@@ -25,89 +25,89 @@ abbrev pub kind_at : Image → ℕ → ℕ
 kind_at m n = get_or (0 ∷ kinds m.records) n 0
 
 -- the rule of a closed pair
-unfoldable pub pairRight : RangeSort → ℕ → ℕ → Bool
-pairRight integers x y = ltb x (2 ^ 32) && ltb y (2 ^ 32) && leb (twosComplement x) (twosComplement y)
-pairRight dates x y = real x && real y && leb x y
+unfoldable pub pair_right : RangeSort → ℕ → ℕ → Bool
+pair_right integers x y = ltb x (2 ^ 32) && ltb y (2 ^ 32) && leb (twos_complement x) (twos_complement y)
+pair_right dates x y = real x && real y && leb x y
 
 -- the rule of a field x, before the field next, of the record with number n
-unfoldable pub fieldRight : Image → ℕ → Use → ℕ → ℕ → Bool
-fieldRight m n unnamed x next = true
-fieldRight m n (place least most) x next =
+unfoldable pub field_right : Image → ℕ → Use → ℕ → ℕ → Bool
+field_right m n unnamed x next = true
+field_right m n (place least most) x next =
     within least most next && cond (eqb next 0) (eqb x 0) (leb (x + next) (ListN.length m.pool))
-fieldRight m n length x next = true
-fieldRight m n (link ks) x next = eqb x 0 || ltb n x && ltb x (count m) && among (kind_at m x) ks
-fieldRight m n (low sort) x next = pairRight sort x next
-fieldRight m n high x next = true
+field_right m n length x next = true
+field_right m n (link ks) x next = eqb x 0 || ltb n x && ltb x (count m) && among (kind_at m x) ks
+field_right m n (low sort) x next = pair_right sort x next
+field_right m n high x next = true
 
-abbrev pub fieldsRight : Image → ℕ → List Use → List ℕ → Bool
-fieldsRight m n [] xs = true
-fieldsRight m n (u ∷ us) [] = true
-fieldsRight m n (u ∷ us) (x ∷ xs) = fieldRight m n u x (get_or xs 0 0) && fieldsRight m n us xs
+abbrev pub fields_right : Image → ℕ → List Use → List ℕ → Bool
+fields_right m n [] xs = true
+fields_right m n (u ∷ us) [] = true
+fields_right m n (u ∷ us) (x ∷ xs) = field_right m n u x (get_or xs 0 0) && fields_right m n us xs
 
 -- a field that is not named is 0
-abbrev pub isNought : Use → ℕ → Bool
-isNought unnamed x = eqb x 0
-isNought (place least most) x = true
-isNought length x = true
-isNought (link ks) x = true
-isNought (low sort) x = true
-isNought high x = true
+abbrev pub is_nought : Use → ℕ → Bool
+is_nought unnamed x = eqb x 0
+is_nought (place least most) x = true
+is_nought length x = true
+is_nought (link ks) x = true
+is_nought (low sort) x = true
+is_nought high x = true
 
-abbrev pub restNought : List Use → List ℕ → Bool
-restNought [] xs = true
-restNought (u ∷ us) [] = true
-restNought (u ∷ us) (x ∷ xs) = isNought u x && restNought us xs
+abbrev pub rest_nought : List Use → List ℕ → Bool
+rest_nought [] xs = true
+rest_nought (u ∷ us) [] = true
+rest_nought (u ∷ us) (x ∷ xs) = is_nought u x && rest_nought us xs
 
 -- what a record's fields are
-abbrev pub usesOf : Record → List Use
-usesOf r = (row_of r.kind).uses r.fields
+abbrev pub uses_of : Record → List Use
+uses_of r = (row_of r.kind).uses r.fields
 
 -- the rules of a record's kind and flag
-abbrev pub flagRight : ℕ → ℕ → Bool
-flagRight kind flag = isKnown (shape_of kind) && within (row_of kind).least (row_of kind).most flag
+abbrev pub flag_right : ℕ → ℕ → Bool
+flag_right kind flag = is_known (shape_of kind) && within (row_of kind).least (row_of kind).most flag
 
 -- the rules of a record: its kind, its flag, each named field and all of them; and that its other fields are 0
 unfoldable pub obeys : Image → ℕ → Record → Bool
 obeys m n r =
-    flagRight r.kind r.flag && fieldsRight m n (usesOf r) r.fields && (row_of r.kind).across m n r.fields
+    flag_right r.kind r.flag && fields_right m n (uses_of r) r.fields && (row_of r.kind).across m n r.fields
 
 unfoldable pub clean : Record → Bool
-clean r = restNought (usesOf r) r.fields
+clean r = rest_nought (uses_of r) r.fields
 
 -- a record's bytes, its number and what they decode to: the mark, the rules, the other fields
-abbrev pub recordRight : Image → ℕ → List ℕ → Record → Bool
-recordRight m n bs r = isMarked bs && obeys m n r && clean r
+abbrev pub record_right : Image → ℕ → List ℕ → Record → Bool
+record_right m n bs r = is_marked bs && obeys m n r && clean r
 
 -- the lowest record at fault, from number n on, of the records and the bytes from there
 unfoldable pub broken : Image → ℕ → List Record → List ℕ → Option ℕ
 broken m n [] bs = none
 broken m n (r ∷ rs) bs =
-    let more = broken m (suc n) rs (drop recordSize bs) in
-    cond (recordRight m n (take recordSize bs) r) more (some n)
+    let more = broken m (suc n) rs (drop record_size bs) in
+    cond (record_right m n (take record_size bs) r) more (some n)
 
 -- numbers that are all 0
-abbrev pub allNought : List ℕ → Bool
-allNought [] = true
-allNought (x ∷ xs) = eqb x 0 && allNought xs
+abbrev pub all_nought : List ℕ → Bool
+all_nought [] = true
+all_nought (x ∷ xs) = eqb x 0 && all_nought xs
 
 -- the length, the header and the root
 unfoldable pub framed : List ℕ → Bool
 framed bs =
     let h = header bs in
-    leb recordSize (ListN.length bs)
-    && isMarked bs
-    && (eqb h.kind 0 && eqb h.flag 0 && allNought (drop 3 h.fields))
-    && within 2 recordLimit (field h 0)
-    && leb (field h 1) poolLimit
-    && eqb (ListN.length bs) (recordSize * field h 0 + field h 1)
-    && eqb (kind_at (image_of bs) (field h 2)) objectKind
+    leb record_size (ListN.length bs)
+    && is_marked bs
+    && (eqb h.kind 0 && eqb h.flag 0 && all_nought (drop 3 h.fields))
+    && within 2 record_limit (field h 0)
+    && leb (field h 1) pool_limit
+    && eqb (ListN.length bs) (record_size * field h 0 + field h 1)
+    && eqb (kind_at (image_of bs) (field h 2)) object_kind
 
-abbrev pub brokenRecord : Option ℕ → Option Refusal
-brokenRecord none = none
-brokenRecord (some n) = some (refusal BrokenRecord n)
+abbrev pub broken_record : Option ℕ → Option Refusal
+broken_record none = none
+broken_record (some n) = some (refusal BrokenRecord n)
 
 -- the refusal of bytes as a table, if there is one
-unfoldable pub tableFault : List ℕ → Option Refusal
-tableFault bs =
-    cond (framed bs) (brokenRecord (broken (image_of bs) 1 (image_of bs).records (drop recordSize bs)))
+unfoldable pub table_fault : List ℕ → Option Refusal
+table_fault bs =
+    cond (framed bs) (broken_record (broken (image_of bs) 1 (image_of bs).records (drop record_size bs)))
     (some (refusal NotATable 0))

@@ -6,4 +6,4 @@ pub mod Names
 pub mod Trees
 pub mod TableRules
 pub mod Says
-pub mod contracts
+pub mod Clauses

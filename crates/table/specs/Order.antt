@@ -3,21 +3,21 @@
 use Rattle.std.specs.Prelude.{Bool, true, false, List, [], ◌∷◌, reverse, ℕ, zero, suc, ◌+◌, ◌*◌, ◌/◌, ◌%◌}
 
 -- a number's bytes, so many, the lowest first; and the number that bytes so written are
-abbrev pub lowestFirst : ℕ → ℕ → List ℕ
-lowestFirst zero n = []
-lowestFirst (suc width) n = n % 256 ∷ lowestFirst width (n / 256)
+abbrev pub lowest_first : ℕ → ℕ → List ℕ
+lowest_first zero n = []
+lowest_first (suc width) n = n % 256 ∷ lowest_first width (n / 256)
 
-abbrev pub bytesValue : List ℕ → ℕ
-bytesValue [] = 0
-bytesValue (x ∷ xs) = x + 256 * bytesValue xs
+abbrev pub bytes_value : List ℕ → ℕ
+bytes_value [] = 0
+bytes_value (x ∷ xs) = x + 256 * bytes_value xs
 
 -- the order is the one parameter: whether the lowest byte comes first
-abbrev pub inOrder : Bool → List ℕ → List ℕ
-inOrder true xs = xs
-inOrder false xs = reverse xs
+abbrev pub in_order : Bool → List ℕ → List ℕ
+in_order true xs = xs
+in_order false xs = reverse xs
 
 abbrev pub put : Bool → ℕ → ℕ → List ℕ
-put little width n = inOrder little (lowestFirst width n)
+put little width n = in_order little (lowest_first width n)
 
 abbrev pub get : Bool → List ℕ → ℕ
-get little xs = bytesValue (inOrder little xs)
+get little xs = bytes_value (in_order little xs)

@@ -4,10 +4,10 @@ use Rattle.std.proofs.Math.Option.{Option, none, some}
 use Rattle.std.specs.Prelude.{List, [], ◌∷◌, ℕ, suc, ◌-◌, get_or, take, drop}
 use Rattle.meaning.specs.Constraints.{Range, Text, ObjectHead, AttributeHead, Leaf, ranges, texts, Object, Attributes, no_more, Value, any, nested, leaf}
 use Rattle.meaning.specs.Constraints
-use Rattle.meaning.specs.Sorts.{rangeRow}
+use Rattle.meaning.specs.Sorts.{range_row}
 use Rattle.table.specs.Records.{Record, Image}
-use Rattle.table.specs.Rows.{Shape, tableHeader, object, attribute, text, single, range, shape_of, Use, unnamed, place, length, link, low, high}
-use Rattle.table.specs.Check.{usesOf}
+use Rattle.table.specs.Rows.{Shape, table_header, object, attribute, text, single, range, shape_of, Use, unnamed, place, length, link, low, high}
+use Rattle.table.specs.Check.{uses_of}
 
 -- a field as it is meant: a number, the bytes of a name, or a link as a step up from its own record, 0 where there is none
 pub data CellPart : Type 0 where
@@ -36,7 +36,7 @@ pub record Cell : Type 0 where
   pub parts : List CellPart
 
 abbrev pub cell : List ℕ → ℕ → Record → Cell
-cell pool n r = record { kind = r.kind; flag = r.flag; parts = parts_of pool n (usesOf r) r.fields }
+cell pool n r = record { kind = r.kind; flag = r.flag; parts = parts_of pool n (uses_of r) r.fields }
 
 abbrev pub cells : List ℕ → ℕ → List Record → List Cell
 cells pool n [] = []
@@ -54,97 +54,97 @@ number_in (number n) = n
 number_in (name w) = 0
 number_in (step k) = 0
 
-abbrev pub nameIn : CellPart → List ℕ
-nameIn (number n) = []
-nameIn (name w) = w
-nameIn (step k) = []
+abbrev pub name_in : CellPart → List ℕ
+name_in (number n) = []
+name_in (name w) = w
+name_in (step k) = []
 
-abbrev pub stepIn : CellPart → ℕ
-stepIn (number n) = 0
-stepIn (name w) = 0
-stepIn (step k) = k
+abbrev pub step_in : CellPart → ℕ
+step_in (number n) = 0
+step_in (name w) = 0
+step_in (step k) = k
 
 -- what a record stands for: an object; an attribute with those behind it; an item with those behind it; nothing
 pub data Tree : Type 0 where
   nothing : Tree
-  ofObject : Object → Tree
-  ofAttributes : Attributes → Tree
-  ofLeaf : Leaf → Tree
+  of_object : Object → Tree
+  of_attributes : Attributes → Tree
+  of_leaf : Leaf → Tree
 
-abbrev pub attributesIn : Tree → Attributes
-attributesIn nothing = no_more
-attributesIn (ofObject o) = no_more
-attributesIn (ofAttributes xs) = xs
-attributesIn (ofLeaf l) = no_more
+abbrev pub attributes_in : Tree → Attributes
+attributes_in nothing = no_more
+attributes_in (of_object o) = no_more
+attributes_in (of_attributes xs) = xs
+attributes_in (of_leaf l) = no_more
 
-abbrev pub valueIn : Tree → Value
-valueIn nothing = any
-valueIn (ofObject o) = nested o
-valueIn (ofAttributes xs) = any
-valueIn (ofLeaf l) = leaf l
+abbrev pub value_in : Tree → Value
+value_in nothing = any
+value_in (of_object o) = nested o
+value_in (of_attributes xs) = any
+value_in (of_leaf l) = leaf l
 
 -- the items of a leaf
-abbrev pub rangesOf : Leaf → List Range
-rangesOf (Constraints.single sort n flag) = []
-rangesOf (ranges sort l) = l
-rangesOf (texts l) = []
+abbrev pub ranges_of : Leaf → List Range
+ranges_of (Constraints.single sort n flag) = []
+ranges_of (ranges sort l) = l
+ranges_of (texts l) = []
 
-abbrev pub textsOf : Leaf → List Text
-textsOf (Constraints.single sort n flag) = []
-textsOf (ranges sort l) = []
-textsOf (texts l) = l
+abbrev pub texts_of : Leaf → List Text
+texts_of (Constraints.single sort n flag) = []
+texts_of (ranges sort l) = []
+texts_of (texts l) = l
 
 -- the items that a link leads to
 abbrev pub items_in : {A : Type 0} → (Leaf → List A) → Tree → List A
 items_in items nothing = []
-items_in items (ofObject o) = []
-items_in items (ofAttributes xs) = []
-items_in items (ofLeaf l) = items l
+items_in items (of_object o) = []
+items_in items (of_attributes xs) = []
+items_in items (of_leaf l) = items l
 
 -- what a step up leads to, of the trees of the records above
 abbrev pub reach : List Tree → ℕ → Tree
 reach above k = get_or (nothing ∷ above) k nothing
 
 -- the tree of a record by what it is and its number, given the trees of the records above it
-abbrev pub treeBy : Shape → ℕ → Cell → List Tree → Tree
-treeBy tableHeader n x above = nothing
-treeBy object n x above =
-    let head : ObjectHead = record { number = n; type = nameIn (part_at x 0); code = nameIn (part_at x 2) } in
-    ofObject (Constraints.object head (attributesIn (reach above (stepIn (part_at x 4)))))
-treeBy attribute n x above =
-    let head : AttributeHead = record { number = n; existence = x.flag; name = nameIn (part_at x 0) } in
-    ofAttributes
-    (Constraints.attribute head (valueIn (reach above (stepIn (part_at x 2))))
-    (attributesIn (reach above (stepIn (part_at x 3)))))
-treeBy text n x above =
-    ofLeaf (texts
-    (record { number = n; text = nameIn (part_at x 0) } ∷ items_in textsOf (reach above (stepIn (part_at x 4)))))
-treeBy (single sort) n x above = ofLeaf (Constraints.single sort n x.flag)
-treeBy (range sort) n x above =
-    let end : ℕ → ℕ = λ i. (rangeRow sort).end (number_in (part_at x i)) in
-    ofLeaf (ranges sort
-    (record { number = n; low = end 0; high = end 1 } ∷ items_in rangesOf (reach above (stepIn (part_at x 4)))))
+abbrev pub tree_by : Shape → ℕ → Cell → List Tree → Tree
+tree_by table_header n x above = nothing
+tree_by object n x above =
+    let head : ObjectHead = record { number = n; type = name_in (part_at x 0); code = name_in (part_at x 2) } in
+    of_object (Constraints.object head (attributes_in (reach above (step_in (part_at x 4)))))
+tree_by attribute n x above =
+    let head : AttributeHead = record { number = n; existence = x.flag; name = name_in (part_at x 0) } in
+    of_attributes
+    (Constraints.attribute head (value_in (reach above (step_in (part_at x 2))))
+    (attributes_in (reach above (step_in (part_at x 3)))))
+tree_by text n x above =
+    of_leaf (texts
+    (record { number = n; text = name_in (part_at x 0) } ∷ items_in texts_of (reach above (step_in (part_at x 4)))))
+tree_by (single sort) n x above = of_leaf (Constraints.single sort n x.flag)
+tree_by (range sort) n x above =
+    let end : ℕ → ℕ = λ i. (range_row sort).end (number_in (part_at x i)) in
+    of_leaf (ranges sort
+    (record { number = n; low = end 0; high = end 1 } ∷ items_in ranges_of (reach above (step_in (part_at x 4)))))
 
 abbrev pub tree_of : ℕ → Cell → List Tree → Tree
-tree_of n x above = treeBy (shape_of x.kind) n x above
+tree_of n x above = tree_by (shape_of x.kind) n x above
 
 abbrev pub trees : ℕ → List Cell → List Tree
 trees n [] = []
 trees n (x ∷ xs) = let above = trees (suc n) xs in tree_of n x above ∷ above
 
-unfoldable pub treesOf : Image → List Tree
-treesOf m = trees 1 (cells_of m)
+unfoldable pub trees_of : Image → List Tree
+trees_of m = trees 1 (cells_of m)
 
 -- the tree of a record
-unfoldable pub treeAt : Image → ℕ → Tree
-treeAt m n = reach (treesOf m) n
+unfoldable pub tree_at : Image → ℕ → Tree
+tree_at m n = reach (trees_of m) n
 
 -- an object of the table, by its number
-abbrev pub objectIn : Tree → Option Object
-objectIn nothing = none
-objectIn (ofObject o) = some o
-objectIn (ofAttributes xs) = none
-objectIn (ofLeaf l) = none
+abbrev pub object_in : Tree → Option Object
+object_in nothing = none
+object_in (of_object o) = some o
+object_in (of_attributes xs) = none
+object_in (of_leaf l) = none
 
-abbrev pub objectAt : Image → ℕ → Option Object
-objectAt m n = objectIn (treeAt m n)
+abbrev pub object_at : Image → ℕ → Option Object
+object_at m n = object_in (tree_at m n)

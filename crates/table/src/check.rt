@@ -1,8 +1,8 @@
 // The check of a table: its length, its header and its root, and then each record.
 ghost use Rattle.std.specs.Prelude.{◌≡◌, ◌*◌, ◌<◌, length, take, drop};
-ghost use Rattle.table.specs.Records.{recordSize, decode, image_of};
-ghost use Rattle.table.specs.Check.{recordRight, broken, brokenRecord, framed, tableFault};
-ghost use Rattle.table.specs.contracts.Answers.{Opened, plainHeader, countsRight, faultOf};
+ghost use Rattle.table.specs.Records.{record_size, decode, image_of};
+ghost use Rattle.table.specs.Check.{record_right, broken, broken_record, framed, table_fault};
+ghost use Rattle.table.specs.Clauses.Answers.{Opened, plain_header, counts_right, fault_of};
 
 use crate::layout::{HEADER_KIND, OBJECT_KIND, RECORD_SIZE};
 use crate::records::{
@@ -20,14 +20,14 @@ pub enum CheckAnswer {
 
 // The header's kind, flag and last two numbers are 0.
 fn plain_header(h: Entry) -> bool
-    ensures { result ≡ plainHeader h }
+    ensures { result ≡ plain_header h }
 {
     h.kind == HEADER_KIND && (h.flag == 0 && (h.d == 0 && h.e == 0))
 }
 
 // The header's counts are within their limits, and make up a table of so many bytes.
 fn counts_right(h: Entry, length: usize) -> bool
-    ensures { result ≡ countsRight h length }
+    ensures { result ≡ counts_right h length }
 {
     2 <= h.a
         && (h.a <= RECORD_MOST
@@ -63,9 +63,9 @@ fn record_right(table: &[u8], frame: Frame, n: RecordNumber) -> bool
     requires opened { Opened table.now frame }
     requires n_lt_count { n.0 < frame.count }
     ensures { result
-        ≡ recordRight (image_of table.now) n.0
-        (take recordSize (drop (recordSize * n.0) table.now))
-        (decode (take recordSize (drop (recordSize * n.0) table.now))) }
+        ≡ record_right (image_of table.now) n.0
+        (take record_size (drop (record_size * n.0) table.now))
+        (decode (take record_size (drop (record_size * n.0) table.now))) }
 {
     let at = n.start();
     is_marked(table, at) && rules_kept(table, frame, n, read(table, at))
@@ -74,10 +74,10 @@ fn record_right(table: &[u8], frame: Frame, n: RecordNumber) -> bool
 // The lowest record at fault, if there is one.
 fn check_records(table: &[u8], frame: Frame) -> CheckAnswer
     requires { Opened table.now frame }
-    ensures { faultOf result
-        ≡ brokenRecord
+    ensures { fault_of result
+        ≡ broken_record
         (broken (image_of table.now) 1 (image_of table.now).records
-        (drop recordSize table.now)) }
+        (drop record_size table.now)) }
 {
     let count = frame.count;
     let mut n: u32 = 1;
@@ -95,7 +95,7 @@ fn check_records(table: &[u8], frame: Frame) -> CheckAnswer
 
 // Whether bytes are a table, and else why not.
 pub fn check(table: &[u8]) -> CheckAnswer
-    ensures { faultOf result ≡ tableFault table.now }
+    ensures { fault_of result ≡ table_fault table.now }
 {
     if !is_framed(table) {
         return CheckAnswer::Refused(Refusal {

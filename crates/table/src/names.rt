@@ -4,9 +4,9 @@ ghost use Rattle.std.proofs.Math.Option.{none};
 ghost use Rattle.lexis.specs.Bytes.{among};
 ghost use Rattle.refusals.specs.Outcomes.{gave};
 ghost use Rattle.table.specs.Records.{image_of};
-ghost use Rattle.table.specs.Check.{tableFault};
-ghost use Rattle.table.specs.Names.{nameSlice, nameOutcome, nameAnswer, sliceBytes};
-ghost use Rattle.table.specs.contracts.Answers.{Opened, answer_of};
+ghost use Rattle.table.specs.Check.{table_fault};
+ghost use Rattle.table.specs.Names.{name_slice, name_outcome, name_answer, slice_bytes};
+ghost use Rattle.table.specs.Clauses.Answers.{Opened, answer_of};
 
 use crate::check::{CheckAnswer, check};
 use crate::records::{Frame, PoolPlace, RecordNumber, frame_of, kind_at, read};
@@ -36,7 +36,7 @@ fn has_name(kind: u8) -> bool
 fn name_part(table: &[u8], frame: Frame, n: RecordNumber) -> NameResult
     requires opened { Opened table.now frame }
     requires le_n { (1 ≤ n.0) × (n.0 < frame.count) }
-    ensures { answer_of result ≡ gave (nameSlice (image_of table.now) n.0) }
+    ensures { answer_of result ≡ gave (name_slice (image_of table.now) n.0) }
 {
     let e = read(table, n.start());
     NameResult::Named {
@@ -47,8 +47,8 @@ fn name_part(table: &[u8], frame: Frame, n: RecordNumber) -> NameResult
 
 // The name of a record, in a table that passes the check.
 fn name_in(table: &[u8], n: RecordNumber) -> NameResult
-    requires { tableFault table.now ≡ none }
-    ensures { answer_of result ≡ nameOutcome (image_of table.now) n.0 }
+    requires { table_fault table.now ≡ none }
+    ensures { answer_of result ≡ name_outcome (image_of table.now) n.0 }
 {
     let frame = frame_of(table);
     if !has_name(kind_at(table, frame, n)) {
@@ -62,7 +62,7 @@ fn name_in(table: &[u8], n: RecordNumber) -> NameResult
 
 // Where the name of a record lies in a table, and else why it has none.
 pub fn name_refusal(table: &[u8], record: u32) -> NameResult
-    ensures { answer_of result ≡ nameAnswer table.now «record» }
+    ensures { answer_of result ≡ name_answer table.now «record» }
 {
     match check(table) {
         CheckAnswer::Refused(why) => NameResult::Refused(why),
@@ -72,7 +72,7 @@ pub fn name_refusal(table: &[u8], record: u32) -> NameResult
 
 // The name of a record, which is the part of the table itself; with a refusal, an empty part.
 pub fn name<'a>(table: &'a [u8], record: u32) -> &'a [u8]
-    ensures { result.now ≡ sliceBytes table.now (nameAnswer table.now «record») }
+    ensures { result.now ≡ slice_bytes table.now (name_answer table.now «record») }
 {
     match name_refusal(table, record) {
         NameResult::Named { start, length } => {

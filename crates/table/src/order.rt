@@ -1,7 +1,7 @@
 // Numbers in a table's bytes, in either order: the order is a parameter, true where the lowest byte comes first.
 ghost use Rattle.std.specs.Prelude.{◌≡◌, true, false, [], ◌∷◌, ◌+◌, ◌%◌, ◌≤◌, length, take, drop};
 ghost use Rattle.std.proofs.lemmas.List.Edits.{sets};
-ghost use Rattle.table.specs.Order.{bytesValue, get, put};
+ghost use Rattle.table.specs.Order.{bytes_value, get, put};
 
 // A byte, as a number.
 fn wide(byte: u8) -> u32
@@ -19,14 +19,14 @@ fn lowest(n: u32) -> u8
 
 // The number of two bytes, the lowest first.
 fn joined2(a: u8, b: u8) -> u32
-    ensures { result ≡ bytesValue (a ∷ b ∷ []) }
+    ensures { result ≡ bytes_value (a ∷ b ∷ []) }
 {
     wide(a) + 256 * wide(b)
 }
 
 // The number of four bytes, the lowest first.
 fn joined4(a: u8, b: u8, c: u8, d: u8) -> u32
-    ensures { result ≡ bytesValue (a ∷ b ∷ c ∷ d ∷ []) }
+    ensures { result ≡ bytes_value (a ∷ b ∷ c ∷ d ∷ []) }
 {
     joined2(a, b) + 65536 * joined2(c, d)
 }

@@ -1,8 +1,8 @@
 // Records, their numbers, and places in the pool.
 ghost use Rattle.std.specs.Prelude.{◌≡◌, ◌+◌, ◌*◌, ◌<◌, ◌≤◌, ◌^◌, length, take, drop};
-ghost use Rattle.table.specs.Records.{recordSize, isLittle, isMarked, decode, field, header, image_of};
+ghost use Rattle.table.specs.Records.{record_size, is_little, is_marked, decode, field, header, image_of};
 ghost use Rattle.table.specs.Check.{kind_at};
-ghost use Rattle.table.specs.contracts.Answers.{plainEntry, recordOf, orderedAs, Opened};
+ghost use Rattle.table.specs.Clauses.Answers.{plain_entry, record_of, ordered_as, Opened};
 
 use crate::layout::{A_AT, B_AT, C_AT, D_AT, E_AT, FLAG_AT, KIND_AT, MARK, RECORD_SIZE};
 use crate::order::{get16, get32, swapped};
@@ -40,7 +40,7 @@ impl RecordNumber {
 
     // Where the record starts in a table.
     pub fn start(self) -> usize
-        ensures { result ≡ recordSize * self.0 }
+        ensures { result ≡ record_size * self.0 }
     {
         RECORD_SIZE * (self.0 as usize)
     }
@@ -57,7 +57,7 @@ impl PoolPlace {
 
     // Where the place lies in a table of so many records.
     pub fn start(self, count: u32) -> usize
-        ensures { result ≡ recordSize * count + self.0 }
+        ensures { result ≡ record_size * count + self.0 }
     {
         RECORD_SIZE * (count as usize) + (self.0 as usize)
     }
@@ -66,7 +66,7 @@ impl PoolPlace {
 // The record at a place has its lowest bytes first.
 pub fn is_little(s: &[u8], at: usize) -> bool
     requires { at + 2 ≤ length s.now }
-    ensures { result ≡ isLittle (drop at s.now) }
+    ensures { result ≡ is_little (drop at s.now) }
 {
     get16(s, at, true) == MARK
 }
@@ -74,7 +74,7 @@ pub fn is_little(s: &[u8], at: usize) -> bool
 // The record at a place bears one of the two marks.
 pub fn is_marked(s: &[u8], at: usize) -> bool
     requires { at + 2 ≤ length s.now }
-    ensures { result ≡ isMarked (drop at s.now) }
+    ensures { result ≡ is_marked (drop at s.now) }
 {
     get16(s, at, true) == MARK || get16(s, at, false) == MARK
 }
@@ -93,7 +93,7 @@ pub struct Entry {
 
 // A record of a kind and a flag whose numbers are 0.
 pub fn plain(kind: u8, flag: u8) -> Entry
-    ensures { result ≡ plainEntry kind flag }
+    ensures { result ≡ plain_entry kind flag }
 {
     Entry {
         kind,
@@ -108,7 +108,7 @@ pub fn plain(kind: u8, flag: u8) -> Entry
 
 // A record with the bytes of each number, the lowest first, taken in the order told. The order is tested once for all of them.
 pub fn ordered(r: Entry, little: bool) -> Entry
-    ensures { recordOf result ≡ orderedAs little (recordOf r) }
+    ensures { record_of result ≡ ordered_as little (record_of r) }
 {
     if little {
         return r;
@@ -126,8 +126,8 @@ pub fn ordered(r: Entry, little: bool) -> Entry
 
 // The record at a place, each number in the record's own order.
 pub fn read(s: &[u8], at: usize) -> Entry
-    requires { at + recordSize ≤ length s.now }
-    ensures { recordOf result ≡ decode (take recordSize (drop at s.now)) }
+    requires { at + record_size ≤ length s.now }
+    ensures { record_of result ≡ decode (take record_size (drop at s.now)) }
 {
     let little = is_little(s, at);
     let r = Entry {
@@ -151,7 +151,7 @@ pub struct Frame {
 
 // The counts in a table's header.
 pub fn frame_of(table: &[u8]) -> Frame
-    requires { recordSize ≤ length table.now }
+    requires { record_size ≤ length table.now }
     ensures { (result.count ≡ field (header table.now) 0)
         × (result.pool ≡ field (header table.now) 1) }
 {

@@ -1,12 +1,12 @@
 // The rules of a record's flag and fields.
 ghost use Rattle.std.specs.Prelude.{◌≡◌, ◌&&◌, [], ◌∷◌, ltb};
 ghost use Rattle.lexis.specs.Bytes.{among};
-ghost use Rattle.values.specs.Integers.{twosComplement};
+ghost use Rattle.values.specs.Integers.{twos_complement};
 ghost use Rattle.table.specs.Records.{image_of};
-ghost use Rattle.table.specs.Rows.{objectKind, link, items, noneNamed};
+ghost use Rattle.table.specs.Rows.{object_kind, link, items, none_named};
 ghost use Rattle.meaning.specs.Constraints.{integers, dates};
-ghost use Rattle.table.specs.Check.{pairRight, fieldRight, restNought, flagRight, obeys, clean};
-ghost use Rattle.table.specs.contracts.Answers.{recordOf, Opened, RecordPlaceIs, fieldsKept, nextRight};
+ghost use Rattle.table.specs.Check.{pair_right, field_right, rest_nought, flag_right, obeys, clean};
+ghost use Rattle.table.specs.Clauses.Answers.{record_of, Opened, RecordPlaceIs, fields_kept, next_right};
 
 use crate::layout::ATTRIBUTE_KIND;
 use crate::records::{Entry, Frame, PoolPlace, RecordNumber, kind_at};
@@ -15,7 +15,7 @@ use values::calendar::real;
 
 // The kind is a record's, and the flag one of the kind's.
 fn flag_right(kind: u8, flag: u8) -> bool
-    ensures { result ≡ flagRight kind flag }
+    ensures { result ≡ flag_right kind flag }
 {
     match kind {
         0 => false,
@@ -69,21 +69,21 @@ fn place_right(pool: u32, place: PoolPlace, length: u32, least: u32, most: u32) 
 
 // How far an integer in two's complement lies from the lowest one.
 fn distance(x: u32) -> u64
-    ensures { result ≡ twosComplement x }
+    ensures { result ≡ twos_complement x }
 {
     ((x as u64) + 2147483648) % 4294967296
 }
 
 // The low end of a pair of integers is at most the high one.
 fn integers_right(low: u32, high: u32) -> bool
-    ensures { result ≡ pairRight integers low high }
+    ensures { result ≡ pair_right integers low high }
 {
     distance(low) <= distance(high)
 }
 
 // Both ends of a pair of dates are days, and the low one is not the later.
 fn dates_right(low: u32, high: u32) -> bool
-    ensures { result ≡ pairRight dates low high }
+    ensures { result ≡ pair_right dates low high }
 {
     real(low) && (real(high) && low <= high)
 }
@@ -98,14 +98,14 @@ fn leads_up(frame: Frame, n: RecordNumber, to: RecordNumber) -> bool
 // A link is 0, or leads up to a record of the kind.
 fn link_right(table: &[u8], frame: Frame, n: RecordNumber, to: RecordNumber, kind: u8) -> bool
     requires { Opened table.now frame }
-    ensures { result ≡ fieldRight (image_of table.now) n.0 (link (kind ∷ [])) to.0 0 }
+    ensures { result ≡ field_right (image_of table.now) n.0 (link (kind ∷ [])) to.0 0 }
 {
     to.0 == 0 || (leads_up(frame, n, to) && kind_at(table, frame, to) == kind)
 }
 
 // The kind is an object's or a leaf's first item's.
 fn is_value(kind: u8) -> bool
-    ensures { result ≡ among kind (objectKind ∷ items) }
+    ensures { result ≡ among kind (object_kind ∷ items) }
 {
     match kind {
         0 => false,
@@ -119,7 +119,7 @@ fn is_value(kind: u8) -> bool
 // A link is 0, or leads up to an object or an item.
 fn value_link_right(table: &[u8], frame: Frame, n: RecordNumber, to: RecordNumber) -> bool
     requires { Opened table.now frame }
-    ensures { result ≡ fieldRight (image_of table.now) n.0 (link (objectKind ∷ items)) to.0 0 }
+    ensures { result ≡ field_right (image_of table.now) n.0 (link (object_kind ∷ items)) to.0 0 }
 {
     to.0 == 0 || (leads_up(frame, n, to) && is_value(kind_at(table, frame, to)))
 }
@@ -135,7 +135,7 @@ const STRING_MOST: u32 = STRING_LIMIT as u32;
 fn object_right(table: &[u8], frame: Frame, n: RecordNumber, e: Entry) -> bool
     requires opened { Opened table.now frame }
     requires kind_value { e.kind ≡ 1 }
-    ensures { result ≡ fieldsKept (image_of table.now) n.0 (recordOf e) }
+    ensures { result ≡ fields_kept (image_of table.now) n.0 (record_of e) }
 {
     place_right(frame.pool, PoolPlace(e.a), e.b, 1, NAME_MOST)
         && (place_right(frame.pool, PoolPlace(e.c), e.d, 0, CODE_MOST)
@@ -146,7 +146,7 @@ fn object_right(table: &[u8], frame: Frame, n: RecordNumber, e: Entry) -> bool
 fn attribute_right(table: &[u8], frame: Frame, n: RecordNumber, e: Entry) -> bool
     requires opened { Opened table.now frame }
     requires kind_value { e.kind ≡ 2 }
-    ensures { result ≡ fieldsKept (image_of table.now) n.0 (recordOf e) }
+    ensures { result ≡ fields_kept (image_of table.now) n.0 (record_of e) }
 {
     place_right(frame.pool, PoolPlace(e.a), e.b, 1, NAME_MOST)
         && (value_link_right(table, frame, n, RecordNumber(e.c))
@@ -156,7 +156,7 @@ fn attribute_right(table: &[u8], frame: Frame, n: RecordNumber, e: Entry) -> boo
 // What follows an item's value: the next item, of the same kind, and nothing else.
 fn next_right(table: &[u8], frame: Frame, n: RecordNumber, e: Entry) -> bool
     requires { Opened table.now frame }
-    ensures { result ≡ nextRight (image_of table.now) n.0 e }
+    ensures { result ≡ next_right (image_of table.now) n.0 e }
 {
     link_right(table, frame, n, RecordNumber(e.e), e.kind) && (e.c == 0 && e.d == 0)
 }
@@ -165,7 +165,7 @@ fn next_right(table: &[u8], frame: Frame, n: RecordNumber, e: Entry) -> bool
 fn integer_right(table: &[u8], frame: Frame, n: RecordNumber, e: Entry) -> bool
     requires opened { Opened table.now frame }
     requires kind_value { e.kind ≡ 4 }
-    ensures { result ≡ fieldsKept (image_of table.now) n.0 (recordOf e) }
+    ensures { result ≡ fields_kept (image_of table.now) n.0 (record_of e) }
 {
     integers_right(e.a, e.b) && next_right(table, frame, n, e)
 }
@@ -174,7 +174,7 @@ fn integer_right(table: &[u8], frame: Frame, n: RecordNumber, e: Entry) -> bool
 fn string_right(table: &[u8], frame: Frame, n: RecordNumber, e: Entry) -> bool
     requires opened { Opened table.now frame }
     requires kind_value { e.kind ≡ 5 }
-    ensures { result ≡ fieldsKept (image_of table.now) n.0 (recordOf e) }
+    ensures { result ≡ fields_kept (image_of table.now) n.0 (record_of e) }
 {
     place_right(frame.pool, PoolPlace(e.a), e.b, 0, STRING_MOST) && next_right(table, frame, n, e)
 }
@@ -183,14 +183,14 @@ fn string_right(table: &[u8], frame: Frame, n: RecordNumber, e: Entry) -> bool
 fn interval_right(table: &[u8], frame: Frame, n: RecordNumber, e: Entry) -> bool
     requires opened { Opened table.now frame }
     requires kind_value { e.kind ≡ 7 }
-    ensures { result ≡ fieldsKept (image_of table.now) n.0 (recordOf e) }
+    ensures { result ≡ fields_kept (image_of table.now) n.0 (record_of e) }
 {
     dates_right(e.a, e.b) && next_right(table, frame, n, e)
 }
 
 // No field is named, so each is 0.
 fn unused(e: Entry) -> bool
-    ensures { result ≡ restNought noneNamed (recordOf e).fields }
+    ensures { result ≡ rest_nought none_named (record_of e).fields }
 {
     e.a == 0 && (e.b == 0 && (e.c == 0 && (e.d == 0 && e.e == 0)))
 }
@@ -198,7 +198,7 @@ fn unused(e: Entry) -> bool
 // The fields are as the kind asks. The kinds are told apart three at a time, so that this compiles to comparisons: a table of jumps costs more.
 fn fields_right(table: &[u8], frame: Frame, n: RecordNumber, e: Entry) -> bool
     requires { Opened table.now frame }
-    ensures { result ≡ fieldsKept (image_of table.now) n.0 (recordOf e) }
+    ensures { result ≡ fields_kept (image_of table.now) n.0 (record_of e) }
 {
     let kind = e.kind;
     match kind {
@@ -221,7 +221,7 @@ fn fields_right(table: &[u8], frame: Frame, n: RecordNumber, e: Entry) -> bool
 // The record keeps the rules of its kind.
 pub fn rules_kept(table: &[u8], frame: Frame, n: RecordNumber, e: Entry) -> bool
     requires { Opened table.now frame }
-    ensures { result ≡ (obeys (image_of table.now) n.0 (recordOf e) && clean (recordOf e)) }
+    ensures { result ≡ (obeys (image_of table.now) n.0 (record_of e) && clean (record_of e)) }
 {
     fields_right(table, frame, n, e) && flag_right(e.kind, e.flag)
 }

@@ -2,8 +2,8 @@
 ghost use Rattle.std.specs.Prelude.{◌≡◌, cond, [], ◌∷◌, ◌++◌, ◌+◌, ◌≤◌, length};
 ghost use Rattle.std.proofs.lemmas.List.Edits.{sets};
 ghost use Rattle.table.specs.Order.{put};
-ghost use Rattle.table.specs.Records.{recordSize, mark, encode};
-ghost use Rattle.table.specs.contracts.Answers.{recordOf};
+ghost use Rattle.table.specs.Records.{record_size, mark, encode};
+ghost use Rattle.table.specs.Clauses.Answers.{record_of};
 
 use crate::layout::{A_AT, B_AT, C_AT, D_AT, E_AT, FLAG_AT, KIND_AT};
 use crate::order::put32;
@@ -29,8 +29,8 @@ fn put_head(out: &mut [u8], at: usize, little: bool, kind: u8, flag: u8)
 
 // A record, written at a place.
 pub fn put_record(out: &mut [u8], at: usize, little: bool, r: Entry)
-    requires { at + recordSize ≤ length out.old }
-    ensures { out.new ≡ sets out.old at (encode little (recordOf r)) }
+    requires { at + record_size ≤ length out.old }
+    ensures { out.new ≡ sets out.old at (encode little (record_of r)) }
 {
     let t = ordered(r, little);
     put_head(out, at, little, r.kind, r.flag);

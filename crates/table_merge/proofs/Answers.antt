@@ -7,47 +7,47 @@ use native.Mathlib.Omega.{arith}
 use lib.Dec.{ltb}
 use lib.ListN.{length, take}
 use borrow.Author.Tests.{ltb-false}
-use Rattle.refusals.specs.Limits.{recordLimit, poolLimit}
+use Rattle.refusals.specs.Limits.{record_limit, pool_limit}
 use Rattle.refusals.specs.Outcomes.{gave, writes}
 use Rattle.refusals.specs.declared.Cause.TheVariants.{TooManyRecords, PoolTooLarge}
 use Rattle.refusals.specs.declared.Refusal.{Refusal}
 use Rattle.refusals.proofs.Outcomes.{gives, front-is, no-fault, not_found, fits}
 use Rattle.table.specs.Records.{count, image_of, bytes_of}
-use Rattle.table.specs.Check.{tableFault}
-use Rattle.table_merge.specs.Joining.{shiftsBy, merged}
-use Rattle.table_merge.specs.Merge.{MergeRequest, MergeReport, report, ofTable, neither, join, mergeOutcome, mergeAnswer}
+use Rattle.table.specs.Check.{table_fault}
+use Rattle.table_merge.specs.Joining.{shifts_by, merged}
+use Rattle.table_merge.specs.Merge.{MergeRequest, MergeReport, report, of_table, neither, join, merge_outcome, merge_answer}
 
 pub record Joined (q : MergeRequest) (m : MergeReport) (out : List ℕ) : Type 0 where
-  pub first_passes : tableFault q.first ≡ none
-  pub second-passes : tableFault q.second ≡ none
-  pub records-fit : length (image_of q.first).records + count (image_of q.second) ≤ recordLimit
-  pub pool-fits : length (image_of q.first).pool + length (image_of q.second).pool ≤ poolLimit
-  pub shifts-are : m.shifts ≡ shiftsBy (image_of q.first)
+  pub first_passes : table_fault q.first ≡ none
+  pub second-passes : table_fault q.second ≡ none
+  pub records-fit : length (image_of q.first).records + count (image_of q.second) ≤ record_limit
+  pub pool-fits : length (image_of q.first).pool + length (image_of q.second).pool ≤ pool_limit
+  pub shifts-are : m.shifts ≡ shifts_by (image_of q.first)
   pub written_is : take m.length out ≡ bytes_of q.little (merged (image_of q.first) (image_of q.second))
 
-none-mapped : (table : ℕ) (f : Option Refusal) → map (ofTable table) f ≡ none → f ≡ none
+none-mapped : (table : ℕ) (f : Option Refusal) → map (of_table table) f ≡ none → f ≡ none
 none-mapped table none h = refl
 none-mapped table (some r) h = let z : ◌≡◌ {A = ℕ} 0 1 = cc in absurd (omega arith)
 
-pub merge-gives : (q : MergeRequest) (out : List ℕ) (m : MergeReport) → (mergeAnswer q out).answer ≡ gave m
-    → Joined q m (mergeAnswer q out).out
-unfolding mergeAnswer join
+pub merge-gives : (q : MergeRequest) (out : List ℕ) (m : MergeReport) → (merge_answer q out).answer ≡ gave m
+    → Joined q m (merge_answer q out).out
+unfolding merge_answer join
 merge-gives q out m h =
     let x = image_of q.first in
     let y = image_of q.second in
     let bs = bytes_of q.little (merged x y) in
-    let g = gives (mergeOutcome q (length out)) out m h in
-    let a = no-fault g.written (map (ofTable 1) (tableFault q.first)) _ g.is in
-    let b = no-fault g.written (map (ofTable 2) (tableFault q.second)) _ a.1 in
-    let c = not_found g.written (ltb recordLimit (length x.records + count y)) (neither TooManyRecords 0) _ b.1 in
-    let d = not_found g.written (ltb poolLimit (length x.pool + length y.pool)) (neither PoolTooLarge 0) _ c.1 in
-    let w = (fits neither (length bs) (length out) (writes bs (report (length bs) (shiftsBy x))) g.written d.1).1 in
-    let r : report (length bs) (shiftsBy x) ≡ m = ap (λ v. v.report) w ∙ g.report-is in
+    let g = gives (merge_outcome q (length out)) out m h in
+    let a = no-fault g.written (map (of_table 1) (table_fault q.first)) _ g.is in
+    let b = no-fault g.written (map (of_table 2) (table_fault q.second)) _ a.1 in
+    let c = not_found g.written (ltb record_limit (length x.records + count y)) (neither TooManyRecords 0) _ b.1 in
+    let d = not_found g.written (ltb pool_limit (length x.pool + length y.pool)) (neither PoolTooLarge 0) _ c.1 in
+    let w = (fits neither (length bs) (length out) (writes bs (report (length bs) (shifts_by x))) g.written d.1).1 in
+    let r : report (length bs) (shifts_by x) ≡ m = ap (λ v. v.report) w ∙ g.report-is in
     record {
-      first_passes = none-mapped 1 (tableFault q.first) a.0;
-      second-passes = none-mapped 2 (tableFault q.second) b.0;
+      first_passes = none-mapped 1 (table_fault q.first) a.0;
+      second-passes = none-mapped 2 (table_fault q.second) b.0;
       records-fit = ltb-false _ _ c.0;
       pool-fits = ltb-false _ _ d.0;
       shifts-are = sym (ap (λ v. v.shifts) r);
-      written_is = ap (λ v. take v.length (mergeAnswer q out).out) (sym r) ∙ front-is g (writes bs (report (length bs) (shiftsBy x))) w;
+      written_is = ap (λ v. take v.length (merge_answer q out).out) (sym r) ∙ front-is g (writes bs (report (length bs) (shifts_by x))) w;
     }

@@ -12,15 +12,15 @@ use lib.Seq.{get_or-append-add}
 use borrow.Author.Tests.{leb-true, le-leb}
 use Rattle.lexis.specs.Bytes.{within}
 use Rattle.lexis.proofs.Cases.{and_left, and_right}
-use Rattle.refusals.specs.Limits.{recordLimit, poolLimit}
+use Rattle.refusals.specs.Limits.{record_limit, pool_limit}
 use Rattle.table.specs.Records.{Record, Image, count}
 use Rattle.table.specs.Rows.{shape_of, Use, unnamed, place, length, link, low, high}
-use Rattle.table.specs.Check.{kinds, kind_at, fieldRight, fieldsRight, isNought, restNought, usesOf, flagRight, obeys, clean}
+use Rattle.table.specs.Check.{kinds, kind_at, field_right, fields_right, is_nought, rest_nought, uses_of, flag_right, obeys, clean}
 use Rattle.table.proofs.Checked.{RecordGood, RecordsGood, Checked}
 use Rattle.table.proofs.UseLaws.{uses-same, across-none}
 use Rattle.table.proofs.FieldLaws.{linked, link-right}
 use Rattle.table.proofs.CheckLaws.{length-kinds, kind-inside}
-use Rattle.table_merge.specs.Joining.{Shifts, movedField, movedFields, moved, shiftsBy, merged}
+use Rattle.table_merge.specs.Joining.{Shifts, moved_field, moved_fields, moved, shifts_by, merged}
 use Rattle.table_merge.proofs.MergeLaws.{count-merged, pool-merged, reads, fixed, steady, steady-row, Same, next-same}
 
 -- moving keeps the kinds
@@ -32,7 +32,7 @@ kinds-joined s (r ∷ rs) qs = ap (λ ks. r.kind ∷ ks) (kinds-joined s rs qs)
 -- the kinds of a merge are the first table's and then the second's
 kinds-merged : (x y : Image) → kinds (merged x y).records ≡ kinds x.records ++ kinds y.records
 unfolding merged
-kinds-merged x y = kinds-joined (shiftsBy x) x.records y.records
+kinds-merged x y = kinds-joined (shifts_by x) x.records y.records
 
 -- a record of the first table has the kind that it had
 pub kind-kept : (x y : Image) (n : ℕ) → n < count x → kind_at (merged x y) n ≡ kind_at x n
@@ -73,13 +73,13 @@ place-moved true p x next n m e h = h
 place-moved false p x next n m e h = le-leb (p + x + next) m (omega (arith, leb-true (x + next) n h))
 
 -- moving keeps the number of fields
-pub length_moved : (s : Shifts) (us : List Use) (fs : List ℕ) → ListN.length (movedFields s us fs) ≡ ListN.length fs
+pub length_moved : (s : Shifts) (us : List Use) (fs : List ℕ) → ListN.length (moved_fields s us fs) ≡ ListN.length fs
 length_moved s [] fs = refl
 length_moved s (u ∷ us) [] = refl
 length_moved s (u ∷ us) (f ∷ fs) = ap suc (length_moved s us fs)
 
 -- moving leaves a field that is not named
-nought-moved : (s : Shifts) (u : Use) (f next : ℕ) → isNought u (movedField s u f next) ≡ isNought u f
+nought-moved : (s : Shifts) (u : Use) (f next : ℕ) → is_nought u (moved_field s u f next) ≡ is_nought u f
 nought-moved s unnamed f next = refl
 nought-moved s (place least most) f next = refl
 nought-moved s length f next = refl
@@ -88,16 +88,16 @@ nought-moved s (low sort) f next = refl
 nought-moved s high f next = refl
 
 -- so the others are 0 as before
-rest-moved : (s : Shifts) (us : List Use) (fs : List ℕ) → restNought us (movedFields s us fs) ≡ restNought us fs
+rest-moved : (s : Shifts) (us : List Use) (fs : List ℕ) → rest_nought us (moved_fields s us fs) ≡ rest_nought us fs
 rest-moved s [] fs = refl
 rest-moved s (u ∷ us) [] = refl
 rest-moved s (u ∷ us) (f ∷ fs) = ap₂ ◌&&◌ (nought-moved s u f (get_or fs 0 0)) (rest-moved s us fs)
 
 module _ (x y : Image) where
   -- a field of the first table keeps its rule
-  field-kept : (n : ℕ) (u : Use) (f next : ℕ) → fieldRight x n u f next ≡ true
-      → fieldRight (merged x y) n u f next ≡ true
-  unfolding fieldRight
+  field-kept : (n : ℕ) (u : Use) (f next : ℕ) → field_right x n u f next ≡ true
+      → field_right (merged x y) n u f next ≡ true
+  unfolding field_right
   field-kept n unnamed f next h = h
   field-kept n (place least most) f next h =
       and-map (within least most next) _ _ (place-more (eqb next 0) f next _ _ (omega (arith, pool-merged x y))) h
@@ -111,9 +111,9 @@ module _ (x y : Image) where
   field-kept n high f next h = h
 
   -- a field of the second table, moved, keeps its rule at the moved number
-  field-moved : (n : ℕ) (u : Use) (f next was : ℕ) → Same u next was → fieldRight y n u f was ≡ true
-      → fieldRight (merged x y) (ListN.length x.records + n) u (movedField (shiftsBy x) u f was) next ≡ true
-  unfolding fieldRight
+  field-moved : (n : ℕ) (u : Use) (f next was : ℕ) → Same u next was → field_right y n u f was ≡ true
+      → field_right (merged x y) (ListN.length x.records + n) u (moved_field (shifts_by x) u f was) next ≡ true
+  unfolding field_right
   field-moved n unnamed f next was s h = h
   field-moved n (place least most) f next was s h =
       rw (s refl) (and-map (within least most was) _ _ (place-moved (eqb was 0) (ListN.length x.pool) f was _ _ (omega (arith, pool-merged x y))) h)
@@ -128,49 +128,49 @@ module _ (x y : Image) where
   field-moved n high f next was s h = h
 
   -- so do all fields of a record of the first table
-  fields-kept : (n : ℕ) (us : List Use) (fs : List ℕ) → fieldsRight x n us fs ≡ true
-      → fieldsRight (merged x y) n us fs ≡ true
+  fields-kept : (n : ℕ) (us : List Use) (fs : List ℕ) → fields_right x n us fs ≡ true
+      → fields_right (merged x y) n us fs ≡ true
   fields-kept n [] fs h = refl
   fields-kept n (u ∷ us) [] h = refl
   fields-kept n (u ∷ us) (f ∷ fs) h = and_both _ _ _ _ (field-kept n u f (get_or fs 0 0)) (fields-kept n us fs) h
 
   -- and all of a moved record
-  fields-moved : (n : ℕ) (us : List Use) (fs : List ℕ) → steady us ≡ true → fieldsRight y n us fs ≡ true
-      → fieldsRight (merged x y) (ListN.length x.records + n) us (movedFields (shiftsBy x) us fs) ≡ true
+  fields-moved : (n : ℕ) (us : List Use) (fs : List ℕ) → steady us ≡ true → fields_right y n us fs ≡ true
+      → fields_right (merged x y) (ListN.length x.records + n) us (moved_fields (shifts_by x) us fs) ≡ true
   fields-moved n [] fs s h = refl
   fields-moved n (u ∷ us) [] s h = refl
   fields-moved n (u ∷ us) (f ∷ fs) s h =
-      and_both _ _ _ _ (field-moved n u f _ (get_or fs 0 0) (next-same (shiftsBy x) u us fs s))
+      and_both _ _ _ _ (field-moved n u f _ (get_or fs 0 0) (next-same (shifts_by x) u us fs s))
       (fields-moved n us fs (and_right (cond (reads u) (fixed us) true) (steady us) s)) h
 
   -- what the fields of a record are stays so
-  uses-still : (r : Record) → usesOf (moved (shiftsBy x) r) ≡ usesOf r
-  uses-still r = uses-same (shape_of r.kind) (moved (shiftsBy x) r).fields r.fields
+  uses-still : (r : Record) → uses_of (moved (shifts_by x) r) ≡ uses_of r
+  uses-still r = uses-same (shape_of r.kind) (moved (shifts_by x) r).fields r.fields
 
   -- a record of the first table stays good
   record-kept : (n : ℕ) (r : Record) → RecordGood x n r → RecordGood (merged x y) n r
   unfolding obeys
   record-kept n r h = record {
     counted = h.counted;
-    obeyed = rules-kept (flagRight r.kind r.flag) _ _ _ _ (fields-kept n (usesOf r) r.fields) (across-none (shape_of r.kind) (merged x y) n r.fields) h.obeyed;
+    obeyed = rules-kept (flag_right r.kind r.flag) _ _ _ _ (fields-kept n (uses_of r) r.fields) (across-none (shape_of r.kind) (merged x y) n r.fields) h.obeyed;
     cleaned = h.cleaned;
   }
 
   -- a record of the second table, moved, is good at its moved number
   pub record-moved : (n : ℕ) (r : Record) → RecordGood y n r
-      → RecordGood (merged x y) (ListN.length x.records + n) (moved (shiftsBy x) r)
+      → RecordGood (merged x y) (ListN.length x.records + n) (moved (shifts_by x) r)
   unfolding obeys clean
   record-moved n r h = record {
-    counted = length_moved (shiftsBy x) (usesOf r) r.fields ∙ h.counted;
-    obeyed = rw (uses-still r) (rules-kept (flagRight r.kind r.flag) _ _ _ _
-        (fields-moved n (usesOf r) r.fields (steady-row (shape_of r.kind) r.fields))
-        (across-none (shape_of r.kind) (merged x y) (ListN.length x.records + n) (moved (shiftsBy x) r).fields) h.obeyed);
-    cleaned = rw (uses-still r) (rest-moved (shiftsBy x) (usesOf r) r.fields ∙ h.cleaned);
+    counted = length_moved (shifts_by x) (uses_of r) r.fields ∙ h.counted;
+    obeyed = rw (uses-still r) (rules-kept (flag_right r.kind r.flag) _ _ _ _
+        (fields-moved n (uses_of r) r.fields (steady-row (shape_of r.kind) r.fields))
+        (across-none (shape_of r.kind) (merged x y) (ListN.length x.records + n) (moved (shifts_by x) r).fields) h.obeyed);
+    cleaned = rw (uses-still r) (rest-moved (shifts_by x) (uses_of r) r.fields ∙ h.cleaned);
   }
 
   -- so are all records of the second table
   records-moved : (n : ℕ) (rs : List Record) → RecordsGood y n rs
-      → RecordsGood (merged x y) (ListN.length x.records + n) (map (moved (shiftsBy x)) rs)
+      → RecordsGood (merged x y) (ListN.length x.records + n) (map (moved (shifts_by x)) rs)
   records-moved n [] h = tt
   records-moved n (r ∷ rs) h = (record-moved n r h.0, rw (← add-suc) (records-moved (suc n) rs h.1))
 
@@ -182,12 +182,12 @@ module _ (x y : Image) where
 
   -- the records of a merge are good
   records-merged : Checked x → Checked y
-      → RecordsGood (merged x y) 1 (x.records ++ map (moved (shiftsBy x)) y.records)
+      → RecordsGood (merged x y) 1 (x.records ++ map (moved (shifts_by x)) y.records)
   records-merged h k = records-joined 1 x.records _ h.records (rw (add_comm 1) (records-moved 1 y.records k.records))
 
 -- a merge of checked tables that is not too large is checked
-pub checked-merge : (x y : Image) → Checked x → Checked y → ListN.length x.records + count y ≤ recordLimit
-    → ListN.length x.pool + ListN.length y.pool ≤ poolLimit → Checked (merged x y)
+pub checked-merge : (x y : Image) → Checked x → Checked y → ListN.length x.records + count y ≤ record_limit
+    → ListN.length x.pool + ListN.length y.pool ≤ pool_limit → Checked (merged x y)
 checked-merge x y h k few small =
     let e = h.root in
     record {

@@ -6,36 +6,36 @@ use Prim.Native.Nat.{ℕ, suc, ◌+◌, ◌*◌, ◌-◌, ◌≤◌, ◌<◌}
 use native.Mathlib.Omega.{arith}
 use lib.ListN.{length, take, drop}
 use lib.Seq.{sets, drop-drop}
-use Rattle.table.specs.Records.{recordSize, fieldCount, decode, encode, decodes, encodes, recordIn}
+use Rattle.table.specs.Records.{record_size, field_count, decode, encode, decodes, encodes, record_in}
 use Rattle.table.specs.Rows.{shape_of}
-use Rattle.table.specs.Check.{usesOf}
-use Rattle.table.specs.contracts.Answers.{recordOf}
+use Rattle.table.specs.Check.{uses_of}
+use Rattle.table.specs.Clauses.Answers.{record_of}
 use Rattle.table.specs.declared.records.Entry.{Entry}
 use Rattle.table.proofs.RecordLaws.{decode-counted, length-encode}
 use Rattle.table_merge.specs.Joining.{Shifts, moved}
-use Rattle.table_merge.specs.contracts.Answers.{Movable, Copying}
+use Rattle.table_merge.specs.Clauses.Answers.{Movable, Copying}
 use Rattle.table_merge.proofs.CheckedMerge.{length_moved}
 use Rattle.lexis.proofs.Stores.{sets_behind}
 
 -- one record, read at its place, moved, and written at the place of its moved number
-module _ (bs : List ℕ) (n : ℕ) (s : Shifts) (from : ℕ) (e : Entry) (at : from ≡ recordSize * n)
-    (read : recordOf e ≡ decode (take recordSize (drop from bs))) where
-  entry-is : recordOf e ≡ recordIn bs n
+module _ (bs : List ℕ) (n : ℕ) (s : Shifts) (from : ℕ) (e : Entry) (at : from ≡ record_size * n)
+    (read : record_of e ≡ decode (take record_size (drop from bs))) where
+  entry-is : record_of e ≡ record_in bs n
   entry-is = rw at at read
 
-  pub entry-movable : (out : List ℕ) → 1 ≤ n → Copying bs (n + 1) s out → Movable s (shape_of e.kind) (recordOf e)
+  pub entry-movable : (out : List ℕ) → 1 ≤ n → Copying bs (n + 1) s out → Movable s (shape_of e.kind) (record_of e)
   entry-movable out l h = subst (λ r. Movable s (shape_of r.kind) r) (sym entry-is) (h.movable n l (omega arith))
 
-  pub record-copied : (little : Bool) (out x : List ℕ) (m : Entry) (k to : ℕ) → recordOf m ≡ moved s (recordOf e)
-      → k ≡ s.records + n → to ≡ recordSize * k
-      → x ≡ sets out to (encode little (recordOf m))
-      → x ≡ sets out (recordSize * (s.records + n)) (encode little (moved s (recordIn bs n)))
+  pub record-copied : (little : Bool) (out x : List ℕ) (m : Entry) (k to : ℕ) → record_of m ≡ moved s (record_of e)
+      → k ≡ s.records + n → to ≡ record_size * k
+      → x ≡ sets out to (encode little (record_of m))
+      → x ≡ sets out (record_size * (s.records + n)) (encode little (moved s (record_in bs n)))
   record-copied little out x m k to p q t w =
-      (rw (t, q) at w) ∙ ap (λ r. sets out (recordSize * (s.records + n)) (encode little r)) (p ∙ ap (moved s) entry-is)
+      (rw (t, q) at w) ∙ ap (λ r. sets out (record_size * (s.records + n)) (encode little r)) (p ∙ ap (moved s) entry-is)
 
 -- what is left to write of the records below a count, from a number on
 abbrev pub left : List ℕ → ℕ → Shifts → Bool → ℕ → List ℕ → List ℕ
-left bs count s little n out = sets out (recordSize * (s.records + n)) (encodes little (map (moved s) (decodes (count - n) (drop (recordSize * n) bs))))
+left bs count s little n out = sets out (record_size * (s.records + n)) (encodes little (map (moved s) (decodes (count - n) (drop (record_size * n) bs))))
 
 -- the records below n are written: with those that are left the output is what it is to be
 pub record InCopy (bs : List ℕ) (count : ℕ) (s : Shifts) (little : Bool) (was : List ℕ) (n : ℕ)
@@ -60,18 +60,18 @@ module _ {bs : List ℕ} {count : ℕ} {s : Shifts} {little : Bool} {was : List 
   one_less : n < count
       → left bs count s little n out
       ≡ left bs count s little (n + 1)
-      (sets out (recordSize * (s.records + n)) (encode little (moved s (recordIn bs n))))
+      (sets out (record_size * (s.records + n)) (encode little (moved s (record_in bs n))))
   one_less l =
-      let r = moved s (recordIn bs n) in
+      let r = moved s (record_in bs n) in
       let k = count - (n + 1) in
       let e : count - n ≡ suc k = omega arith in
-      let f : recordSize * n + recordSize ≡ recordSize * (n + 1) = omega arith in
-      let counted : length r.fields ≡ fieldCount = length_moved s (usesOf (recordIn bs n)) (recordIn bs n).fields ∙ decode-counted (take recordSize (drop (recordSize * n) bs)) in
-      let g : recordSize * (s.records + n) + length (encode little r) ≡ recordSize * (s.records + (n + 1)) = omega (arith, length-encode little r counted) in
-      rw (e, drop-drop recordSize (recordSize * n) bs, f) (sym (sets_behind (encode little r) _ out (recordSize * (s.records + n)) (recordSize * (s.records + (n + 1))) g))
+      let f : record_size * n + record_size ≡ record_size * (n + 1) = omega arith in
+      let counted : length r.fields ≡ field_count = length_moved s (uses_of (record_in bs n)) (record_in bs n).fields ∙ decode-counted (take record_size (drop (record_size * n) bs)) in
+      let g : record_size * (s.records + n) + length (encode little r) ≡ record_size * (s.records + (n + 1)) = omega (arith, length-encode little r counted) in
+      rw (e, drop-drop record_size (record_size * n) bs, f) (sym (sets_behind (encode little r) _ out (record_size * (s.records + n)) (record_size * (s.records + (n + 1))) g))
 
   pub copy-goes-on : (x : List ℕ) → n < count
-      → x ≡ sets out (recordSize * (s.records + n)) (encode little (moved s (recordIn bs n))) → length x ≡ length out
+      → x ≡ sets out (record_size * (s.records + n)) (encode little (moved s (record_in bs n))) → length x ≡ length out
       → InCopy bs count s little was (n + 1) x
   copy-goes-on x l e k = record { copying = inv.copying; least = omega arith; same = omega arith; is = rw e (sym (one_less l) ∙ inv.is) }
 

@@ -6,16 +6,16 @@ use Prim.Native.Nat.{ℕ, ◌+◌, ◌*◌, ◌-◌, ◌≤◌}
 use native.Mathlib.Omega.{arith}
 use lib.ListN.{length, take, drop, length-append, length-drop}
 use lib.Seq.{sets, take_all}
-use Rattle.table.specs.Records.{Record, recordSize, decode, encode, field, count, headerOf, decodes, encodes, header, image_of, bytes_of}
-use Rattle.table.specs.contracts.Answers.{plainEntry, recordOf, Opened}
+use Rattle.table.specs.Records.{Record, record_size, decode, encode, field, count, header_of, decodes, encodes, header, image_of, bytes_of}
+use Rattle.table.specs.Clauses.Answers.{plain_entry, record_of, Opened}
 use Rattle.table.specs.declared.records.Entry.{Entry}
 use Rattle.table.specs.declared.records.Frame.{Frame}
 use Rattle.table.proofs.Checked.{Checked}
 use Rattle.table.proofs.RecordLaws.{AllCounted, fit-counted, length-encode, length-encodes, length-bytes}
 use Rattle.table.proofs.CheckLaws.{check_sound, image-fits}
 use Rattle.table.proofs.FrameLaws.{count-opened, pool-opened}
-use Rattle.table_merge.specs.Joining.{moved, shiftsBy, merged}
-use Rattle.table_merge.specs.contracts.Answers.{shifts, Copying, headerWith, Joinable, joinedLength}
+use Rattle.table_merge.specs.Joining.{moved, shifts_by, merged}
+use Rattle.table_merge.specs.Clauses.Answers.{shifts, Copying, header_with, Joinable, joined_length}
 use Rattle.table_merge.proofs.MergeLaws.{count-merged, pool-merged}
 use Rattle.table_merge.proofs.CheckedMerge.{checked-merge}
 use Rattle.table_merge.proofs.MovedLaws.{all-by-nothing, shifts-opened, still-movable, behind-movable}
@@ -23,11 +23,11 @@ use Rattle.lexis.proofs.Stores.{sets_behind}
 
 -- the header, with the root that was read
 pub header-written : (bs out x : List ℕ) (little : Bool) (count pool : ℕ) (h m : Entry)
-    → recordOf h ≡ decode (take recordSize bs) → m ≡ plainEntry 0 0
+    → record_of h ≡ decode (take record_size bs) → m ≡ plain_entry 0 0
     → x ≡ sets out 0
     (encode little
-    (recordOf (record { kind = m.kind; flag = m.flag; a = count; b = pool; c = h.c; d = m.d; e = m.e })))
-    → x ≡ sets out 0 (encode little (headerWith count pool (field (header bs) 2)))
+    (record_of (record { kind = m.kind; flag = m.flag; a = count; b = pool; c = h.c; d = m.d; e = m.e })))
+    → x ≡ sets out 0 (encode little (header_with count pool (field (header bs) 2)))
 header-written bs out x little count pool h m e g w =
     w ∙ λ i. sets out 0 (encode little (record { kind = (g i).kind; flag = (g i).flag; fields = count ∷ pool ∷ field (e i) 2 ∷ (g i).d ∷ (g i).e ∷ [] }))
 
@@ -39,18 +39,18 @@ encodes-append little (r ∷ rs) qs = rw (encodes-append little rs qs) (sym (app
 
 module _ (bs : List ℕ) (f : Frame) (o : Opened bs f) where
   -- the records of a table, by its count
-  records-opened : decodes (f.count - 1) (drop recordSize bs) ≡ (image_of bs).records
+  records-opened : decodes (f.count - 1) (drop record_size bs) ≡ (image_of bs).records
   unfolding image_of
   records-opened = rw o.records
 
   -- the pool of a table is all that stands behind its records
-  pool-is-rest : drop (recordSize * f.count) bs ≡ (image_of bs).pool
+  pool-is-rest : drop (record_size * f.count) bs ≡ (image_of bs).pool
   unfolding image_of
-  pool-is-rest = rw (← o.records, ← o.bytes) (sym (take_all f.pool (drop (recordSize * f.count) bs) (simp length-drop (omega arith))))
+  pool-is-rest = rw (← o.records, ← o.bytes) (sym (take_all f.pool (drop (record_size * f.count) bs) (simp length-drop (omega arith))))
 
 module _ {first second : List ℕ} {x y : Frame} (j : Joinable first second x y) where
   -- what copying each table's records asks, of an output that is as long as before
-  pub first-copying : (out o : List ℕ) → joinedLength x y ≤ length out → length o ≡ length out
+  pub first-copying : (out o : List ℕ) → joined_length x y ≤ length out → length o ≡ length out
       → Copying first x.count (shifts 0 0) o
   first-copying out o r e =
       let a = j.first-opened in
@@ -62,7 +62,7 @@ module _ {first second : List ℕ} {x y : Frame} (j : Joinable first second x y)
         movable = still-movable first x a j.first_passes;
       }
 
-  pub second-copying : (out o1 o : List ℕ) → joinedLength x y ≤ length out → length o1 ≡ length out
+  pub second-copying : (out o1 o : List ℕ) → joined_length x y ≤ length out → length o1 ≡ length out
       → length o ≡ length o1
       → Copying second y.count (shifts (x.count - 1) x.pool) o
   second-copying out o1 o r d e =
@@ -88,10 +88,10 @@ module _ {first second : List ℕ} {x y : Frame} (j : Joinable first second x y)
       let b = pool-opened second y j.second-opened in
       omega (arith, pool-merged (image_of first) (image_of second))
 
-  header-joined : headerWith (x.count - 1 + y.count) (x.pool + y.pool)
-      (field (header first) 2) ≡ headerOf (merged (image_of first) (image_of second))
+  header-joined : header_with (x.count - 1 + y.count) (x.pool + y.pool)
+      (field (header first) 2) ≡ header_of (merged (image_of first) (image_of second))
   unfolding merged image_of
-  header-joined = λ i. headerWith (sym count-joined i) (sym pool-joined i) (field (header first) 2)
+  header-joined = λ i. header_with (sym count-joined i) (sym pool-joined i) (field (header first) 2)
 
   checked-joined : Checked (merged (image_of first) (image_of second))
   checked-joined =
@@ -112,44 +112,44 @@ module _ {first second : List ℕ} {x y : Frame} (j : Joinable first second x y)
   -- the header, the first table's records and the second's
   pub records-written : (little : Bool) (out o1 o2 o3 : List ℕ)
       → o1 ≡ sets out 0
-      (encode little (headerWith (x.count - 1 + y.count) (x.pool + y.pool) (field (header first) 2)))
-      → o2 ≡ sets o1 recordSize
-      (encodes little (map (moved (shifts 0 0)) (decodes (x.count - 1) (drop recordSize first))))
-      → o3 ≡ sets o2 (recordSize * (x.count - 1 + 1))
-      (encodes little (map (moved (shifts (x.count - 1) x.pool)) (decodes (y.count - 1) (drop recordSize second))))
+      (encode little (header_with (x.count - 1 + y.count) (x.pool + y.pool) (field (header first) 2)))
+      → o2 ≡ sets o1 record_size
+      (encodes little (map (moved (shifts 0 0)) (decodes (x.count - 1) (drop record_size first))))
+      → o3 ≡ sets o2 (record_size * (x.count - 1 + 1))
+      (encodes little (map (moved (shifts (x.count - 1) x.pool)) (decodes (y.count - 1) (drop record_size second))))
       → o3 ≡ sets out 0
-      (encode little (headerOf (merged (image_of first) (image_of second)))
+      (encode little (header_of (merged (image_of first) (image_of second)))
       ++ encodes little (merged (image_of first) (image_of second)).records)
   unfolding merged
   records-written little out o1 o2 o3 e1 e2 e3 =
       let X = image_of first in
       let Y = image_of second in
-      let H = encode little (headerOf (merged X Y)) in
+      let H = encode little (header_of (merged X Y)) in
       let A = encodes little X.records in
-      let B = encodes little (map (moved (shiftsBy X)) Y.records) in
+      let B = encodes little (map (moved (shifts_by X)) Y.records) in
       let a = count-opened first x j.first-opened in
-      let h : length H ≡ recordSize = length-encode little (headerOf (merged X Y)) refl in
+      let h : length H ≡ record_size = length-encode little (header_of (merged X Y)) refl in
       let w1 : o1 ≡ sets out 0 H = e1 ∙ ap (λ r. sets out 0 (encode little r)) header-joined in
-      let w2 : o2 ≡ sets o1 recordSize A = e2 ∙ ap (λ rs. sets o1 recordSize (encodes little rs)) (all-by-nothing _ ∙ records-opened first x j.first-opened) in
-      let w3 : o3 ≡ sets o2 (recordSize * (x.count - 1 + 1)) B =
-      e3 ∙ ap₂ (λ s rs. sets o2 (recordSize * (x.count - 1 + 1)) (encodes little (map (moved s) rs))) (sym (shifts-opened first x j.first-opened)) (records-opened second y j.second-opened) in
-      let l1 : 0 + length H ≡ recordSize = omega arith in
-      let l2 : 0 + length (H ++ A) ≡ recordSize * (x.count - 1 + 1) = omega (arith, length-append H A, length-encodes little X.records counted-first) in
-      rw (w3, w2, w1, sets_behind H A out 0 recordSize l1, sets_behind (H ++ A) B out 0 (recordSize * (x.count - 1 + 1)) l2)
+      let w2 : o2 ≡ sets o1 record_size A = e2 ∙ ap (λ rs. sets o1 record_size (encodes little rs)) (all-by-nothing _ ∙ records-opened first x j.first-opened) in
+      let w3 : o3 ≡ sets o2 (record_size * (x.count - 1 + 1)) B =
+      e3 ∙ ap₂ (λ s rs. sets o2 (record_size * (x.count - 1 + 1)) (encodes little (map (moved s) rs))) (sym (shifts-opened first x j.first-opened)) (records-opened second y j.second-opened) in
+      let l1 : 0 + length H ≡ record_size = omega arith in
+      let l2 : 0 + length (H ++ A) ≡ record_size * (x.count - 1 + 1) = omega (arith, length-append H A, length-encodes little X.records counted-first) in
+      rw (w3, w2, w1, sets_behind H A out 0 record_size l1, sets_behind (H ++ A) B out 0 (record_size * (x.count - 1 + 1)) l2)
       (ap (sets out 0) (append_assoc H A B ∙ ap (H ++◌) (sym (encodes-append little X.records _))))
 
   -- the pools, one behind the other
-  pub pools-written : (out o1 o2 : List ℕ) (f1 t1 f2 t2 : ℕ) → f1 ≡ recordSize * x.count + 0
-      → t1 ≡ recordSize * (x.count - 1 + y.count) + 0 → o1 ≡ sets out t1 (drop f1 first)
-      → f2 ≡ recordSize * y.count + 0 → t2 ≡ recordSize * (x.count - 1 + y.count) + x.pool
+  pub pools-written : (out o1 o2 : List ℕ) (f1 t1 f2 t2 : ℕ) → f1 ≡ record_size * x.count + 0
+      → t1 ≡ record_size * (x.count - 1 + y.count) + 0 → o1 ≡ sets out t1 (drop f1 first)
+      → f2 ≡ record_size * y.count + 0 → t2 ≡ record_size * (x.count - 1 + y.count) + x.pool
       → o2 ≡ sets o1 t2 (drop f2 second)
-      → o2 ≡ sets out (recordSize * (x.count - 1 + y.count)) (merged (image_of first) (image_of second)).pool
+      → o2 ≡ sets out (record_size * (x.count - 1 + y.count)) (merged (image_of first) (image_of second)).pool
   unfolding merged
   pools-written out o1 o2 f1 t1 f2 t2 a b e1 c d e2 =
-      let at = recordSize * (x.count - 1 + y.count) in
+      let at = record_size * (x.count - 1 + y.count) in
       let P = (image_of first).pool in
-      let p1 : f1 ≡ recordSize * x.count = omega arith in
-      let p2 : f2 ≡ recordSize * y.count = omega arith in
+      let p1 : f1 ≡ record_size * x.count = omega arith in
+      let p2 : f2 ≡ record_size * y.count = omega arith in
       let q1 : t1 ≡ at = omega arith in
       let q2 : at + length P ≡ t2 = omega (arith, pool-opened first x j.first-opened) in
       let w1 : o1 ≡ sets out at P = e1 ∙ ap₂ (sets out) q1 (ap (λ k. drop k first) p1 ∙ pool-is-rest first x j.first-opened) in
@@ -159,24 +159,24 @@ module _ {first second : List ℕ} {x y : Frame} (j : Joinable first second x y)
   -- records and pool make up the table
   pub joined-written : (little : Bool) (out o1 o2 : List ℕ)
       → o1 ≡ sets out 0
-      (encode little (headerOf (merged (image_of first) (image_of second)))
+      (encode little (header_of (merged (image_of first) (image_of second)))
       ++ encodes little (merged (image_of first) (image_of second)).records)
-      → o2 ≡ sets o1 (recordSize * (x.count - 1 + y.count)) (merged (image_of first) (image_of second)).pool
+      → o2 ≡ sets o1 (record_size * (x.count - 1 + y.count)) (merged (image_of first) (image_of second)).pool
       → o2 ≡ sets out 0 (bytes_of little (merged (image_of first) (image_of second)))
   unfolding bytes_of
   joined-written little out o1 o2 e1 e2 =
       let M = merged (image_of first) (image_of second) in
-      let H = encode little (headerOf M) in
+      let H = encode little (header_of M) in
       let R = encodes little M.records in
-      let at = recordSize * (x.count - 1 + y.count) in
+      let at = record_size * (x.count - 1 + y.count) in
       let c = count-joined in
-      let h : length H ≡ recordSize = length-encode little (headerOf M) refl in
+      let h : length H ≡ record_size = length-encode little (header_of M) refl in
       let l : 0 + length (H ++ R) ≡ at = omega (arith, length-append H R, length-encodes little M.records counted-joined) in
       rw (e2, e1, sets_behind (H ++ R) M.pool out 0 at l) (ap (sets out 0) (append_assoc H R M.pool))
 
   -- the joined table's length
   pub length-joined : (little : Bool)
-      → length (bytes_of little (merged (image_of first) (image_of second))) ≡ joinedLength x y
+      → length (bytes_of little (merged (image_of first) (image_of second))) ≡ joined_length x y
   length-joined little =
       let c = count-joined in
       let p = pool-joined in

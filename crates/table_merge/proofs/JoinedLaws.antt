@@ -8,9 +8,9 @@ use native.Mathlib.Omega.{arith}
 use lib.ListN.{length, get_or, drop, get_or-append, get_or-map}
 use lib.Seq.{drop-drop, get_or-take, get_or-drop, get_or-append-add}
 use Rattle.lexis.specs.Runs.{StandsAt}
-use Rattle.refusals.specs.Limits.{recordLimit, poolLimit}
-use Rattle.table.specs.Records.{Record, Image, recordSize, make, field, count, header, headerOf, recordIn, image_of, bytes_of}
-use Rattle.table.specs.Check.{tableFault}
+use Rattle.refusals.specs.Limits.{record_limit, pool_limit}
+use Rattle.table.specs.Records.{Record, Image, record_size, make, field, count, header, header_of, record_in, image_of, bytes_of}
+use Rattle.table.specs.Check.{table_fault}
 use Rattle.table.specs.TableRules.{Holds, IsTable}
 use Rattle.table.proofs.Checked.{Checked}
 use Rattle.table.proofs.RecordLaws.{ImageFits, fit-counted, length-bytes}
@@ -19,22 +19,22 @@ use Rattle.table.proofs.FrameLaws.{decodes-at}
 use Rattle.table.proofs.HoldsLaws.{byte-is, byte-there, holds-is}
 use Rattle.table.proofs.TableRuleLaws.{frame_is, passes}
 use Rattle.table.proofs.WrittenLaws.{pool-byte, record-bytes, written-holds}
-use Rattle.table_merge.specs.Joining.{moved, shiftsBy, merged}
-use Rattle.table_merge.specs.contracts.Answers.{shifts}
-use Rattle.table_merge.specs.MergeRules.{Sizes, count_of, poolOf, length_of, BothTables, IsMerged}
+use Rattle.table_merge.specs.Joining.{moved, shifts_by, merged}
+use Rattle.table_merge.specs.Clauses.Answers.{shifts}
+use Rattle.table_merge.specs.MergeRules.{Sizes, count_of, pool_of, length_of, BothTables, IsMerged}
 use Rattle.table_merge.proofs.MergeLaws.{count-merged, pool-merged}
 use Rattle.table_merge.proofs.CheckedMerge.{checked-merge}
 use Rattle.table_merge.proofs.MoveRuleLaws.{holds-moves}
 
 -- what a table says of itself is so of what its bytes hold
 pub record Reads (bs : List ℕ) (size pool root : ℕ) : Type 0 where
-  pub passed : tableFault bs ≡ none
+  pub passed : table_fault bs ≡ none
   pub checked : Checked (image_of bs)
   pub counted : count (image_of bs) ≡ size
   pub pooled : length (image_of bs).pool ≡ pool
   pub rooted : (image_of bs).root ≡ root
-  pub records : (d : Record) (n : ℕ) → suc n < size → get_or (image_of bs).records n d ≡ recordIn bs (suc n)
-  pub bytes : (k : ℕ) → k < pool → get_or (image_of bs).pool k 0 ≡ get_or bs (recordSize * size + k) 0
+  pub records : (d : Record) (n : ℕ) → suc n < size → get_or (image_of bs).records n d ≡ record_in bs (suc n)
+  pub bytes : (k : ℕ) → k < pool → get_or (image_of bs).pool k 0 ≡ get_or bs (record_size * size + k) 0
 
 pub table-reads : {bs : List ℕ} {size pool root : ℕ} → IsTable bs size pool root → Reads bs size pool root
 unfolding image_of
@@ -50,11 +50,11 @@ table-reads {bs} {size} {pool} {root} t =
       rooted = sym f.2;
       records =
           λ d n l.
-          let e : recordSize + recordSize * n ≡ recordSize * suc n = omega arith in
-          decodes-at (field (header bs) 0 - 1) n (drop recordSize bs) d (omega arith) ∙ rw (drop-drop (recordSize * n) recordSize bs, e);
+          let e : record_size + record_size * n ≡ record_size * suc n = omega arith in
+          decodes-at (field (header bs) 0 - 1) n (drop record_size bs) d (omega arith) ∙ rw (drop-drop (record_size * n) record_size bs, e);
       bytes =
           λ k l.
-          rw (← f.0, ← f.1, get_or-take pool (drop (recordSize * size) bs) k 0 l, get_or-drop (recordSize * size) bs k 0);
+          rw (← f.0, ← f.1, get_or-take pool (drop (record_size * size) bs) k 0 l, get_or-drop (record_size * size) bs k 0);
     }
 
 -- the records and the pool of a merge
@@ -64,10 +64,10 @@ unfolding merged
 kept_record x y d n l = get_or-append x.records _ d n l
 
 moved-record : (x y : Image) (d : Record) (n : ℕ)
-    → get_or (merged x y).records (length x.records + n) (moved (shiftsBy x) d)
-    ≡ moved (shiftsBy x) (get_or y.records n d)
+    → get_or (merged x y).records (length x.records + n) (moved (shifts_by x) d)
+    ≡ moved (shifts_by x) (get_or y.records n d)
 unfolding merged
-moved-record x y d n = get_or-append-add x.records _ n _ ∙ get_or-map (moved (shiftsBy x)) y.records n d
+moved-record x y d n = get_or-append-add x.records _ n _ ∙ get_or-map (moved (shifts_by x)) y.records n d
 
 kept_byte : (x y : Image) (k : ℕ) → k < length x.pool → get_or (merged x y).pool k 0 ≡ get_or x.pool k 0
 unfolding merged
@@ -82,24 +82,24 @@ unfolding merged
 root_kept x y = refl
 
 -- what is written
-abbrev pub joinedOf : List ℕ → List ℕ → Bool → List ℕ
-joinedOf first second little = bytes_of little (merged (image_of first) (image_of second))
+abbrev pub joined_of : List ℕ → List ℕ → Bool → List ℕ
+joined_of first second little = bytes_of little (merged (image_of first) (image_of second))
 
 module _ {first second : List ℕ} {z : Sizes} (t : BothTables first second z) where
   -- its sizes
   pub counts-are : length (image_of first).records + count (image_of second) ≡ count_of z
   counts-are = let a = table-reads t.first in let b = table-reads t.second in omega arith
 
-  pub pools-are : length (image_of first).pool + length (image_of second).pool ≡ poolOf z
+  pub pools-are : length (image_of first).pool + length (image_of second).pool ≡ pool_of z
   pools-are = ap₂ ◌+◌ (table-reads t.first).pooled (table-reads t.second).pooled
 
-  pub shifts-are : shiftsBy (image_of first) ≡ shifts (z.count₁ - 1) z.pool₁
+  pub shifts-are : shifts_by (image_of first) ≡ shifts (z.count₁ - 1) z.pool₁
   shifts-are =
       let a = table-reads t.first in
       let c : length (image_of first).records ≡ z.count₁ - 1 = omega arith in
       λ i. record { records = c i; pool = a.pooled i }
 
-  module _ (few : count_of z ≤ recordLimit) (small : poolOf z ≤ poolLimit) where
+  module _ (few : count_of z ≤ record_limit) (small : pool_of z ≤ pool_limit) where
     -- it passes the check
     joined-checked : Checked (merged (image_of first) (image_of second))
     joined-checked =
@@ -111,18 +111,18 @@ module _ {first second : List ℕ} {z : Sizes} (t : BothTables first second z) w
     count-joined : count (merged (image_of first) (image_of second)) ≡ count_of z
     count-joined = count-merged (image_of first) (image_of second) ∙ counts-are
 
-    pool-joined : length (merged (image_of first) (image_of second)).pool ≡ poolOf z
+    pool-joined : length (merged (image_of first) (image_of second)).pool ≡ pool_of z
     pool-joined = pool-merged (image_of first) (image_of second) ∙ pools-are
 
     module _ (little : Bool) where
-      pub joined_length : length (joinedOf first second little) ≡ length_of z
+      pub joined_length : length (joined_of first second little) ≡ length_of z
       joined_length =
           let m = merged (image_of first) (image_of second) in
           rw (length-bytes little m (fit-counted m.records joined-fits.records), count-joined, pool-joined)
 
       -- its records are those of the first table, and those of the second, moved
       kept-holds : (n : ℕ) (order : Bool) (r : Record) → 1 ≤ n → n < z.count₁ → Holds first n order r
-          → Holds (joinedOf first second little) n little r
+          → Holds (joined_of first second little) n little r
       kept-holds zero order r low below h = absurd (omega arith)
       kept-holds (suc n) order r low below h =
           let x = image_of first in
@@ -132,7 +132,7 @@ module _ {first second : List ℕ} {z : Sizes} (t : BothTables first second z) w
           rw e at (written-holds little (merged x y) joined-fits r (suc n) (omega (arith, count-merged x y)))
 
       moved_holds : (n : ℕ) (order : Bool) (r : Record) → 1 ≤ n → n < z.count₂ → Holds second n order r
-          → Holds (joinedOf first second little) (n + (z.count₁ - 1)) little
+          → Holds (joined_of first second little) (n + (z.count₁ - 1)) little
           (moved (shifts (z.count₁ - 1) z.pool₁) r)
       moved_holds zero order r low below h = absurd (omega arith)
       moved_holds (suc n) order r low below h =
@@ -140,21 +140,21 @@ module _ {first second : List ℕ} {z : Sizes} (t : BothTables first second z) w
           let y = image_of second in
           let a = table-reads t.first in
           let b = table-reads t.second in
-          let d = moved (shiftsBy x) r in
+          let d = moved (shifts_by x) r in
           let i : suc (length x.records + n) ≡ suc n + (z.count₁ - 1) = omega arith in
           let e : get_or (merged x y).records (length x.records + n) d ≡ moved (shifts (z.count₁ - 1) z.pool₁) r =
           moved-record x y r n ∙ ap₂ moved shifts-are (b.records r n below ∙ sym (holds-is second (suc n) order r h)) in
           rw (e, i) at (written-holds little (merged x y) joined-fits d (suc (length x.records + n)) (omega (arith, count-merged x y)))
 
       -- and the bytes of its pool are theirs
-      pool-holds : (k b : ℕ) → k < poolOf z → get_or (merged (image_of first) (image_of second)).pool k 0 ≡ b
-          → StandsAt (joinedOf first second little) (recordSize * count_of z + k) (b ∷ [])
+      pool-holds : (k b : ℕ) → k < pool_of z → get_or (merged (image_of first) (image_of second)).pool k 0 ≡ b
+          → StandsAt (joined_of first second little) (record_size * count_of z + k) (b ∷ [])
       pool-holds k b l e =
-          let place = recordSize * count_of z + k in
-          let i : get_or (joinedOf first second little) place 0 ≡ b = rw count-joined at (pool-byte little (merged (image_of first) (image_of second)) joined-fits k) ∙ e in
-          rw i at (byte-there (joinedOf first second little) place (rw joined_length (omega arith)))
+          let place = record_size * count_of z + k in
+          let i : get_or (joined_of first second little) place 0 ≡ b = rw count-joined at (pool-byte little (merged (image_of first) (image_of second)) joined-fits k) ∙ e in
+          rw i at (byte-there (joined_of first second little) place (rw joined_length (omega arith)))
 
-      pub joined_is : IsMerged first second little z (joinedOf first second little)
+      pub joined_is : IsMerged first second little z (joined_of first second little)
       joined_is =
           let x = image_of first in
           let y = image_of second in
@@ -164,14 +164,14 @@ module _ {first second : List ℕ} {z : Sizes} (t : BothTables first second z) w
           record {
             sized = joined_length;
             header =
-                subst (Holds (joinedOf first second little) 0 little) (λ i. make 0 0 (count-joined i ∷ pool-joined i ∷ (root_kept x y ∙ a.rooted) i ∷ []))
-                (written-holds little m joined-fits (headerOf m) 0 (omega arith));
+                subst (Holds (joined_of first second little) 0 little) (λ i. make 0 0 (count-joined i ∷ pool-joined i ∷ (root_kept x y ∙ a.rooted) i ∷ []))
+                (written-holds little m joined-fits (header_of m) 0 (omega arith));
             kept = kept-holds;
             moved =
                 λ n order r low below h.
                 let i = t.second.records n low below in
                 (moved (shifts (z.count₁ - 1) z.pool₁) r, holds-moves (z.count₁ - 1) z.pool₁ i order r h, moved_holds n order r low below h);
-            firstPool = λ k c l h. pool-holds k c (omega arith) (kept_byte x y k (omega arith) ∙ a.bytes k l ∙ byte-is first _ c h);
-            secondPool = λ k c l h. pool-holds (z.pool₁ + k) c (omega arith) (rw a.pooled at (moved-byte x y k) ∙ b.bytes k l ∙ byte-is second _ c h);
-            bytes = λ k c h l. rw (byte-is (joinedOf first second little) k c h) at (record-bytes little m joined-checked k (rw count-joined l));
+            first_pool = λ k c l h. pool-holds k c (omega arith) (kept_byte x y k (omega arith) ∙ a.bytes k l ∙ byte-is first _ c h);
+            second_pool = λ k c l h. pool-holds (z.pool₁ + k) c (omega arith) (rw a.pooled at (moved-byte x y k) ∙ b.bytes k l ∙ byte-is second _ c h);
+            bytes = λ k c h l. rw (byte-is (joined_of first second little) k c h) at (record-bytes little m joined-checked k (rw count-joined l));
           }

@@ -13,15 +13,15 @@ use borrow.Author.Tests.{leb-true}
 use Rattle.lexis.specs.Bytes.{within}
 use Rattle.lexis.proofs.Cases.{and_left, and_right}
 use Rattle.table.specs.Records.{Record, Image, count}
-use Rattle.table.specs.Rows.{Shape, tableHeader, object, attribute, text, single, range, shape_of, Use, unnamed, place, length, link, low, high, rowFor}
-use Rattle.table.specs.Check.{fieldRight, fieldsRight, usesOf}
-use Rattle.table.specs.Trees.{name, step, part_of, parts_of, cells, cells_of, reach, trees, treesOf, treeAt}
+use Rattle.table.specs.Rows.{Shape, table_header, object, attribute, text, single, range, shape_of, Use, unnamed, place, length, link, low, high, row_for}
+use Rattle.table.specs.Check.{field_right, fields_right, uses_of}
+use Rattle.table.specs.Trees.{name, step, part_of, parts_of, cells, cells_of, reach, trees, trees_of, tree_at}
 use Rattle.table.proofs.Checked.{RecordsGood, Checked}
-use Rattle.table.proofs.TreeLaws.{movedTree, trees-moved, trees-append, length-cells, length-trees-of, cells-append, reach-moved, reach-append, reach-past}
+use Rattle.table.proofs.TreeLaws.{moved_tree, trees-moved, trees-append, length-cells, length-trees-of, cells-append, reach-moved, reach-append, reach-past}
 use Rattle.table.proofs.UseLaws.{uses-same}
 use Rattle.table.proofs.FieldLaws.{closed}
 use Rattle.table.proofs.CheckLaws.{good-fields}
-use Rattle.table_merge.specs.Joining.{Shifts, movedField, movedFields, moved, shiftsBy, merged}
+use Rattle.table_merge.specs.Joining.{Shifts, moved_field, moved_fields, moved, shifts_by, merged}
 
 -- the count of a merge is both counts less one
 pub count-merged : (x y : Image) → count (merged x y) ≡ ListN.length x.records + count y
@@ -58,8 +58,8 @@ steady [] = true
 steady (u ∷ us) = cond (reads u) (fixed us) true && steady us
 
 -- no field that another reads is moved in any kind
-pub steady-row : (s : Shape) (xs : List ℕ) → steady ((rowFor s).uses xs) ≡ true
-steady-row tableHeader xs = refl
+pub steady-row : (s : Shape) (xs : List ℕ) → steady ((row_for s).uses xs) ≡ true
+steady-row table_header xs = refl
 steady-row object xs = refl
 steady-row attribute xs = refl
 steady-row text xs = refl
@@ -67,7 +67,7 @@ steady-row (single sort) xs = refl
 steady-row (range sort) xs = refl
 
 -- a field that no merge moves is what it was
-next-fixed : (s : Shifts) (us : List Use) (xs : List ℕ) → fixed us ≡ true → get_or (movedFields s us xs) 0 0 ≡ get_or xs 0 0
+next-fixed : (s : Shifts) (us : List Use) (xs : List ℕ) → fixed us ≡ true → get_or (moved_fields s us xs) 0 0 ≡ get_or xs 0 0
 next-fixed s [] xs h = refl
 next-fixed s (u ∷ us) [] h = refl
 next-fixed s (unnamed ∷ us) (x ∷ xs) h = refl
@@ -83,7 +83,7 @@ Same u a b = reads u ≡ true → a ≡ b
 
 -- moving leaves the next field the same to every field
 pub next-same : (s : Shifts) (u : Use) (us : List Use) (xs : List ℕ) → steady (u ∷ us) ≡ true
-    → Same u (get_or (movedFields s us xs) 0 0) (get_or xs 0 0)
+    → Same u (get_or (moved_fields s us xs) 0 0) (get_or xs 0 0)
 next-same s u us xs h e = next-fixed s us xs (rw e at (and_left (cond (reads u) (fixed us) true) (steady us) h))
 
 -- a name moved into the joined pool is the same name
@@ -108,7 +108,7 @@ step-moved s i (suc x) = rw eqb-suc-zero (omega arith)
 module _ (x : Image) (Q : List ℕ) where
   -- a field of the second table, moved, means what it meant
   part_moved : (i : ℕ) (u : Use) (f next was : ℕ) → Same u next was
-      → part_of (x.pool ++ Q) (ListN.length x.records + i) u (movedField (shiftsBy x) u f was) next
+      → part_of (x.pool ++ Q) (ListN.length x.records + i) u (moved_field (shifts_by x) u f was) next
       ≡ part_of Q i u f was
   part_moved i unnamed f next was h = refl
   part_moved i (place least most) f next was h = rw (h refl) (ap name (name-moved x.pool Q f was))
@@ -119,26 +119,26 @@ module _ (x : Image) (Q : List ℕ) where
 
   -- so do the fields of a record
   parts-moved : (i : ℕ) (us : List Use) (fs : List ℕ) → steady us ≡ true
-      → parts_of (x.pool ++ Q) (ListN.length x.records + i) us (movedFields (shiftsBy x) us fs) ≡ parts_of Q i us fs
+      → parts_of (x.pool ++ Q) (ListN.length x.records + i) us (moved_fields (shifts_by x) us fs) ≡ parts_of Q i us fs
   parts-moved i [] fs h = refl
   parts-moved i (u ∷ us) [] h = refl
   parts-moved i (u ∷ us) (f ∷ fs) h =
-      ap₂ ◌∷◌ (part_moved i u f _ (get_or fs 0 0) (next-same (shiftsBy x) u us fs h)) (parts-moved i us fs (and_right (cond (reads u) (fixed us) true) (steady us) h))
+      ap₂ ◌∷◌ (part_moved i u f _ (get_or fs 0 0) (next-same (shifts_by x) u us fs h)) (parts-moved i us fs (and_right (cond (reads u) (fixed us) true) (steady us) h))
 
   -- the moved records have the cells that they had
   cells-moved : (i : ℕ) (rs : List Record)
-      → cells (x.pool ++ Q) (ListN.length x.records + i) (map (moved (shiftsBy x)) rs) ≡ cells Q i rs
+      → cells (x.pool ++ Q) (ListN.length x.records + i) (map (moved (shifts_by x)) rs) ≡ cells Q i rs
   cells-moved i [] = refl
   cells-moved i (r ∷ rs) =
       let s = shape_of r.kind in
-      let same = ap (λ us. parts_of (x.pool ++ Q) (ListN.length x.records + i) us (moved (shiftsBy x) r).fields) (uses-same s (moved (shiftsBy x) r).fields r.fields) in
-      ap₂ ◌∷◌ (λ j. record { kind = r.kind; flag = r.flag; parts = (same ∙ parts-moved i (usesOf r) r.fields (steady-row s r.fields)) j })
+      let same = ap (λ us. parts_of (x.pool ++ Q) (ListN.length x.records + i) us (moved (shifts_by x) r).fields) (uses-same s (moved (shifts_by x) r).fields r.fields) in
+      ap₂ ◌∷◌ (λ j. record { kind = r.kind; flag = r.flag; parts = (same ∙ parts-moved i (uses_of r) r.fields (steady-row s r.fields)) j })
       (rw (← add-suc) (cells-moved (suc i) rs))
 
   -- a field of the first table that obeys its rule means what it meant
-  part-kept : (n : ℕ) (u : Use) (f next : ℕ) → fieldRight x n u f next ≡ true
+  part-kept : (n : ℕ) (u : Use) (f next : ℕ) → field_right x n u f next ≡ true
       → part_of (x.pool ++ Q) n u f next ≡ part_of x.pool n u f next
-  unfolding fieldRight
+  unfolding field_right
   part-kept n unnamed f next h = refl
   part-kept n (place least most) f next h = ap name (name-kept x.pool Q f next (and_right (within least most next) _ h))
   part-kept n length f next h = refl
@@ -147,18 +147,18 @@ module _ (x : Image) (Q : List ℕ) where
   part-kept n high f next h = refl
 
   -- so do the fields of a record
-  parts-kept : (n : ℕ) (us : List Use) (fs : List ℕ) → fieldsRight x n us fs ≡ true
+  parts-kept : (n : ℕ) (us : List Use) (fs : List ℕ) → fields_right x n us fs ≡ true
       → parts_of (x.pool ++ Q) n us fs ≡ parts_of x.pool n us fs
   parts-kept n [] fs h = refl
   parts-kept n (u ∷ us) [] h = refl
   parts-kept n (u ∷ us) (f ∷ fs) h =
-      ap₂ ◌∷◌ (part-kept n u f (get_or fs 0 0) (and_left _ (fieldsRight x n us fs) h)) (parts-kept n us fs (and_right (fieldRight x n u f (get_or fs 0 0)) _ h))
+      ap₂ ◌∷◌ (part-kept n u f (get_or fs 0 0) (and_left _ (fields_right x n us fs) h)) (parts-kept n us fs (and_right (field_right x n u f (get_or fs 0 0)) _ h))
 
   -- the first table's records have the cells that they had
   cells-kept : (n : ℕ) (rs : List Record) → RecordsGood x n rs → cells (x.pool ++ Q) n rs ≡ cells x.pool n rs
   cells-kept n [] h = refl
   cells-kept n (r ∷ rs) h =
-      ap₂ ◌∷◌ (λ j. record { kind = r.kind; flag = r.flag; parts = parts-kept n (usesOf r) r.fields (good-fields h.0) j })
+      ap₂ ◌∷◌ (λ j. record { kind = r.kind; flag = r.flag; parts = parts-kept n (uses_of r) r.fields (good-fields h.0) j })
       (cells-kept (suc n) rs h.1)
 
 -- the cells of a merge are the first table's and then the second's
@@ -170,24 +170,24 @@ cells-merged x y h =
 
 -- the trees of a merge are the first table's and then the second's, moved
 pub trees-merged : (x y : Image) → Checked x
-    → treesOf (merged x y) ≡ treesOf x ++ map (movedTree (ListN.length x.records)) (treesOf y)
-unfolding treesOf cells_of
+    → trees_of (merged x y) ≡ trees_of x ++ map (moved_tree (ListN.length x.records)) (trees_of y)
+unfolding trees_of cells_of
 trees-merged x y h =
     ap (trees 1) (cells-merged x y h)
     ∙ trees-append 1 (cells_of x) (cells_of y) (closed x h)
-    ∙ ap (treesOf x ++◌) (rw (length-cells, add_comm 1) (trees-moved (ListN.length x.records) 1 (cells_of y)))
+    ∙ ap (trees_of x ++◌) (rw (length-cells, add_comm 1) (trees-moved (ListN.length x.records) 1 (cells_of y)))
 
 -- a record of the first table stands for what it stood for
-pub tree-kept : (x y : Image) → Checked x → (n : ℕ) → n < count x → treeAt (merged x y) n ≡ treeAt x n
-unfolding treeAt
-tree-kept x y h n l = ap (λ ts. reach ts n) (trees-merged x y h) ∙ reach-append n (treesOf x) _ (rw length-trees-of (omega arith))
+pub tree-kept : (x y : Image) → Checked x → (n : ℕ) → n < count x → tree_at (merged x y) n ≡ tree_at x n
+unfolding tree_at
+tree-kept x y h n l = ap (λ ts. reach ts n) (trees-merged x y h) ∙ reach-append n (trees_of x) _ (rw length-trees-of (omega arith))
 
 -- a record of the second table stands, at its moved number, for the same with its numbers moved
 pub tree-moved : (x y : Image) → Checked x → (n : ℕ) → 1 ≤ n
-    → treeAt (merged x y) (ListN.length x.records + n) ≡ movedTree (ListN.length x.records) (treeAt y n)
-unfolding treeAt
+    → tree_at (merged x y) (ListN.length x.records + n) ≡ moved_tree (ListN.length x.records) (tree_at y n)
+unfolding tree_at
 tree-moved x y h zero l = absurd (omega arith)
 tree-moved x y h (suc n) l =
     ap (λ ts. reach ts (ListN.length x.records + suc n)) (trees-merged x y h)
-    ∙ rw (← length-trees-of x) (reach-past n (treesOf x) _)
-    ∙ reach-moved _ (suc n) (treesOf y)
+    ∙ rw (← length-trees-of x) (reach-past n (trees_of x) _)
+    ∙ reach-moved _ (suc n) (trees_of y)

@@ -7,50 +7,50 @@ use Prim.Native.Nat.{ℕ, ◌-◌}
 use lib.ListN.{length, drop}
 use borrow.Author.Tests.{lt-ltb, le-ltb}
 use Rattle.values.proofs.Common.{by_order}
-use Rattle.refusals.specs.Limits.{recordLimit, poolLimit}
+use Rattle.refusals.specs.Limits.{record_limit, pool_limit}
 use Rattle.refusals.specs.Outcomes.{refused, gave, writes, write}
 use Rattle.refusals.specs.declared.Refusal.{Refusal}
 use Rattle.refusals.proofs.Outcomes.{not-gave, same-refusal, same-given}
 use Rattle.table.specs.Records.{image_of}
-use Rattle.table.specs.Check.{tableFault}
+use Rattle.table.specs.Check.{table_fault}
 use Rattle.table.specs.TableRules.{IsTable}
 use Rattle.table.proofs.TableRuleLaws.{passes, no_table}
-use Rattle.table_merge.specs.Merge.{MergeRequest, MergeReport, MergeRefusal, report, join, mergeOutcome, mergeAnswer}
-use Rattle.table_merge.specs.contracts.Answers.{shifts}
-use Rattle.table_merge.specs.MergeRules.{Sizes, count_of, poolOf, length_of, BothTables, IsMerged, Merges, MergeRefuses}
-use Rattle.table_merge.proofs.JoinedLaws.{table-reads, joinedOf, counts-are, pools-are, shifts-are, joined_length, joined_is}
+use Rattle.table_merge.specs.Merge.{MergeRequest, MergeReport, MergeRefusal, report, join, merge_outcome, merge_answer}
+use Rattle.table_merge.specs.Clauses.Answers.{shifts}
+use Rattle.table_merge.specs.MergeRules.{Sizes, count_of, pool_of, length_of, BothTables, IsMerged, Merges, MergeRefuses}
+use Rattle.table_merge.proofs.JoinedLaws.{table-reads, joined_of, counts-are, pools-are, shifts-are, joined_length, joined_is}
 
 module _ (q : MergeRequest) (room : ℕ) where
   -- two tables are joined as far as their sizes allow
   outcome-both : {z : Sizes} → BothTables q.first q.second z
-      → mergeOutcome q room ≡ join (image_of q.first) (image_of q.second) q.little room
+      → merge_outcome q room ≡ join (image_of q.first) (image_of q.second) q.little room
   outcome-both t = rw ((table-reads t.first).passed, (table-reads t.second).passed)
 
   -- what the rules say that merging reports is given
   merges-gives : {z : Sizes} {m : MergeReport} → Merges q room z m
-      → mergeOutcome q room ≡ gave (writes (joinedOf q.first q.second q.little) m)
+      → merge_outcome q room ≡ gave (writes (joined_of q.first q.second q.little) m)
   unfolding join
   merges-gives {z} {m} h =
       let t = h.tables in
       let e = joined_length t h.counts h.pools q.little in
-      let few = le-ltb recordLimit (count_of z) h.counts in
-      let small = le-ltb poolLimit (poolOf z) h.pools in
+      let few = le-ltb record_limit (count_of z) h.counts in
+      let small = le-ltb pool_limit (pool_of z) h.pools in
       let r : m ≡ report (length_of z) (shifts (z.count₁ - 1) z.pool₁) = λ i. report (h.length i) (shifts (h.records i) (h.pool i)) in
       outcome-both t
       ∙ rw (r, counts-are t, pools-are t, e, shifts-are t, few, small, le-ltb room (length_of z) h.fits)
 
   -- what the rules refuse is refused so
-  refuses-so : {r : MergeRefusal} → MergeRefuses q room r → mergeOutcome q room ≡ refused r
+  refuses-so : {r : MergeRefusal} → MergeRefuses q room r → merge_outcome q room ≡ refused r
   unfolding join
   refuses-so (MergeRefuses.first {r} n) = rw ((no_table q.first r).1 n)
   refuses-so (MergeRefuses.second {r = r} t n) = rw ((table-reads t).passed, (no_table q.second r).1 n)
-  refuses-so (MergeRefuses.records {z} t many) = outcome-both t ∙ rw (counts-are t, lt-ltb recordLimit (count_of z) many)
+  refuses-so (MergeRefuses.records {z} t many) = outcome-both t ∙ rw (counts-are t, lt-ltb record_limit (count_of z) many)
   refuses-so (MergeRefuses.pool {z} t few large) =
-      outcome-both t ∙ rw (counts-are t, pools-are t, le-ltb recordLimit (count_of z) few, lt-ltb poolLimit (poolOf z) large)
+      outcome-both t ∙ rw (counts-are t, pools-are t, le-ltb record_limit (count_of z) few, lt-ltb pool_limit (pool_of z) large)
   refuses-so (MergeRefuses.short {z} t few small long) =
       let e = joined_length t few small q.little in
       outcome-both t
-      ∙ rw (counts-are t, pools-are t, e, le-ltb recordLimit (count_of z) few, le-ltb poolLimit (poolOf z) small, lt-ltb room (length_of z) long)
+      ∙ rw (counts-are t, pools-are t, e, le-ltb record_limit (count_of z) few, le-ltb pool_limit (pool_of z) small, lt-ltb room (length_of z) long)
 
 -- merging is done or refused
 data Judged (q : MergeRequest) (room : ℕ) : Type 0 where
@@ -60,8 +60,8 @@ data Judged (q : MergeRequest) (room : ℕ) : Type 0 where
 module _ (q : MergeRequest) (room : ℕ) where
   judged-both : (z : Sizes) → BothTables q.first q.second z → Judged q room
   judged-both z t =
-      by_order (count_of z) recordLimit
-      (λ few. by_order (poolOf z) poolLimit
+      by_order (count_of z) record_limit
+      (λ few. by_order (pool_of z) pool_limit
       (λ small. by_order (length_of z) room
       (λ fits. done {m = report (length_of z) (shifts (z.count₁ - 1) z.pool₁)}
       (record { tables = t; counts = few; pools = small; fits = fits; length = refl; records = refl; pool = refl }))
@@ -70,57 +70,57 @@ module _ (q : MergeRequest) (room : ℕ) where
       (λ many. denied (MergeRefuses.records t many))
 
   judged-second : {count pool root : ℕ} → IsTable q.first count pool root → (f : Option Refusal)
-      → tableFault q.second ≡ f → Judged q room
+      → table_fault q.second ≡ f → Judged q room
   judged-second {count} {pool} {root} t none e =
       let v = (passes q.second).0 e in
       judged-both (record { count₁ = count; pool₁ = pool; root₁ = root; count₂ = v.0; pool₂ = v.1; root₂ = v.2 }) (record { first = t; second = v.3 })
   judged-second t (some r) e = denied (MergeRefuses.second t ((no_table q.second r).0 e))
 
-  judged-first : (f : Option Refusal) → tableFault q.first ≡ f → Judged q room
-  judged-first none e = judged-second ((passes q.first).0 e).3 (tableFault q.second) refl
+  judged-first : (f : Option Refusal) → table_fault q.first ≡ f → Judged q room
+  judged-first none e = judged-second ((passes q.first).0 e).3 (table_fault q.second) refl
   judged-first (some r) e = denied (MergeRefuses.first ((no_table q.first r).0 e))
 
 module _ (q : MergeRequest) (out : List ℕ) where
   judged : Judged q (length out)
-  judged = judged-first q (length out) (tableFault q.first) refl
+  judged = judged-first q (length out) (table_fault q.first) refl
 
   -- the answer is what the rules say
-  done-gave : {z : Sizes} {m : MergeReport} → Merges q (length out) z m → (mergeAnswer q out).answer ≡ gave m
-  unfolding mergeAnswer
+  done-gave : {z : Sizes} {m : MergeReport} → Merges q (length out) z m → (merge_answer q out).answer ≡ gave m
+  unfolding merge_answer
   done-gave h = ap (λ o. (write o out).answer) (merges-gives q (length out) h)
 
-  denied-refused : {r : MergeRefusal} → MergeRefuses q (length out) r → (mergeAnswer q out).answer ≡ refused r
-  unfolding mergeAnswer
+  denied-refused : {r : MergeRefusal} → MergeRefuses q (length out) r → (merge_answer q out).answer ≡ refused r
+  unfolding merge_answer
   denied-refused h = ap (λ o. (write o out).answer) (refuses-so q (length out) h)
 
   -- and nothing else
-  gave-done : (m : MergeReport) → Judged q (length out) → (mergeAnswer q out).answer ≡ gave m
+  gave-done : (m : MergeReport) → Judged q (length out) → (merge_answer q out).answer ≡ gave m
       → (z : Sizes) × Merges q (length out) z m
   gave-done m (done {z} h) e = (z, subst (Merges q (length out) z) (same-given (sym (done-gave h) ∙ e)) h)
   gave-done m (denied h) e = absurd (not-gave (sym (denied-refused h) ∙ e))
 
-  refused-denied : (r : MergeRefusal) → Judged q (length out) → (mergeAnswer q out).answer ≡ refused r
+  refused-denied : (r : MergeRefusal) → Judged q (length out) → (merge_answer q out).answer ≡ refused r
       → MergeRefuses q (length out) r
   refused-denied r (done h) e = absurd (not-gave (sym e ∙ done-gave h))
   refused-denied r (denied h) e = subst (MergeRefuses q (length out)) (same-refusal (sym (denied-refused h) ∙ e)) h
 
 -- merging is done exactly when the rules say so, and reports what they say
 pub merge-done : (q : MergeRequest) (out : List ℕ) (m : MergeReport)
-    → ((mergeAnswer q out).answer ≡ gave m) ↔ ((z : Sizes) × Merges q (length out) z m)
+    → ((merge_answer q out).answer ≡ gave m) ↔ ((z : Sizes) × Merges q (length out) z m)
 merge-done q out m = (gave-done q out m (judged q out), λ h. done-gave q out h.1)
 
 -- it is refused exactly as they say
 pub merge-refused : (q : MergeRequest) (out : List ℕ) (r : MergeRefusal)
-    → ((mergeAnswer q out).answer ≡ refused r) ↔ MergeRefuses q (length out) r
+    → ((merge_answer q out).answer ≡ refused r) ↔ MergeRefuses q (length out) r
 merge-refused q out r = (refused-denied q out r (judged q out), denied-refused q out)
 
 -- and where it is done, the table that they describe stands in front of the output
 pub merge-written : (q : MergeRequest) (out : List ℕ) (z : Sizes) (m : MergeReport) → Merges q (length out) z m
     → (joined : List ℕ) × IsMerged q.first q.second q.little z joined
-    × ((mergeAnswer q out).out ≡ joined ++ drop (length joined) out)
-unfolding mergeAnswer
+    × ((merge_answer q out).out ≡ joined ++ drop (length joined) out)
+unfolding merge_answer
 merge-written q out z m h = (
-  joinedOf q.first q.second q.little,
+  joined_of q.first q.second q.little,
   joined_is h.tables h.counts h.pools q.little,
   ap (λ o. (write o out).out) (merges-gives q (length out) h),
 )

@@ -12,7 +12,7 @@ use Rattle.table.specs.Rows.{shape_of}
 use Rattle.table.specs.TableRules.{Holds, IsRecord}
 use Rattle.table.proofs.HoldsLaws.{holds-is}
 use Rattle.table_merge.specs.Joining.{moved}
-use Rattle.table_merge.specs.contracts.Answers.{shifts}
+use Rattle.table_merge.specs.Clauses.Answers.{shifts}
 use Rattle.table_merge.specs.MergeRules.{LinkMoves, PlaceMoves, Moves}
 
 module _ {by : ℕ} where
@@ -42,10 +42,10 @@ moves-is (Moves.attribute p l k) = rw (place_is p, link-is l, link-is k)
 moves-is Moves.boolean = refl
 moves-is (Moves.integer l) = rw (link-is l)
 moves-is (Moves.string p l) = rw (place_is p, link-is l)
-moves-is Moves.datePattern = refl
-moves-is (Moves.dateInterval l) = rw (link-is l)
-moves-is Moves.timePattern = refl
-moves-is Moves.durationPattern = refl
+moves-is Moves.date_pattern = refl
+moves-is (Moves.date_interval l) = rw (link-is l)
+moves-is Moves.time_pattern = refl
+moves-is Moves.duration_pattern = refl
 
 -- a record that obeys the rules of its kind is held, and moves
 pub record Held (records pool : ℕ) (bs : List ℕ) (n : ℕ) : Type 0 where
@@ -65,10 +65,10 @@ module _ (s p : ℕ) {bs : List ℕ} {n : ℕ} where
   record-held (IsRecord.boolean h i j) = held h Moves.boolean
   record-held (IsRecord.integer {e = e} h i j k l) = held h (Moves.integer (link-moves s e))
   record-held (IsRecord.string {a = a} {b} {e} h i j) = held h (Moves.string (place-moves p a b) (link-moves s e))
-  record-held (IsRecord.datePattern h i j) = held h Moves.datePattern
-  record-held (IsRecord.dateInterval {e = e} h i j k l) = held h (Moves.dateInterval (link-moves s e))
-  record-held (IsRecord.timePattern h i j) = held h Moves.timePattern
-  record-held (IsRecord.durationPattern h i j) = held h Moves.durationPattern
+  record-held (IsRecord.date_pattern h i j) = held h Moves.date_pattern
+  record-held (IsRecord.date_interval {e = e} h i j k l) = held h (Moves.date_interval (link-moves s e))
+  record-held (IsRecord.time_pattern h i j) = held h Moves.time_pattern
+  record-held (IsRecord.duration_pattern h i j) = held h Moves.duration_pattern
 
   -- so the one that is held moves
   pub holds-moves : {count pool : ℕ} → IsRecord bs count pool n → (order : Bool) (r : Record) → Holds bs n order r

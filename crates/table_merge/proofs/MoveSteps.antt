@@ -6,13 +6,13 @@ use native.Mathlib.Omega.{arith}
 use lib.Dec.{eqb}
 use borrow.Author.Tests.{eq-eqb, ne_eqb, le-leb}
 use Rattle.table.specs.Records.{Record}
-use Rattle.table.specs.Rows.{Shape, tableHeader, object, attribute, text, single, range, shape_of}
+use Rattle.table.specs.Rows.{Shape, table_header, object, attribute, text, single, range, shape_of}
 use Rattle.meaning.specs.Constraints.{integers, dates}
-use Rattle.table.specs.contracts.Answers.{recordOf}
+use Rattle.table.specs.Clauses.Answers.{record_of}
 use Rattle.table.specs.declared.records.Entry.{Entry}
-use Rattle.table.proofs.UseLaws.{namesNone, plainKind, plain-shape}
+use Rattle.table.proofs.UseLaws.{names_none, plain_kind, plain-shape}
 use Rattle.table_merge.specs.Joining.{Shifts, moved}
-use Rattle.table_merge.specs.contracts.Answers.{shifts, movedLink, movedPlace, movedAs, Movable}
+use Rattle.table_merge.specs.Clauses.Answers.{shifts, moved_link, moved_place, moved_as, Movable}
 
 -- a number that stays where a test is 0, and moves elsewhere
 module _ (t x y : ℕ) where
@@ -28,54 +28,54 @@ module _ (t x y : ℕ) where
 
 -- the fields that a kind names, moved one by one
 module _ (records pool : ℕ) (r : Entry) where
-  pub object-moved : (a c e : ℕ) → a ≡ movedPlace pool r.a r.b → c ≡ movedPlace pool r.c r.d
-      → e ≡ movedLink records r.e
-      → recordOf (record { kind = r.kind; flag = r.flag; a = a; b = r.b; c = c; d = r.d; e = e })
-      ≡ movedAs (shifts records pool) object (recordOf r)
+  pub object-moved : (a c e : ℕ) → a ≡ moved_place pool r.a r.b → c ≡ moved_place pool r.c r.d
+      → e ≡ moved_link records r.e
+      → record_of (record { kind = r.kind; flag = r.flag; a = a; b = r.b; c = c; d = r.d; e = e })
+      ≡ moved_as (shifts records pool) object (record_of r)
   object-moved a c e p q t = rw (p, q, t)
 
-  pub attribute-moved : (a c d : ℕ) → a ≡ movedPlace pool r.a r.b → c ≡ movedLink records r.c
-      → d ≡ movedLink records r.d
-      → recordOf (record { kind = r.kind; flag = r.flag; a = a; b = r.b; c = c; d = d; e = r.e })
-      ≡ movedAs (shifts records pool) attribute (recordOf r)
+  pub attribute-moved : (a c d : ℕ) → a ≡ moved_place pool r.a r.b → c ≡ moved_link records r.c
+      → d ≡ moved_link records r.d
+      → record_of (record { kind = r.kind; flag = r.flag; a = a; b = r.b; c = c; d = d; e = r.e })
+      ≡ moved_as (shifts records pool) attribute (record_of r)
   attribute-moved a c d p q t = rw (p, q, t)
 
-  pub item-moved : (e : ℕ) → e ≡ movedLink records r.e
-      → recordOf (record { kind = r.kind; flag = r.flag; a = r.a; b = r.b; c = r.c; d = r.d; e = e })
-      ≡ movedAs (shifts records 0) (range integers) (recordOf r)
+  pub item-moved : (e : ℕ) → e ≡ moved_link records r.e
+      → record_of (record { kind = r.kind; flag = r.flag; a = r.a; b = r.b; c = r.c; d = r.d; e = e })
+      ≡ moved_as (shifts records 0) (range integers) (record_of r)
   item-moved e t = rw t
 
-  pub string-moved : (a e : ℕ) → a ≡ movedPlace pool r.a r.b → e ≡ movedLink records r.e
-      → recordOf (record { kind = r.kind; flag = r.flag; a = a; b = r.b; c = r.c; d = r.d; e = e })
-      ≡ movedAs (shifts records pool) text (recordOf r)
+  pub string-moved : (a e : ℕ) → a ≡ moved_place pool r.a r.b → e ≡ moved_link records r.e
+      → record_of (record { kind = r.kind; flag = r.flag; a = a; b = r.b; c = r.c; d = r.d; e = e })
+      ≡ moved_as (shifts records pool) text (record_of r)
   string-moved a e p t = rw (p, t)
 
 module _ (s : Shifts) (r : Entry) where
   -- the shape that is known
-  shape-movable : (x : Shape) → shape_of r.kind ≡ x → Movable s (shape_of r.kind) (recordOf r)
-      → Movable s x (recordOf r)
+  shape-movable : (x : Shape) → shape_of r.kind ≡ x → Movable s (shape_of r.kind) (record_of r)
+      → Movable s x (record_of r)
   shape-movable x e h = rw (← e) h
 
-  shape-moved : (x : Shape) (y : Record) → shape_of r.kind ≡ x → y ≡ movedAs s x (recordOf r)
-      → y ≡ moved s (recordOf r)
-  shape-moved x y e h = h ∙ ap (λ z. movedAs s z (recordOf r)) (sym e)
+  shape-moved : (x : Shape) (y : Record) → shape_of r.kind ≡ x → y ≡ moved_as s x (record_of r)
+      → y ≡ moved s (record_of r)
+  shape-moved x y e h = h ∙ ap (λ z. moved_as s z (record_of r)) (sym e)
 
   shape_at : (k : ℕ) (x : Shape) → r.kind ≡ k → shape_of k ≡ x → shape_of r.kind ≡ x
   shape_at k x e h = ap shape_of e ∙ h
 
-  pub object-movable : r.kind ≡ 1 → Movable s (shape_of r.kind) (recordOf r) → Movable s object (recordOf r)
+  pub object-movable : r.kind ≡ 1 → Movable s (shape_of r.kind) (record_of r) → Movable s object (record_of r)
   unfolding shape_of
   object-movable e h = shape-movable object (shape_at 1 object e refl) h
 
-  pub object-is : (y : Record) → r.kind ≡ 1 → y ≡ movedAs s object (recordOf r) → y ≡ moved s (recordOf r)
+  pub object-is : (y : Record) → r.kind ≡ 1 → y ≡ moved_as s object (record_of r) → y ≡ moved s (record_of r)
   unfolding shape_of
   object-is y e h = shape-moved object y (shape_at 1 object e refl) h
 
-  pub attribute-movable : r.kind ≡ 2 → Movable s (shape_of r.kind) (recordOf r) → Movable s attribute (recordOf r)
+  pub attribute-movable : r.kind ≡ 2 → Movable s (shape_of r.kind) (record_of r) → Movable s attribute (record_of r)
   unfolding shape_of
   attribute-movable e h = shape-movable attribute (shape_at 2 attribute e refl) h
 
-  pub attribute-is : (y : Record) → r.kind ≡ 2 → y ≡ movedAs s attribute (recordOf r) → y ≡ moved s (recordOf r)
+  pub attribute-is : (y : Record) → r.kind ≡ 2 → y ≡ moved_as s attribute (record_of r) → y ≡ moved s (record_of r)
   unfolding shape_of
   attribute-is y e h = shape-moved attribute y (shape_at 2 attribute e refl) h
 
@@ -84,61 +84,61 @@ module _ (s : Shifts) (r : Entry) where
   unfolding shape_of
   text-shape h h4 l = shape_at 5 text (omega arith) refl
 
-  pub text-movable : 4 ≤ r.kind → (r.kind ≡ 4 → ⊥) → r.kind < 6 → Movable s (shape_of r.kind) (recordOf r)
-      → Movable s text (recordOf r)
+  pub text-movable : 4 ≤ r.kind → (r.kind ≡ 4 → ⊥) → r.kind < 6 → Movable s (shape_of r.kind) (record_of r)
+      → Movable s text (record_of r)
   text-movable h h4 l m = shape-movable text (text-shape h h4 l) m
 
-  pub text-is : (y : Record) → 4 ≤ r.kind → (r.kind ≡ 4 → ⊥) → r.kind < 6 → y ≡ movedAs s text (recordOf r)
-      → y ≡ moved s (recordOf r)
+  pub text-is : (y : Record) → 4 ≤ r.kind → (r.kind ≡ 4 → ⊥) → r.kind < 6 → y ≡ moved_as s text (record_of r)
+      → y ≡ moved s (record_of r)
   text-is y h h4 l q = shape-moved text y (text-shape h h4 l) q
 
   -- a kind that names no field
-  none_moves : (x : Shape) → namesNone x ≡ true → recordOf r ≡ movedAs s x (recordOf r)
-  none_moves tableHeader h = refl
+  none_moves : (x : Shape) → names_none x ≡ true → record_of r ≡ moved_as s x (record_of r)
+  none_moves table_header h = refl
   none_moves object h = absurd (false≢true h)
   none_moves attribute h = absurd (false≢true h)
   none_moves text h = absurd (false≢true h)
   none_moves (single sort) h = refl
   none_moves (range sort) h = absurd (false≢true h)
 
-  still : plainKind r.kind ≡ true → recordOf r ≡ moved s (recordOf r)
+  still : plain_kind r.kind ≡ true → record_of r ≡ moved s (record_of r)
   still h = none_moves (shape_of r.kind) (plain-shape r.kind h)
 
-  still-at : (k : ℕ) → r.kind ≡ k → plainKind k ≡ true → recordOf r ≡ moved s (recordOf r)
-  still-at k e h = still (ap plainKind e ∙ h)
+  still-at : (k : ℕ) → r.kind ≡ k → plain_kind k ≡ true → record_of r ≡ moved s (record_of r)
+  still-at k e h = still (ap plain_kind e ∙ h)
 
-  pub none-still : r.kind ≡ 0 → recordOf r ≡ moved s (recordOf r)
+  pub none-still : r.kind ≡ 0 → record_of r ≡ moved s (record_of r)
   none-still e = still-at 0 e refl
 
   pub boolean-still : (r.kind ≡ 0 → ⊥) → (r.kind ≡ 1 → ⊥) → (r.kind ≡ 2 → ⊥) → r.kind < 4
-      → recordOf r ≡ moved s (recordOf r)
+      → record_of r ≡ moved s (record_of r)
   boolean-still h0 h1 h2 l = still-at 3 (omega arith) refl
 
-  pub pattern-still : 6 ≤ r.kind → r.kind < 7 → recordOf r ≡ moved s (recordOf r)
+  pub pattern-still : 6 ≤ r.kind → r.kind < 7 → record_of r ≡ moved s (record_of r)
   pattern-still h l = still-at 6 (omega arith) refl
 
-  pub rest-still : 7 ≤ r.kind → (r.kind ≡ 7 → ⊥) → recordOf r ≡ moved s (recordOf r)
+  pub rest-still : 7 ≤ r.kind → (r.kind ≡ 7 → ⊥) → record_of r ≡ moved s (record_of r)
   rest-still h h7 = still (rw (le-leb 8 r.kind (omega arith)) (or-true (eqb r.kind 0 || eqb r.kind 3 || eqb r.kind 6)))
 
 -- integers and date intervals move alike: by their link alone
 module _ (records pool : ℕ) (r : Entry) where
-  pub integer-movable : r.kind ≡ 4 → Movable (shifts records pool) (shape_of r.kind) (recordOf r)
-      → Movable (shifts records 0) (range integers) (recordOf r)
+  pub integer-movable : r.kind ≡ 4 → Movable (shifts records pool) (shape_of r.kind) (record_of r)
+      → Movable (shifts records 0) (range integers) (record_of r)
   unfolding shape_of
   integer-movable e h = let g = shape-movable (shifts records pool) r (range integers) (shape_at (shifts records pool) r 4 (range integers) e refl) h in record { fits = g.fits }
 
-  pub date-movable : r.kind ≡ 7 → Movable (shifts records pool) (shape_of r.kind) (recordOf r)
-      → Movable (shifts records 0) (range integers) (recordOf r)
+  pub date-movable : r.kind ≡ 7 → Movable (shifts records pool) (shape_of r.kind) (record_of r)
+      → Movable (shifts records 0) (range integers) (record_of r)
   unfolding shape_of
   date-movable e h = let g = shape-movable (shifts records pool) r (range dates) (shape_at (shifts records pool) r 7 (range dates) e refl) h in record { fits = g.fits }
 
-  pub integer-is : (x : Record) → r.kind ≡ 4 → x ≡ movedAs (shifts records 0) (range integers) (recordOf r)
-      → x ≡ moved (shifts records pool) (recordOf r)
+  pub integer-is : (x : Record) → r.kind ≡ 4 → x ≡ moved_as (shifts records 0) (range integers) (record_of r)
+      → x ≡ moved (shifts records pool) (record_of r)
   unfolding shape_of
   integer-is x e h = shape-moved (shifts records pool) r (range integers) x (shape_at (shifts records pool) r 4 (range integers) e refl) h
 
-  pub date-is : (x : Record) → r.kind ≡ 7 → x ≡ movedAs (shifts records 0) (range integers) (recordOf r)
-      → x ≡ moved (shifts records pool) (recordOf r)
+  pub date-is : (x : Record) → r.kind ≡ 7 → x ≡ moved_as (shifts records 0) (range integers) (record_of r)
+      → x ≡ moved (shifts records pool) (record_of r)
   unfolding shape_of
   date-is x e h = shape-moved (shifts records pool) r (range dates) x (shape_at (shifts records pool) r 7 (range dates) e refl) h
 

@@ -7,23 +7,23 @@ use native.Mathlib.Omega.{arith}
 use lib.ListN.{get_or, take, drop, length-drop, take-append-drop}
 use lib.Seq.{get_or-drop, take-add, ext_get_or}
 use Rattle.values.proofs.Common.{by_order}
-use Rattle.table.specs.Records.{Record, recordSize, encode, make}
+use Rattle.table.specs.Records.{Record, record_size, encode, make}
 use Rattle.table.specs.TableRules.{Holds}
 use Rattle.table.proofs.HoldsLaws.{byte-is, byte-there}
 use Rattle.table.proofs.HeldLaws.{held-is}
 use Rattle.table_merge.specs.Joining.{moved}
-use Rattle.table_merge.specs.contracts.Answers.{shifts}
-use Rattle.table_merge.specs.MergeRules.{Sizes, count_of, poolOf, BothTables, IsMerged}
+use Rattle.table_merge.specs.Clauses.Answers.{shifts}
+use Rattle.table_merge.specs.MergeRules.{Sizes, count_of, pool_of, BothTables, IsMerged}
 use Rattle.table_merge.proofs.MoveRuleLaws.{moves-is, record-held}
 
 -- records that are the same one by one are the same together
 same-front : (c : ℕ) (a b : List ℕ)
-    → ((n : ℕ) → n < c → take recordSize (drop (recordSize * n) a) ≡ take recordSize (drop (recordSize * n) b))
-    → take (recordSize * c) a ≡ take (recordSize * c) b
+    → ((n : ℕ) → n < c → take record_size (drop (record_size * n) a) ≡ take record_size (drop (record_size * n) b))
+    → take (record_size * c) a ≡ take (record_size * c) b
 same-front zero a b f = refl
 same-front (suc c) a b f =
-    let e : recordSize * suc c ≡ recordSize * c + recordSize = omega arith in
-    rw (e, take-add (recordSize * c) recordSize a, take-add (recordSize * c) recordSize b)
+    let e : record_size * suc c ≡ record_size * c + record_size = omega arith in
+    rw (e, take-add (record_size * c) record_size a, take-add (record_size * c) record_size b)
     (ap₂ ◌++◌ (same-front c a b (λ n l. f n (omega arith))) (f c (omega arith)))
 
 module _ (first second : List ℕ) (little : Bool) (z : Sizes) (t : BothTables first second z) where
@@ -42,7 +42,7 @@ module _ (first second : List ℕ) (little : Bool) (z : Sizes) (t : BothTables f
       (moved (shifts (z.count₁ - 1) z.pool₁) g.this, λ a m. let v = m.moved n g.order g.this low below g.holds in rw (moves-is v.1) at v.2)
 
   record-fixed : (n : ℕ) → n < count_of z → Fixed n
-  record-fixed zero l = (make 0 0 (count_of z ∷ poolOf z ∷ z.root₁ ∷ []), λ a m. m.header)
+  record-fixed zero l = (make 0 0 (count_of z ∷ pool_of z ∷ z.root₁ ∷ []), λ a m. m.header)
   record-fixed (suc n) l =
       let some = t.first.frame.least in
       let s = z.count₁ - 1 in
@@ -51,8 +51,8 @@ module _ (first second : List ℕ) (little : Bool) (z : Sizes) (t : BothTables f
       (kept_fixed (suc n) (omega arith))
 
   -- so is a byte of the pool
-  byte-fixed : (k : ℕ) → k < poolOf z
-      → (b : ℕ) × ((a : List ℕ) → IsMerged first second little z a → get_or a (recordSize * count_of z + k) 0 ≡ b)
+  byte-fixed : (k : ℕ) → k < pool_of z
+      → (b : ℕ) × ((a : List ℕ) → IsMerged first second little z a → get_or a (record_size * count_of z + k) 0 ≡ b)
   byte-fixed k l =
       let e = t.first.frame.sized in
       let g = t.second.frame.sized in
@@ -60,25 +60,25 @@ module _ (first second : List ℕ) (little : Bool) (z : Sizes) (t : BothTables f
       by_order p k
       (λ behind.
       let i : p + (k - p) ≡ k = omega arith in
-      let place = recordSize * z.count₂ + (k - p) in
-      (get_or second place 0, λ a m. byte-is a (recordSize * count_of z + k) _ (rw i at (m.secondPool (k - p) _ (omega arith) (byte-there second place (omega arith))))))
+      let place = record_size * z.count₂ + (k - p) in
+      (get_or second place 0, λ a m. byte-is a (record_size * count_of z + k) _ (rw i at (m.second_pool (k - p) _ (omega arith) (byte-there second place (omega arith))))))
       (λ below.
-      let place = recordSize * z.count₁ + k in
-      (get_or first place 0, λ a m. byte-is a (recordSize * count_of z + k) _ (m.firstPool k _ below (byte-there first place (omega arith)))))
+      let place = record_size * z.count₁ + k in
+      (get_or first place 0, λ a m. byte-is a (record_size * count_of z + k) _ (m.first_pool k _ below (byte-there first place (omega arith)))))
 
   -- and the bytes of a record
   part-fixed : (a : List ℕ) → IsMerged first second little z a → (n : ℕ) (r : Record) → n < count_of z
       → Holds a n little r
-      → take recordSize (drop (recordSize * n) a) ≡ encode little r
+      → take record_size (drop (record_size * n) a) ≡ encode little r
   part-fixed a m n r l h =
       let e = m.sized in
-      held-is a n little r h (λ k i. m.bytes (recordSize * n + k) _ (byte-there a (recordSize * n + k) (omega arith)) (omega arith))
+      held-is a n little r h (λ k i. m.bytes (record_size * n + k) _ (byte-there a (record_size * n + k) (omega arith)) (omega arith))
 
 -- one table is written by the rules, and no other
 pub one-joined : (first second : List ℕ) (little : Bool) (z : Sizes) (a b : List ℕ) → BothTables first second z
     → IsMerged first second little z a → IsMerged first second little z b → a ≡ b
 one-joined first second little z a b t m o =
-    let c = recordSize * count_of z in
+    let c = record_size * count_of z in
     let part = part-fixed first second little z t in
     let front : take c a ≡ take c b =
     same-front (count_of z) a b (λ n l. let r = record-fixed first second little z t n l in part a m n r.0 l (r.1 a m) ∙ sym (part b o n r.0 l (r.1 b o))) in
@@ -87,7 +87,7 @@ one-joined first second little z a b t m o =
     let back : drop c a ≡ drop c b =
     ext_get_or 0 (drop c a) (drop c b) (rw (length-drop c a, length-drop c b) (omega arith))
     (λ k l.
-    let i : k < poolOf z = omega (arith, length-drop c a) in
+    let i : k < pool_of z = omega (arith, length-drop c a) in
     let x = byte-fixed first second little z t k i in
     get_or-drop c a k 0 ∙ x.1 a m ∙ sym (get_or-drop c b k 0 ∙ x.1 b o)) in
     sym (take-append-drop c a) ∙ ap₂ ◌++◌ front back ∙ take-append-drop c b

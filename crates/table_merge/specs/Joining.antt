@@ -4,7 +4,7 @@ use Rattle.std.specs.Prelude.{cond, List, [], ◌∷◌, ◌++◌, map, ℕ, ◌
 use Rattle.std.proofs.Math.ListN
 use Rattle.table.specs.Records.{Record, Image}
 use Rattle.table.specs.Rows.{Use, unnamed, place, length, link, low, high}
-use Rattle.table.specs.Check.{usesOf}
+use Rattle.table.specs.Check.{uses_of}
 
 -- how far a merge moves the second table: its records' numbers, and its names' places
 pub record Shifts : Type 0 where
@@ -12,26 +12,26 @@ pub record Shifts : Type 0 where
   pub pool : ℕ
 
 -- the field x, before the field next, moved
-abbrev pub movedField : Shifts → Use → ℕ → ℕ → ℕ
-movedField s unnamed x next = x
-movedField s (place least most) x next = cond (eqb next 0) x (s.pool + x)
-movedField s length x next = x
-movedField s (link ks) x next = cond (eqb x 0) 0 (s.records + x)
-movedField s (low sort) x next = x
-movedField s high x next = x
+abbrev pub moved_field : Shifts → Use → ℕ → ℕ → ℕ
+moved_field s unnamed x next = x
+moved_field s (place least most) x next = cond (eqb next 0) x (s.pool + x)
+moved_field s length x next = x
+moved_field s (link ks) x next = cond (eqb x 0) 0 (s.records + x)
+moved_field s (low sort) x next = x
+moved_field s high x next = x
 
-abbrev pub movedFields : Shifts → List Use → List ℕ → List ℕ
-movedFields s [] xs = xs
-movedFields s (u ∷ us) [] = []
-movedFields s (u ∷ us) (x ∷ xs) = movedField s u x (get_or xs 0 0) ∷ movedFields s us xs
+abbrev pub moved_fields : Shifts → List Use → List ℕ → List ℕ
+moved_fields s [] xs = xs
+moved_fields s (u ∷ us) [] = []
+moved_fields s (u ∷ us) (x ∷ xs) = moved_field s u x (get_or xs 0 0) ∷ moved_fields s us xs
 
 abbrev pub moved : Shifts → Record → Record
-moved s r = record { kind = r.kind; flag = r.flag; fields = movedFields s (usesOf r) r.fields }
+moved s r = record { kind = r.kind; flag = r.flag; fields = moved_fields s (uses_of r) r.fields }
 
 -- the first table's count less one, and its pool's bytes
-abbrev pub shiftsBy : Image → Shifts
-shiftsBy x = record { records = ListN.length x.records; pool = ListN.length x.pool }
+abbrev pub shifts_by : Image → Shifts
+shifts_by x = record { records = ListN.length x.records; pool = ListN.length x.pool }
 
 unfoldable pub merged : Image → Image → Image
 merged x y =
-    record { root = x.root; pool = x.pool ++ y.pool; records = x.records ++ map (moved (shiftsBy x)) y.records }
+    record { root = x.root; pool = x.pool ++ y.pool; records = x.records ++ map (moved (shifts_by x)) y.records }

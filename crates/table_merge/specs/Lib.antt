@@ -2,4 +2,4 @@ pub mod Joining
 pub mod Merge
 pub mod Lists
 pub mod MergeRules
-pub mod contracts
+pub mod Clauses

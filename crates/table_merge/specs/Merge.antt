@@ -3,15 +3,15 @@
 -- reported". Assumes nothing.
 use Rattle.std.specs.Prelude.{Bool, List, ℕ, ◌+◌, ltb, length}
 use Rattle.std.proofs.Math.Option.{map}
-use Rattle.refusals.specs.Limits.{recordLimit, poolLimit}
+use Rattle.refusals.specs.Limits.{record_limit, pool_limit}
 use Rattle.refusals.specs.Refusals.{refusal}
-use Rattle.refusals.specs.Outcomes.{Outcome, orFault, unless, Written, writes, fitting, Answered, write}
+use Rattle.refusals.specs.Outcomes.{Outcome, or_fault, unless, Written, writes, fitting, Answered, write}
 use Rattle.refusals.specs.declared.Refusal.{Refusal}
 use Rattle.refusals.specs.declared.Cause.{Cause}
 use Rattle.refusals.specs.declared.Cause.TheVariants.{TooManyRecords, PoolTooLarge}
 use Rattle.table.specs.Records.{Image, count, image_of, bytes_of}
-use Rattle.table.specs.Check.{tableFault}
-use Rattle.table_merge.specs.Joining.{Shifts, shiftsBy, merged}
+use Rattle.table.specs.Check.{table_fault}
+use Rattle.table_merge.specs.Joining.{Shifts, shifts_by, merged}
 
 -- what is asked: two tables, and the order, whether the lowest byte comes first
 pub record MergeRequest : Type 0 where
@@ -35,26 +35,26 @@ pub record MergeRefusal : Type 0 where
   pub table : ℕ
   pub why : Refusal
 
-abbrev pub ofTable : ℕ → Refusal → MergeRefusal
-ofTable table why = record { table = table; why = why }
+abbrev pub of_table : ℕ → Refusal → MergeRefusal
+of_table table why = record { table = table; why = why }
 
 -- a refusal that is neither table's own
 abbrev pub neither : Cause → ℕ → MergeRefusal
-neither cause place = ofTable 0 (refusal cause place)
+neither cause place = of_table 0 (refusal cause place)
 
 -- two tables that pass the check, for an output of so many bytes
 unfoldable pub join : Image → Image → Bool → (room : ℕ) → Outcome MergeRefusal (Written MergeReport)
 join x y little room =
     let bs = bytes_of little (merged x y) in
-    unless (ltb recordLimit (length x.records + count y)) (neither TooManyRecords 0)
-    (unless (ltb poolLimit (length x.pool + length y.pool)) (neither PoolTooLarge 0)
-    (fitting neither (length bs) room (writes bs (report (length bs) (shiftsBy x)))))
+    unless (ltb record_limit (length x.records + count y)) (neither TooManyRecords 0)
+    (unless (ltb pool_limit (length x.pool + length y.pool)) (neither PoolTooLarge 0)
+    (fitting neither (length bs) room (writes bs (report (length bs) (shifts_by x)))))
 
-abbrev pub mergeOutcome : MergeRequest → (room : ℕ) → Outcome MergeRefusal (Written MergeReport)
-mergeOutcome q room =
-    orFault (map (ofTable 1) (tableFault q.first))
-    (orFault (map (ofTable 2) (tableFault q.second))
+abbrev pub merge_outcome : MergeRequest → (room : ℕ) → Outcome MergeRefusal (Written MergeReport)
+merge_outcome q room =
+    or_fault (map (of_table 1) (table_fault q.first))
+    (or_fault (map (of_table 2) (table_fault q.second))
     (join (image_of q.first) (image_of q.second) q.little room))
 
-unfoldable pub mergeAnswer : MergeRequest → List ℕ → Answered MergeRefusal MergeReport
-mergeAnswer q out = write (mergeOutcome q (length out)) out
+unfoldable pub merge_answer : MergeRequest → List ℕ → Answered MergeRefusal MergeReport
+merge_answer q out = write (merge_outcome q (length out)) out

@@ -1,9 +1,9 @@
 // Records and pools, copied from one table into another.
 ghost use Rattle.std.specs.Prelude.{◌≡◌, map, ◌+◌, ◌*◌, ◌-◌, ◌≤◌, drop};
 ghost use Rattle.std.proofs.lemmas.List.Edits.{sets};
-ghost use Rattle.table.specs.Records.{recordSize, encode, decodes, encodes, recordIn};
+ghost use Rattle.table.specs.Records.{record_size, encode, decodes, encodes, record_in};
 ghost use Rattle.table_merge.specs.Joining.{moved};
-ghost use Rattle.table_merge.specs.contracts.Answers.{shifts, Copying};
+ghost use Rattle.table_merge.specs.Clauses.Answers.{shifts, Copying};
 
 use crate::moving::moved_record;
 use table::records::{PoolShift, RecordNumber, RecordShift, read};
@@ -21,8 +21,8 @@ fn copy_record(
     requires le_n { 1 ≤ n.0 }
     requires copying { Copying table.now (n.0 + 1) (shifts records.0 pool.0) out.old }
     ensures { out.new
-        ≡ sets out.old (recordSize * (records.0 + n.0))
-        (encode little (moved (shifts records.0 pool.0) (recordIn table.now n.0))) }
+        ≡ sets out.old (record_size * (records.0 + n.0))
+        (encode little (moved (shifts records.0 pool.0) (record_in table.now n.0))) }
 {
     let r = moved_record(read(table, n.start()), records, pool);
     put_record(out, n.moved(records).start(), little, r);
@@ -39,9 +39,9 @@ pub fn copy_records(
 )
     requires { Copying table.now count (shifts records.0 pool.0) out.old }
     ensures { out.new
-        ≡ sets out.old (recordSize * (records.0 + 1))
+        ≡ sets out.old (record_size * (records.0 + 1))
         (encodes little
-        (map (moved (shifts records.0 pool.0)) (decodes (count - 1) (drop recordSize table.now)))) }
+        (map (moved (shifts records.0 pool.0)) (decodes (count - 1) (drop record_size table.now)))) }
 {
     let mut n: u32 = 1;
     while n < count {

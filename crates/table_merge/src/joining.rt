@@ -2,11 +2,11 @@
 ghost use Rattle.std.specs.Prelude.{◌≡◌, ◌++◌, ◌+◌, ◌*◌, ◌-◌, ◌≤◌, length};
 ghost use Rattle.std.proofs.Math.Option.{none};
 ghost use Rattle.std.proofs.lemmas.List.Edits.{sets};
-ghost use Rattle.table.specs.Records.{recordSize, encode, encodes, header, headerOf, field, image_of, bytes_of};
-ghost use Rattle.table.specs.Check.{tableFault};
-ghost use Rattle.table.specs.contracts.Answers.{Opened};
+ghost use Rattle.table.specs.Records.{record_size, encode, encodes, header, header_of, field, image_of, bytes_of};
+ghost use Rattle.table.specs.Check.{table_fault};
+ghost use Rattle.table.specs.Clauses.Answers.{Opened};
 ghost use Rattle.table_merge.specs.Joining.{merged};
-ghost use Rattle.table_merge.specs.contracts.Answers.{headerWith, Joinable, joinedLength};
+ghost use Rattle.table_merge.specs.Clauses.Answers.{header_with, Joinable, joined_length};
 
 use crate::copying::copy_records;
 use table::copying::copy_bytes;
@@ -16,7 +16,7 @@ use table::writing::put_record;
 
 // The counts of a table that passes the check.
 pub fn open_table(table: &[u8]) -> Frame
-    requires { tableFault table.now ≡ none }
+    requires { table_fault table.now ≡ none }
     ensures { Opened table.now result }
 {
     frame_of(table)
@@ -24,9 +24,9 @@ pub fn open_table(table: &[u8]) -> Frame
 
 // The header, with the first table's root.
 fn write_header(first: &[u8], count: u32, pool: u32, little: bool, out: &mut [u8])
-    requires { (recordSize ≤ length first.now) × (recordSize ≤ length out.old) }
+    requires { (record_size ≤ length first.now) × (record_size ≤ length out.old) }
     ensures { out.new
-        ≡ sets out.old 0 (encode little (headerWith count pool (field (header first.now) 2))) }
+        ≡ sets out.old 0 (encode little (header_with count pool (field (header first.now) 2))) }
 {
     let h = read(first, 0);
     let mut merged = plain(HEADER_KIND, 0);
@@ -39,10 +39,10 @@ fn write_header(first: &[u8], count: u32, pool: u32, little: bool, out: &mut [u8
 // The header and the records: the first table's as they are, the second's moved.
 fn write_records(first: &[u8], second: &[u8], x: Frame, y: Frame, little: bool, out: &mut [u8])
     requires joinable { Joinable first.now second.now x y }
-    requires y_in_bounds { joinedLength x y ≤ length out.old }
+    requires y_in_bounds { joined_length x y ≤ length out.old }
     ensures { out.new
         ≡ sets out.old 0
-        (encode little (headerOf (merged (image_of first.now) (image_of second.now)))
+        (encode little (header_of (merged (image_of first.now) (image_of second.now)))
         ++ encodes little (merged (image_of first.now) (image_of second.now)).records) }
 {
     let records = x.count - 1;
@@ -61,9 +61,9 @@ fn write_records(first: &[u8], second: &[u8], x: Frame, y: Frame, little: bool, 
 // The pools, one behind the other.
 fn write_pools(first: &[u8], second: &[u8], x: Frame, y: Frame, out: &mut [u8])
     requires joinable { Joinable first.now second.now x y }
-    requires y_in_bounds { joinedLength x y ≤ length out.old }
+    requires y_in_bounds { joined_length x y ≤ length out.old }
     ensures { out.new
-        ≡ sets out.old (recordSize * (x.count - 1 + y.count))
+        ≡ sets out.old (record_size * (x.count - 1 + y.count))
         (merged (image_of first.now) (image_of second.now)).pool }
 {
     let count = x.count - 1 + y.count;
@@ -84,7 +84,7 @@ fn write_pools(first: &[u8], second: &[u8], x: Frame, y: Frame, out: &mut [u8])
 // The joined table.
 pub fn write_joined(first: &[u8], second: &[u8], x: Frame, y: Frame, little: bool, out: &mut [u8])
     requires joinable { Joinable first.now second.now x y }
-    requires y_in_bounds { joinedLength x y ≤ length out.old }
+    requires y_in_bounds { joined_length x y ≤ length out.old }
     ensures { out.new
         ≡ sets out.old 0
         (bytes_of little (merged (image_of first.now) (image_of second.now))) }

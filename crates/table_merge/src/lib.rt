@@ -7,9 +7,9 @@ ghost use Rattle.std.specs.Prelude.{◌≡◌, length};
 ghost use Rattle.std.proofs.Math.Option.{none};
 ghost use Rattle.refusals.specs.Outcomes.{refused, answered, write};
 ghost use Rattle.table.specs.Records.{image_of};
-ghost use Rattle.table.specs.Check.{tableFault};
-ghost use Rattle.table_merge.specs.Merge.{request, neither, join, mergeAnswer};
-ghost use Rattle.table_merge.specs.contracts.Answers.{answer_of};
+ghost use Rattle.table.specs.Check.{table_fault};
+ghost use Rattle.table_merge.specs.Merge.{request, neither, join, merge_answer};
+ghost use Rattle.table_merge.specs.Clauses.Answers.{answer_of};
 
 use crate::joining::{open_table, write_joined};
 use refusals::{Cause, Refusal};
@@ -43,8 +43,8 @@ fn refuse(cause: Cause, place: usize) -> MergeResult
 
 // Two tables that pass the check, joined where the sizes allow it.
 fn join_tables(first: &[u8], second: &[u8], little: bool, out: &mut [u8]) -> MergeResult
-    requires first_value { tableFault first.now ≡ none }
-    requires second_value { tableFault second.now ≡ none }
+    requires first_value { table_fault first.now ≡ none }
+    requires second_value { table_fault second.now ≡ none }
     ensures { answered (answer_of result) out.new
         ≡ write (join (image_of first.now) (image_of second.now) little (length out.old))
         out.old }
@@ -75,7 +75,7 @@ fn join_tables(first: &[u8], second: &[u8], little: bool, out: &mut [u8]) -> Mer
 // Two tables, merged into one whose numbers are in the order asked. The two may be the same bytes.
 pub fn merge(first: &[u8], second: &[u8], little: bool, out: &mut [u8]) -> MergeResult
     ensures { answered (answer_of result) out.new
-        ≡ mergeAnswer (request first.now second.now little) out.old }
+        ≡ merge_answer (request first.now second.now little) out.old }
 {
     match check(first) {
         CheckAnswer::Refused(refusal) => MergeResult::Refused { table: 1, refusal },

@@ -2,16 +2,16 @@
 ghost use Rattle.std.specs.Prelude.{◌≡◌, ◌<◌, ◌^◌};
 ghost use Rattle.meaning.specs.Constraints.{integers};
 ghost use Rattle.table.specs.Rows.{object, attribute, text, range, shape_of};
-ghost use Rattle.table.specs.contracts.Answers.{recordOf};
+ghost use Rattle.table.specs.Clauses.Answers.{record_of};
 ghost use Rattle.table_merge.specs.Joining.{moved};
-ghost use Rattle.table_merge.specs.contracts.Answers.{shifts, movedLink, movedPlace, movedAs, Movable};
+ghost use Rattle.table_merge.specs.Clauses.Answers.{shifts, moved_link, moved_place, moved_as, Movable};
 
 use table::records::{Entry, PoolPlace, PoolShift, RecordNumber, RecordShift};
 
 // A link, moved; 0 leads nowhere and stays.
 fn moved_link(link: RecordNumber, by: RecordShift) -> RecordNumber
-    requires { movedLink by.0 link.0 < 2 ^ 32 }
-    ensures { result.0 ≡ movedLink by.0 link.0 }
+    requires { moved_link by.0 link.0 < 2 ^ 32 }
+    ensures { result.0 ≡ moved_link by.0 link.0 }
 {
     if link.0 == 0 {
         return link;
@@ -21,8 +21,8 @@ fn moved_link(link: RecordNumber, by: RecordShift) -> RecordNumber
 
 // A place of so many bytes, moved; a place of none stays.
 fn moved_place(place: PoolPlace, length: u32, by: PoolShift) -> PoolPlace
-    requires { movedPlace by.0 place.0 length < 2 ^ 32 }
-    ensures { result.0 ≡ movedPlace by.0 place.0 length }
+    requires { moved_place by.0 place.0 length < 2 ^ 32 }
+    ensures { result.0 ≡ moved_place by.0 place.0 length }
 {
     if length == 0 {
         return place;
@@ -32,8 +32,8 @@ fn moved_place(place: PoolPlace, length: u32, by: PoolShift) -> PoolPlace
 
 // An object, moved: type, code and first attribute.
 fn moved_object(r: Entry, records: RecordShift, pool: PoolShift) -> Entry
-    requires { Movable (shifts records.0 pool.0) object (recordOf r) }
-    ensures { recordOf result ≡ movedAs (shifts records.0 pool.0) object (recordOf r) }
+    requires { Movable (shifts records.0 pool.0) object (record_of r) }
+    ensures { record_of result ≡ moved_as (shifts records.0 pool.0) object (record_of r) }
 {
     let name = moved_place(PoolPlace(r.a), r.b, pool);
     let code = moved_place(PoolPlace(r.c), r.d, pool);
@@ -47,8 +47,8 @@ fn moved_object(r: Entry, records: RecordShift, pool: PoolShift) -> Entry
 
 // An attribute, moved: name, value and next attribute.
 fn moved_attribute(r: Entry, records: RecordShift, pool: PoolShift) -> Entry
-    requires { Movable (shifts records.0 pool.0) attribute (recordOf r) }
-    ensures { recordOf result ≡ movedAs (shifts records.0 pool.0) attribute (recordOf r) }
+    requires { Movable (shifts records.0 pool.0) attribute (record_of r) }
+    ensures { record_of result ≡ moved_as (shifts records.0 pool.0) attribute (record_of r) }
 {
     let name = moved_place(PoolPlace(r.a), r.b, pool);
     let value = moved_link(RecordNumber(r.c), records);
@@ -62,8 +62,8 @@ fn moved_attribute(r: Entry, records: RecordShift, pool: PoolShift) -> Entry
 
 // An item of numbers, moved: the next item.
 fn moved_item(r: Entry, records: RecordShift) -> Entry
-    requires { Movable (shifts records.0 0) (range integers) (recordOf r) }
-    ensures { recordOf result ≡ movedAs (shifts records.0 0) (range integers) (recordOf r) }
+    requires { Movable (shifts records.0 0) (range integers) (record_of r) }
+    ensures { record_of result ≡ moved_as (shifts records.0 0) (range integers) (record_of r) }
 {
     let next = moved_link(RecordNumber(r.e), records);
     let mut moved = r;
@@ -73,8 +73,8 @@ fn moved_item(r: Entry, records: RecordShift) -> Entry
 
 // A string, moved: its bytes and the next item.
 fn moved_string(r: Entry, records: RecordShift, pool: PoolShift) -> Entry
-    requires { Movable (shifts records.0 pool.0) text (recordOf r) }
-    ensures { recordOf result ≡ movedAs (shifts records.0 pool.0) text (recordOf r) }
+    requires { Movable (shifts records.0 pool.0) text (record_of r) }
+    ensures { record_of result ≡ moved_as (shifts records.0 pool.0) text (record_of r) }
 {
     let text = moved_place(PoolPlace(r.a), r.b, pool);
     let next = moved_link(RecordNumber(r.e), records);
@@ -86,8 +86,8 @@ fn moved_string(r: Entry, records: RecordShift, pool: PoolShift) -> Entry
 
 // A record, moved, by what its kind's fields are. The kinds are told apart three at a time, so that this compiles to comparisons.
 pub fn moved_record(r: Entry, records: RecordShift, pool: PoolShift) -> Entry
-    requires { Movable (shifts records.0 pool.0) (shape_of r.kind) (recordOf r) }
-    ensures { recordOf result ≡ moved (shifts records.0 pool.0) (recordOf r) }
+    requires { Movable (shifts records.0 pool.0) (shape_of r.kind) (record_of r) }
+    ensures { record_of result ≡ moved (shifts records.0 pool.0) (record_of r) }
 {
     let kind = r.kind;
     match kind {

@@ -7,7 +7,7 @@ use native.Mathlib.Omega.{arith}
 use lib.Dec.{eqb, leb}
 use lib.ListN.{get_or, get_or-eq_default}
 use borrow.Author.Tests.{lt-ltb, le-ltb, le-leb, lt-leb, eq-eqb, ne_eqb}
-use Rattle.values.specs.Calendar.{leap, months, monthDays, packed, real, dayAfter, dayBefore}
+use Rattle.values.specs.Calendar.{leap, months, month_days, packed, real, day_after, day_before}
 use Rattle.values.proofs.Common.{by_order}
 use Rattle.values.proofs.CalendarLaws.{month-long}
 
@@ -27,28 +27,28 @@ module _ (y : ℕ) where
 
 -- the days of a month
 module _ (y : ℕ) (r : Bool) (h : r ≡ leap y) where
-  pub february-leap : r ≡ true → 29 ≡ monthDays y 2
-  unfolding monthDays
+  pub february-leap : r ≡ true → 29 ≡ month_days y 2
+  unfolding month_days
   february-leap q = rw (← h, q)
 
-  pub february-common : r ≡ false → 28 ≡ monthDays y 2
-  unfolding monthDays
+  pub february-common : r ≡ false → 28 ≡ month_days y 2
+  unfolding month_days
   february-common q = rw (← h, q)
 
 module _ (y m : ℕ) where
-  pub month-none : 12 < m → 0 ≡ monthDays y m
-  unfolding monthDays
+  pub month-none : 12 < m → 0 ≡ month_days y m
+  unfolding month_days
   month-none h = rw (ne_eqb m 2 (omega arith), get_or-eq_default (0 ∷ months) 0 {n = m} (omega arith))
 
-  pub month-february : (r : ℕ) → r ≡ monthDays y 2 → m ≡ 2 → r ≡ monthDays y m
+  pub month-february : (r : ℕ) → r ≡ month_days y 2 → m ≡ 2 → r ≡ month_days y m
   month-february r h q = rw q h
 
-  pub month-other : (m ≡ 2 → ⊥) → get_or (0 ∷ months) m 0 ≡ monthDays y m
-  unfolding monthDays
+  pub month-other : (m ≡ 2 → ⊥) → get_or (0 ∷ months) m 0 ≡ month_days y m
+  unfolding month_days
   month-other h = rw (ne_eqb m 2 h)
 
 -- no month has more than 31 days
-month-most : (y m : ℕ) → monthDays y m ≤ 31
+month-most : (y m : ℕ) → month_days y m ≤ 31
 month-most y zero = let e = month-other y zero (λ q. omega arith) in omega arith
 month-most y (suc i) = by_order (suc i) 12 (λ l. (month-long y (suc i) (omega arith) l).1) (λ l. let e = month-none y (suc i) l in omega arith)
 
@@ -62,44 +62,44 @@ module _ (p : ℕ) where
   unfolding real
   real-zero l h = rw (le-leb p 99_991_231 l, lt-leb 1 (p % 100) h)
 
-  pub real-month : (n : ℕ) → n ≡ monthDays (p / 10_000) (p / 100 % 100) → p ≤ 99_991_231 → 1 ≤ p % 100
+  pub real-month : (n : ℕ) → n ≡ month_days (p / 10_000) (p / 100 % 100) → p ≤ 99_991_231 → 1 ≤ p % 100
       → leb (p % 100) n ≡ real p
   unfolding real
   real-month n e l h = rw (le-leb p 99_991_231 l, le-leb 1 (p % 100) h, e)
 
 -- the day after
-module _ (p n : ℕ) (e : n ≡ monthDays (p / 10_000) (p / 100 % 100)) where
-  pub after-day : p % 100 < n → p + 1 ≡ dayAfter p
-  unfolding dayAfter
+module _ (p n : ℕ) (e : n ≡ month_days (p / 10_000) (p / 100 % 100)) where
+  pub after-day : p % 100 < n → p + 1 ≡ day_after p
+  unfolding day_after
   after-day h = rw (← e, lt-ltb (p % 100) n h)
 
   module _ (r : ℕ) (l : n ≤ p % 100) where
-    pub after-month : p / 100 % 100 < 12 → r ≡ packed (p / 10_000) (p / 100 % 100 + 1) 1 → r ≡ dayAfter p
-    unfolding dayAfter
+    pub after-month : p / 100 % 100 < 12 → r ≡ packed (p / 10_000) (p / 100 % 100 + 1) 1 → r ≡ day_after p
+    unfolding day_after
     after-month h q = rw (← e, le-ltb (p % 100) n l, lt-ltb (p / 100 % 100) 12 h) q
 
-    pub after-year : 12 ≤ p / 100 % 100 → r ≡ packed (p / 10_000 + 1) 1 1 → r ≡ dayAfter p
-    unfolding dayAfter
+    pub after-year : 12 ≤ p / 100 % 100 → r ≡ packed (p / 10_000 + 1) 1 1 → r ≡ day_after p
+    unfolding day_after
     after-year h q = rw (← e, le-ltb (p % 100) n l, le-ltb (p / 100 % 100) 12 h) q
 
 -- the day before
 module _ (p : ℕ) where
-  pub before-day : 1 < p % 100 → p - 1 ≡ dayBefore p
-  unfolding dayBefore
+  pub before-day : 1 < p % 100 → p - 1 ≡ day_before p
+  unfolding day_before
   before-day h = rw (lt-ltb 1 (p % 100) h)
 
-  pub before-fits : (n : ℕ) → n ≡ monthDays (p / 10_000) (p / 100 % 100 - 1) → p < 2 ^ 32 → 1 < p / 100 % 100
+  pub before-fits : (n : ℕ) → n ≡ month_days (p / 10_000) (p / 100 % 100 - 1) → p < 2 ^ 32 → 1 < p / 100 % 100
       → packed (p / 10_000) (p / 100 % 100 - 1) n < 2 ^ 32
   before-fits n e f h = let k = month-most (p / 10_000) (p / 100 % 100 - 1) in omega arith
 
   module _ (r : ℕ) (l : p % 100 ≤ 1) where
-    pub before-month : (n : ℕ) → n ≡ monthDays (p / 10_000) (p / 100 % 100 - 1) → 1 < p / 100 % 100
-        → r ≡ packed (p / 10_000) (p / 100 % 100 - 1) n → r ≡ dayBefore p
-    unfolding dayBefore
+    pub before-month : (n : ℕ) → n ≡ month_days (p / 10_000) (p / 100 % 100 - 1) → 1 < p / 100 % 100
+        → r ≡ packed (p / 10_000) (p / 100 % 100 - 1) n → r ≡ day_before p
+    unfolding day_before
     before-month n e h q = rw (le-ltb 1 (p % 100) l, lt-ltb 1 (p / 100 % 100) h, ← e) q
 
-    pub before-year : p / 100 % 100 ≤ 1 → r ≡ packed (p / 10_000 - 1) 12 31 → r ≡ dayBefore p
-    unfolding dayBefore
+    pub before-year : p / 100 % 100 ≤ 1 → r ≡ packed (p / 10_000 - 1) 12 31 → r ≡ day_before p
+    unfolding day_before
     before-year h q = rw (le-ltb 1 (p % 100) l, le-ltb 1 (p / 100 % 100) h) q
 
 pub ruleset steps = (

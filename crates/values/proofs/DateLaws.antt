@@ -9,13 +9,13 @@ use lib.ListN.{length}
 use Rattle.lexis.specs.Text.{byte, bytes}
 use Rattle.lexis.specs.Bytes.{is, digit}
 use Rattle.lexis.specs.Runs.{shaped}
-use Rattle.lexis.specs.Spelling.{dateShape}
+use Rattle.lexis.specs.Spelling.{date_shape}
 use Rattle.lexis.proofs.Cases.{by_cond, either}
 use Rattle.values.specs.Integers.{value_of}
-use Rattle.values.specs.Calendar.{real, packed, yearOf, monthOf, dayOf}
-use Rattle.values.specs.Dates.{Date, exactly, digitsAt, realDate, dateOf}
+use Rattle.values.specs.Calendar.{real, packed, year_of, month_of, day_of}
+use Rattle.values.specs.Dates.{Date, exactly, digits_at, real_date, date_of}
 use Rattle.values.proofs.Common.{Each, none_each, some-each}
-use Rattle.values.proofs.IntegerLaws.{digitByte, digit-is}
+use Rattle.values.proofs.IntegerLaws.{digit_byte, digit-is}
 use Rattle.values.proofs.CalendarLaws.{real-last}
 
 -- a date that is read is real, with one part to three
@@ -24,14 +24,14 @@ pub record Good (d : Date) : Type 0 where
   pub some-part : 1 ≤ d.parts
   pub three-parts : d.parts ≤ 3
 
-real-good : (parts day : ℕ) → 1 ≤ parts → parts ≤ 3 → Each Good (realDate parts day)
+real-good : (parts day : ℕ) → 1 ≤ parts → parts ≤ 3 → Each Good (real_date parts day)
 real-good parts day l h =
     by_cond (Each Good) (real day)
     (λ t. some-each Good _ (record { is_real = t; some-part = l; three-parts = h }))
     (λ t. none_each _)
 
-pub date-good : (w : List ℕ) (d : Date) → dateOf w ≡ some d → Good d
-unfolding dateOf
+pub date-good : (w : List ℕ) (d : Date) → date_of w ≡ some d → Good d
+unfolding date_of
 date-good w =
     let P = Each Good in
     either P (exactly (bytes "dddd") w) (real-good 1 _ (omega arith) (omega arith))
@@ -39,32 +39,32 @@ date-good w =
     (either P (exactly (bytes "dddd-dd-dd") w) (real-good 3 _ (omega arith) (omega arith)) (none_each _)))
 
 -- the byte of the last digit of n is of the sort digit
-abbrev lastDigit : ℕ → ℕ
-lastDigit n = digitByte (n % 10)
+abbrev last_digit : ℕ → ℕ
+last_digit n = digit_byte (n % 10)
 
-last-digit : (n : ℕ) → is digit (lastDigit n) ≡ true
+last-digit : (n : ℕ) → is digit (last_digit n) ≡ true
 last-digit n = digit-is (n % 10) (omega arith)
 
 -- yyyy-mm-dd of a packed date
-unfoldable pub spellDate : ℕ → List ℕ
-spellDate p =
-    let y = yearOf p in let m = monthOf p in let d = dayOf p in
-    lastDigit (y / 1000) ∷ lastDigit (y / 100) ∷ lastDigit (y / 10) ∷ lastDigit y ∷ byte "-"
-    ∷ lastDigit (m / 10) ∷ lastDigit m ∷ byte "-"
-    ∷ lastDigit (d / 10) ∷ lastDigit d ∷ []
+unfoldable pub spell_date : ℕ → List ℕ
+spell_date p =
+    let y = year_of p in let m = month_of p in let d = day_of p in
+    last_digit (y / 1000) ∷ last_digit (y / 100) ∷ last_digit (y / 10) ∷ last_digit y ∷ byte "-"
+    ∷ last_digit (m / 10) ∷ last_digit m ∷ byte "-"
+    ∷ last_digit (d / 10) ∷ last_digit d ∷ []
 
 -- it has ten bytes, in the shape of a date
-pub date-length : (p : ℕ) → length (spellDate p) ≡ 10
-unfolding spellDate
+pub date-length : (p : ℕ) → length (spell_date p) ≡ 10
+unfolding spell_date
 date-length p = refl
 
-pub date-shaped : (p : ℕ) → shaped dateShape (spellDate p) ≡ true
-unfolding spellDate shaped
+pub date-shaped : (p : ℕ) → shaped date_shape (spell_date p) ≡ true
+unfolding spell_date shaped
 date-shaped p = simp last-digit
 
 -- four digits and two digits hold their number
 four-value : (n : ℕ) → n < 10_000
-    → value_of 0 (lastDigit (n / 1000) ∷ lastDigit (n / 100) ∷ lastDigit (n / 10) ∷ lastDigit n ∷ []) ≡ n
+    → value_of 0 (last_digit (n / 1000) ∷ last_digit (n / 100) ∷ last_digit (n / 10) ∷ last_digit n ∷ []) ≡ n
 unfolding value_of
 four-value n h =
     let a : n / 10 / 10 ≡ n / 100 = omega arith in
@@ -72,16 +72,16 @@ four-value n h =
     let c : n / 1000 % 10 ≡ n / 1000 = omega arith in
     omega arith
 
-two-value : (n : ℕ) → n < 100 → value_of 0 (lastDigit (n / 10) ∷ lastDigit n ∷ []) ≡ n
+two-value : (n : ℕ) → n < 100 → value_of 0 (last_digit (n / 10) ∷ last_digit n ∷ []) ≡ n
 unfolding value_of
 two-value n h = omega arith
 
 date-value : (p : ℕ) → p < 100_000_000
-    → packed (digitsAt 0 4 (spellDate p)) (digitsAt 5 2 (spellDate p)) (digitsAt 8 2 (spellDate p)) ≡ p
-unfolding spellDate
-date-value p h = rw (four-value (yearOf p) (omega arith), two-value (monthOf p) (omega arith), two-value (dayOf p) (omega arith)) (omega arith)
+    → packed (digits_at 0 4 (spell_date p)) (digits_at 5 2 (spell_date p)) (digits_at 8 2 (spell_date p)) ≡ p
+unfolding spell_date
+date-value p h = rw (four-value (year_of p) (omega arith), two-value (month_of p) (omega arith), two-value (day_of p) (omega arith)) (omega arith)
 
 -- a real day that is spelled reads back
-pub date-back : (p : ℕ) → real p ≡ true → dateOf (spellDate p) ≡ some (record { parts = 3; day = p })
-unfolding dateOf
+pub date-back : (p : ℕ) → real p ≡ true → date_of (spell_date p) ≡ some (record { parts = 3; day = p })
+unfolding date_of
 date-back p e = let l = real-last p e in rw (date-length p, date-shaped p, date-value p (omega arith), e)

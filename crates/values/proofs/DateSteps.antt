@@ -8,16 +8,16 @@ use native.Mathlib.Omega.{arith}
 use lib.ListN.{length}
 use Rattle.lexis.specs.Text.{bytes}
 use Rattle.values.specs.Calendar.{packed, real}
-use Rattle.values.specs.Dates.{Date, exactly, realDate, dateOf}
-use Rattle.values.specs.contracts.Answers.{DigitsAre, yearDate, monthDate, dayDate}
+use Rattle.values.specs.Dates.{Date, exactly, real_date, date_of}
+use Rattle.values.specs.Clauses.Answers.{DigitsAre, year_date, month_date, day_date}
 use Rattle.values.proofs.ShapeSteps.{exactly-long}
 
 -- a day that the calendar has
 module _ (parts day : ℕ) (r : Bool) (h : r ≡ real day) where
-  pub real-is : r ≡ true → some (record { parts = parts; day = day }) ≡ realDate parts day
+  pub real-is : r ≡ true → some (record { parts = parts; day = day }) ≡ real_date parts day
   real-is q = rw (← h, q)
 
-  pub real-not : r ≡ false → none ≡ realDate parts day
+  pub real-not : r ≡ false → none ≡ real_date parts day
   real-not q = rw (← h, q)
 
 -- bytes of a shape reach as far as it
@@ -27,35 +27,35 @@ exactly-reaches shape w r n h q l = let e = exactly-long shape w r h q in omega 
 
 -- a date's parts, packed
 module _ (w : List ℕ) (a : Option Date) (p y : ℕ) (year : DigitsAre w 0 4 400_000 y) where
-  pub year-read : p ≡ packed y 1 1 → a ≡ realDate 1 p → a ≡ yearDate w
+  pub year-read : p ≡ packed y 1 1 → a ≡ real_date 1 p → a ≡ year_date w
   year-read q h = rw (q, year.is) at h
 
   module _ (m : ℕ) (month : DigitsAre w 5 2 3_000 m) where
-    pub month-read : p ≡ packed y m 1 → a ≡ realDate 2 p → a ≡ monthDate w
+    pub month-read : p ≡ packed y m 1 → a ≡ real_date 2 p → a ≡ month_date w
     month-read q h = rw (q, year.is, month.is) at h
 
-    pub day-read : (d : ℕ) → DigitsAre w 8 2 3_000 d → p ≡ packed y m d → a ≡ realDate 3 p
-        → a ≡ dayDate w
+    pub day-read : (d : ℕ) → DigitsAre w 8 2 3_000 d → p ≡ packed y m d → a ≡ real_date 3 p
+        → a ≡ day_date w
     day-read d day q h = rw (q, year.is, month.is, day.is) at h
 
 -- a date by its shape
 module _ (w : List ℕ) (a : Option Date) (r : Bool) (h : r ≡ exactly (bytes "dddd") w) where
-  pub date-year : r ≡ true → a ≡ yearDate w → a ≡ dateOf w
-  unfolding dateOf
+  pub date-year : r ≡ true → a ≡ year_date w → a ≡ date_of w
+  unfolding date_of
   date-year q e = rw (← h, q) e
 
   module _ (n : r ≡ false) (s : Bool) (i : s ≡ exactly (bytes "dddd-dd") w) where
-    pub date-month : s ≡ true → a ≡ monthDate w → a ≡ dateOf w
-    unfolding dateOf
+    pub date-month : s ≡ true → a ≡ month_date w → a ≡ date_of w
+    unfolding date_of
     date-month q e = rw (← h, n, ← i, q) e
 
     module _ (m : s ≡ false) (t : Bool) (j : t ≡ exactly (bytes "dddd-dd-dd") w) where
-      pub date-day : t ≡ true → a ≡ dayDate w → a ≡ dateOf w
-      unfolding dateOf
+      pub date-day : t ≡ true → a ≡ day_date w → a ≡ date_of w
+      unfolding date_of
       date-day q e = rw (← h, n, ← i, m, ← j, q) e
 
-      pub date-none : t ≡ false → a ≡ none → a ≡ dateOf w
-      unfolding dateOf
+      pub date-none : t ≡ false → a ≡ none → a ≡ date_of w
+      unfolding date_of
       date-none q e = rw (← h, n, ← i, m, ← j, q) e
 
 pub ruleset steps = (

@@ -9,7 +9,7 @@ use lib.ListN.{length}
 use lib.Seq.{append_snoc}
 use borrow.Author.Tests.{eqb-true, leb-true}
 use Rattle.lexis.specs.Text.{byte}
-use Rattle.lexis.specs.Bytes.{is, digit, sortOf, among, within, blanks, marks}
+use Rattle.lexis.specs.Bytes.{is, digit, sort_of, among, within, blanks, marks}
 use Rattle.lexis.specs.Runs.{any_digit, shaped, all}
 use Rattle.lexis.proofs.Cases.{by_cond, either, and_left, and_right}
 use Rattle.values.specs.Integers.{value_of}
@@ -26,7 +26,7 @@ no-more (b ∷ w) e = absurd (omega arith)
 
 -- a digit is a byte from `0` to `9`
 pub digit-byte : (b : ℕ) → is digit b ≡ true → (byte "0" ≤ b) × (b ≤ byte "9")
-unfolding sortOf
+unfolding sort_of
 digit-byte b =
     let P : ℕ → Type 0 = λ n. eqb n digit ≡ true → (byte "0" ≤ b) × (b ≤ byte "9") in
     let never : eqb 0 digit ≡ true → (byte "0" ≤ b) × (b ≤ byte "9") = λ h. absurd (false-true h) in

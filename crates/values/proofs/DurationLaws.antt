@@ -8,14 +8,14 @@ use lib.Dec.{eqb}
 use borrow.Author.Tests.{eqb-true, eqb-false, eq-eqb}
 use Rattle.lexis.proofs.Cases.{and_left, and_right}
 use Rattle.lexis.proofs.TestLaws.{true-or-false, or_cases, or_left, or_right, and_both}
-use Rattle.values.specs.Patterns.{slotFits, slotsFit, fitsDuration}
-use Rattle.values.specs.WordRules.{HasBit, lowest, ofEven, ofOdd, SlotsWithin}
+use Rattle.values.specs.Patterns.{slot_fits, slots_fit, fits_duration}
+use Rattle.values.specs.WordRules.{HasBit, lowest, of_even, of_odd, SlotsWithin}
 
 -- the lowest bit is the remainder
 odd-of : {n b : ℕ} → HasBit n b → b ≡ 0 → n % 2 ≡ 1
 odd-of (lowest half) e = omega arith
-odd-of (ofEven h) e = absurd (omega arith)
-odd-of (ofOdd h) e = absurd (omega arith)
+odd-of (of_even h) e = absurd (omega arith)
+odd-of (of_odd h) e = absurd (omega arith)
 
 odd-by : (n : ℕ) → n % 2 ≡ 1 → HasBit n 0
 odd-by n e = let q : n / 2 * 2 + 1 ≡ n = omega arith in subst (λ (m : ℕ). HasBit m 0) q (lowest (n / 2))
@@ -23,11 +23,11 @@ odd-by n e = let q : n / 2 * 2 + 1 ≡ n = omega arith in subst (λ (m : ℕ). H
 -- each other bit is one of the half
 half_of : {n b : ℕ} → HasBit n b → (bit : ℕ) → b ≡ suc bit → HasBit (n / 2) bit
 half_of (lowest half) bit e = absurd (omega arith)
-half_of (ofEven {half = half} {bit = b} h) bit e =
+half_of (of_even {half = half} {bit = b} h) bit e =
     let q : half * 2 / 2 ≡ half = omega arith in
     let r : b ≡ bit = omega arith in
     rw (q, ← r) h
-half_of (ofOdd {half = half} {bit = b} h) bit e =
+half_of (of_odd {half = half} {bit = b} h) bit e =
     let q : (half * 2 + 1) / 2 ≡ half = omega arith in
     let r : b ≡ bit = omega arith in
     rw (q, ← r) h
@@ -38,21 +38,21 @@ half-by n bit h =
     (λ e.
     let z = eqb-true (n % 2) 0 e in
     let q : n / 2 * 2 ≡ n = omega arith in
-    subst (λ (m : ℕ). HasBit m (suc bit)) q (ofEven h))
+    subst (λ (m : ℕ). HasBit m (suc bit)) q (of_even h))
     (λ e.
     let z = eqb-false (n % 2) 0 e in
     let q : n / 2 * 2 + 1 ≡ n = omega arith in
-    subst (λ (m : ℕ). HasBit m (suc bit)) q (ofOdd h))
+    subst (λ (m : ℕ). HasBit m (suc bit)) q (of_odd h))
 
 -- one slot
-slot-by : (pattern filled : ℕ) → slotFits pattern filled ≡ true → HasBit filled 0 → HasBit pattern 0
+slot-by : (pattern filled : ℕ) → slot_fits pattern filled ≡ true → HasBit filled 0 → HasBit pattern 0
 slot-by pattern filled t h =
     let o = odd-of h refl in
     or_cases (eqb (filled % 2) 0) (eqb (pattern % 2) 1) t
     (λ e. let z = eqb-true (filled % 2) 0 e in absurd (omega arith))
     (λ e. odd-by pattern (eqb-true (pattern % 2) 1 e))
 
-slot_of : (pattern filled : ℕ) → (HasBit filled 0 → HasBit pattern 0) → slotFits pattern filled ≡ true
+slot_of : (pattern filled : ℕ) → (HasBit filled 0 → HasBit pattern 0) → slot_fits pattern filled ≡ true
 slot_of pattern filled f =
     true-or-false (eqb (filled % 2) 0)
     (λ e. or_left (eqb (filled % 2) 0) (eqb (pattern % 2) 1) e)
@@ -65,26 +65,26 @@ slot_of pattern filled f =
 abbrev Within : (slots pattern filled : ℕ) → Type 0
 Within slots pattern filled = (bit : ℕ) → bit < slots → HasBit filled bit → HasBit pattern bit
 
-slots-by : (slots pattern filled : ℕ) → slotsFit slots pattern filled ≡ true → Within slots pattern filled
-unfolding slotsFit
+slots-by : (slots pattern filled : ℕ) → slots_fit slots pattern filled ≡ true → Within slots pattern filled
+unfolding slots_fit
 slots-by zero pattern filled t bit l h = absurd (omega arith)
 slots-by (suc slots) pattern filled t zero l h =
-    slot-by pattern filled (and_left (slotFits pattern filled) (slotsFit slots (pattern / 2) (filled / 2)) t) h
+    slot-by pattern filled (and_left (slot_fits pattern filled) (slots_fit slots (pattern / 2) (filled / 2)) t) h
 slots-by (suc slots) pattern filled t (suc bit) l h =
-    let u = and_right (slotFits pattern filled) (slotsFit slots (pattern / 2) (filled / 2)) t in
+    let u = and_right (slot_fits pattern filled) (slots_fit slots (pattern / 2) (filled / 2)) t in
     half-by pattern bit (slots-by slots (pattern / 2) (filled / 2) u bit (omega arith) (half_of h bit refl))
 
-slots-of : (slots pattern filled : ℕ) → Within slots pattern filled → slotsFit slots pattern filled ≡ true
-unfolding slotsFit
+slots-of : (slots pattern filled : ℕ) → Within slots pattern filled → slots_fit slots pattern filled ≡ true
+unfolding slots_fit
 slots-of zero pattern filled f = refl
 slots-of (suc slots) pattern filled f =
     let g : Within slots (pattern / 2) (filled / 2) =
     λ bit l h. half_of (f (suc bit) (omega arith) (half-by filled bit h)) bit refl in
-    and_both (slotFits pattern filled) (slotsFit slots (pattern / 2) (filled / 2))
+    and_both (slot_fits pattern filled) (slots_fit slots (pattern / 2) (filled / 2))
     (slot_of pattern filled (f 0 (omega arith)))
     (slots-of slots (pattern / 2) (filled / 2) g)
 
-pub fits-is : (pattern filled : ℕ) → (fitsDuration pattern filled ≡ true) ↔ SlotsWithin pattern filled
-unfolding fitsDuration
+pub fits-is : (pattern filled : ℕ) → (fits_duration pattern filled ≡ true) ↔ SlotsWithin pattern filled
+unfolding fits_duration
 fits-is pattern filled =
     (λ t. record { within = slots-by 7 pattern filled t }, λ s. slots-of 7 pattern filled s.within)

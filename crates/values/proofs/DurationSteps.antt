@@ -8,34 +8,34 @@ use lib.ListN.{length, take, drop}
 use borrow.Author.Tests.{eq-eqb, ne_eqb}
 use Rattle.lexis.specs.Text.{byte}
 use Rattle.lexis.specs.Runs.{byte_at}
-use Rattle.lexis.specs.Durations.{digitSlot, slots_of}
-use Rattle.lexis.specs.contracts.Answers.{FlagIs}
-use Rattle.values.specs.Durations.{slotsIf, durationOf}
-use Rattle.values.specs.contracts.Answers.{durationAnswer}
+use Rattle.lexis.specs.Durations.{digit_slot, slots_of}
+use Rattle.lexis.specs.Clauses.Answers.{FlagIs}
+use Rattle.values.specs.Durations.{slots_if, duration_of}
+use Rattle.values.specs.Clauses.Answers.{duration_answer}
 use Rattle.values.specs.declared.durations.Duration.{Duration}
 use Rattle.values.proofs.Common.{rest-is}
 
 module _ (flag : ℕ) where
-  pub slots-none : flag ≡ 0 → none ≡ slotsIf flag
+  pub slots-none : flag ≡ 0 → none ≡ slots_if flag
   slots-none e = rw (eq-eqb flag 0 e) refl
 
-  pub slots-are : (flag ≡ 0 → ⊥) → some flag ≡ slotsIf flag
+  pub slots-are : (flag ≡ 0 → ⊥) → some flag ≡ slots_if flag
   slots-are n = rw (ne_eqb flag 0 n) refl
 
-pub duration-empty : (w : List ℕ) → length w ≡ 0 → none ≡ durationOf w
-unfolding durationOf slots_of
+pub duration-empty : (w : List ℕ) → length w ≡ 0 → none ≡ duration_of w
+unfolding duration_of slots_of
 duration-empty [] e = refl
 duration-empty (b ∷ w) e = absurd (omega arith)
 
-module _ (w : List ℕ) (flag : ℕ) (r : Duration) (h : durationAnswer r ≡ slotsIf flag) where
-  pub duration-signed : byte_at w 0 ≡ byte "-" → FlagIs (slots_of digitSlot (take (length w - 1) (drop 1 w))) flag
-      → durationAnswer r ≡ durationOf w
-  unfolding durationOf
+module _ (w : List ℕ) (flag : ℕ) (r : Duration) (h : duration_answer r ≡ slots_if flag) where
+  pub duration-signed : byte_at w 0 ≡ byte "-" → FlagIs (slots_of digit_slot (take (length w - 1) (drop 1 w))) flag
+      → duration_answer r ≡ duration_of w
+  unfolding duration_of
   duration-signed e q = rw (eq-eqb (byte_at w 0) (byte "-") e, ← rest-is w 1, ← q.is) h
 
-  pub duration-unsigned : (byte_at w 0 ≡ byte "-" → ⊥) → FlagIs (slots_of digitSlot w) flag
-      → durationAnswer r ≡ durationOf w
-  unfolding durationOf
+  pub duration-unsigned : (byte_at w 0 ≡ byte "-" → ⊥) → FlagIs (slots_of digit_slot w) flag
+      → duration_answer r ≡ duration_of w
+  unfolding duration_of
   duration-unsigned n q = rw (ne_eqb (byte_at w 0) (byte "-") n, ← q.is) h
 
 pub ruleset steps = (slots-none, slots-are, duration-empty, duration-signed, duration-unsigned)

@@ -9,19 +9,19 @@ use lib.Dec.{eqb, leb, ltb}
 use lib.ListN.{length, get_or, drop}
 use borrow.Author.Tests.{leb-true, leb-false, ltb-true, ltb-false, le-leb, ne_eqb}
 use Rattle.lexis.specs.Text.{byte}
-use Rattle.lexis.specs.Bytes.{is, digit, sortOf}
+use Rattle.lexis.specs.Bytes.{is, digit, sort_of}
 use Rattle.lexis.specs.Runs.{all}
 use Rattle.lexis.proofs.Cases.{by_cond, either}
 use Rattle.lexis.proofs.Places.{byte_inside}
-use Rattle.values.specs.Integers.{value_of, nought, greatest, plain, integerOf, twosComplement, Pair, magnitude, inside, around}
+use Rattle.values.specs.Integers.{value_of, nought, greatest, plain, integer_of, twos_complement, Pair, magnitude, inside, around}
 use Rattle.values.proofs.Common.{Each, none_each, some-each, le_left, le_right, below}
 
 -- an integer that is read lies in the range
 abbrev InRange : Option ℕ → Type 0
 InRange = Each (λ n. n ≤ greatest)
 
-pub integer-in-range : (w : List ℕ) (n : ℕ) → integerOf w ≡ some n → n ≤ greatest
-unfolding integerOf
+pub integer-in-range : (w : List ℕ) (n : ℕ) → integer_of w ≡ some n → n ≤ greatest
+unfolding integer_of
 integer-in-range w =
     either InRange (eqb (get_or w 0 0) (byte "-"))
     (let n = value_of 0 (drop 1 w) in
@@ -31,20 +31,20 @@ integer-in-range w =
     (λ e. let l = le_right (plain w) n 2_147_483_647 e in some-each (λ n. n ≤ greatest) (nought + n) (omega arith)) (λ e. none_each _))
 
 -- two's complement fits 32 bits
-pub complement-fits : (x : ℕ) → twosComplement x < 2 ^ 32
+pub complement-fits : (x : ℕ) → twos_complement x < 2 ^ 32
 complement-fits x = omega arith
 
 -- a value not below 0 stands for itself, and one below 0 for 2 ^ 32 less its distance from 0
 pub complement-value : (x : ℕ) → x ≤ greatest
-    → (nought ≤ x → twosComplement x ≡ x - nought) × (x < nought → twosComplement x ≡ 2 ^ 32 - (nought - x))
+    → (nought ≤ x → twos_complement x ≡ x - nought) × (x < nought → twos_complement x ≡ 2 ^ 32 - (nought - x))
 complement-value x h = omega arith
 
 -- two's complement undoes itself
-pub complement-back : (x : ℕ) → x ≤ greatest → twosComplement (twosComplement x) ≡ x
+pub complement-back : (x : ℕ) → x ≤ greatest → twos_complement (twos_complement x) ≡ x
 complement-back x h = omega arith
 
 -- two's complement is one-to-one
-pub complement-once : (x y : ℕ) → x ≤ greatest → y ≤ greatest → twosComplement x ≡ twosComplement y → x ≡ y
+pub complement-once : (x y : ℕ) → x ≤ greatest → y ≤ greatest → twos_complement x ≡ twos_complement y → x ≡ y
 complement-once x y h l e = omega arith
 
 -- the ends of `+/-` lie in the range, the low end first just if d is not below 0
@@ -64,56 +64,56 @@ around-ends a d h e =
     (λ t. let k = leb-false nought d t in let q : magnitude d ≡ nought - d = rw t in omega arith)
 
 -- the byte of a digit is of the sort digit
-abbrev pub digitByte : ℕ → ℕ
-digitByte n = byte "0" + n
+abbrev pub digit_byte : ℕ → ℕ
+digit_byte n = byte "0" + n
 
-pub digit-is : (n : ℕ) → n < 10 → is digit (digitByte n) ≡ true
-unfolding sortOf
-digit-is n h = below 10 (λ i. is digit (digitByte i)) refl n h
+pub digit-is : (n : ℕ) → n < 10 → is digit (digit_byte n) ≡ true
+unfolding sort_of
+digit-is n h = below 10 (λ i. is digit (digit_byte i)) refl n h
 
 -- the digits of n in front of others, in at most k steps
-unfoldable pub digitsOf : ℕ → ℕ → List ℕ → List ℕ
-digitsOf zero n ds = digitByte n ∷ ds
-digitsOf (suc k) n ds = let more = digitsOf k (n / 10) (digitByte (n % 10) ∷ ds) in cond (ltb n 10) (digitByte n ∷ ds) more
+unfoldable pub digits_of : ℕ → ℕ → List ℕ → List ℕ
+digits_of zero n ds = digit_byte n ∷ ds
+digits_of (suc k) n ds = let more = digits_of k (n / 10) (digit_byte (n % 10) ∷ ds) in cond (ltb n 10) (digit_byte n ∷ ds) more
 
 -- a number in decimal, without needless zeros
 unfoldable pub decimal : ℕ → List ℕ
-decimal n = digitsOf n n []
+decimal n = digits_of n n []
 
 -- an integer in decimal, by its distance
-unfoldable pub spellInteger : ℕ → List ℕ
-spellInteger n = cond (ltb n nought) (byte "-" ∷ decimal (nought - n)) (decimal (n - nought))
+unfoldable pub spell_integer : ℕ → List ℕ
+spell_integer n = cond (ltb n nought) (byte "-" ∷ decimal (nought - n)) (decimal (n - nought))
 
 -- the digits have the number's value
-digits_value : (k n : ℕ) (ds : List ℕ) → value_of 0 (digitsOf k n ds) ≡ value_of n ds
-unfolding digitsOf value_of
+digits_value : (k n : ℕ) (ds : List ℕ) → value_of 0 (digits_of k n ds) ≡ value_of n ds
+unfolding digits_of value_of
 digits_value zero n ds = ap (λ m. value_of m ds) (omega arith)
 digits_value (suc k) n ds =
     either (λ l. value_of 0 l ≡ value_of n ds) (ltb n 10)
     (ap (λ m. value_of m ds) (omega arith))
-    (digits_value k (n / 10) (digitByte (n % 10) ∷ ds) ∙ ap (λ m. value_of m ds) (omega arith))
+    (digits_value k (n / 10) (digit_byte (n % 10) ∷ ds) ∙ ap (λ m. value_of m ds) (omega arith))
 
 pub decimal-value : (n : ℕ) → value_of 0 (decimal n) ≡ n
 unfolding decimal value_of
 decimal-value n = digits_value n n []
 
 -- they are digits
-digits-all : (k n : ℕ) (ds : List ℕ) → n ≤ k → all (is digit) ds ≡ true → all (is digit) (digitsOf k n ds) ≡ true
-unfolding digitsOf all
+digits-all : (k n : ℕ) (ds : List ℕ) → n ≤ k → all (is digit) ds ≡ true → all (is digit) (digits_of k n ds) ≡ true
+unfolding digits_of all
 digits-all zero n ds h e = rw (digit-is n (omega arith), e)
 digits-all (suc k) n ds h e =
     by_cond (λ l. all (is digit) l ≡ true) (ltb n 10)
     (λ t. rw (digit-is n (ltb-true n 10 t), e))
-    (λ t. let l = ltb-false n 10 t in digits-all k (n / 10) (digitByte (n % 10) ∷ ds) (omega arith) (rw (digit-is (n % 10) (omega arith), e)))
+    (λ t. let l = ltb-false n 10 t in digits-all k (n / 10) (digit_byte (n % 10) ∷ ds) (omega arith) (rw (digit-is (n % 10) (omega arith), e)))
 
 -- the first of them is not 0, unless the number is
-digits-first : (k n : ℕ) (ds : List ℕ) → 1 ≤ n → n ≤ k → byte "0" < get_or (digitsOf k n ds) 0 0
-unfolding digitsOf
+digits-first : (k n : ℕ) (ds : List ℕ) → 1 ≤ n → n ≤ k → byte "0" < get_or (digits_of k n ds) 0 0
+unfolding digits_of
 digits-first zero n ds l h = omega arith
 digits-first (suc k) n ds l h =
     by_cond (λ w. byte "0" < get_or w 0 0) (ltb n 10)
     (λ t. omega arith)
-    (λ t. let g = ltb-false n 10 t in digits-first k (n / 10) (digitByte (n % 10) ∷ ds) (omega arith) (omega arith))
+    (λ t. let g = ltb-false n 10 t in digits-first k (n / 10) (digit_byte (n % 10) ∷ ds) (omega arith) (omega arith))
 
 -- the spelling is plain, with no `-` in front
 pub record Unsigned (ds : List ℕ) : Type 0 where
@@ -127,17 +127,17 @@ from_first ds h e = record {
 }
 
 pub decimal-unsigned : (n : ℕ) → Unsigned (decimal n)
-unfolding decimal digitsOf all sortOf
+unfolding decimal digits_of all sort_of
 decimal-unsigned zero = record { is_plain = refl; no_sign = refl }
 decimal-unsigned (suc n) =
     let m = suc n in
-    from_first (digitsOf m m []) (digits-first m m [] (omega arith) (omega arith)) (digits-all m m [] (omega arith) refl)
+    from_first (digits_of m m []) (digits-first m m [] (omega arith) (omega arith)) (digits-all m m [] (omega arith) refl)
 
 -- an integer that is spelled reads back
-pub integer-back : (n : ℕ) → n ≤ greatest → integerOf (spellInteger n) ≡ some n
-unfolding spellInteger integerOf
+pub integer-back : (n : ℕ) → n ≤ greatest → integer_of (spell_integer n) ≡ some n
+unfolding spell_integer integer_of
 integer-back n h =
-    by_cond (λ w. integerOf w ≡ some n) (ltb n nought)
+    by_cond (λ w. integer_of w ≡ some n) (ltb n nought)
     (λ t. let l = ltb-true n nought t in
     rw ((decimal-unsigned (nought - n)).is_plain, decimal-value (nought - n), le-leb 1 (nought - n) (omega arith), le-leb (nought - n) nought (omega arith))
     (ap {B = Option ℕ} some (omega arith)))

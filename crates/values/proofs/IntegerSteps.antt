@@ -12,12 +12,12 @@ use borrow.Author.Tests.{le-leb, lt-leb, leb-true, leb-false, eq-eqb, ne_eqb, no
 use mir.Syntax.{w32}
 use mir.Val.{Fits}
 use Rattle.lexis.specs.Text.{byte}
-use Rattle.lexis.specs.Bytes.{within, among, blanks, marks, sortOf, is, blank, digit, small, capital, mark, other}
+use Rattle.lexis.specs.Bytes.{within, among, blanks, marks, sort_of, is, blank, digit, small, capital, mark, other}
 use Rattle.lexis.specs.Runs.{past, all}
-use Rattle.lexis.specs.contracts.Answers.{PlaceIs}
+use Rattle.lexis.specs.Clauses.Answers.{PlaceIs}
 use Rattle.lexis.proofs.Cases.{either, and_left, and_right}
-use Rattle.values.specs.Integers.{value_of, nought, greatest, plain, negative, notNegative, integerOf, pair, magnitude, inside, around}
-use Rattle.values.specs.contracts.Answers.{DigitIs, integerAnswer, digitsFrom, plainNumber, shortInteger}
+use Rattle.values.specs.Integers.{value_of, nought, greatest, plain, negative, not_negative, integer_of, pair, magnitude, inside, around}
+use Rattle.values.specs.Clauses.Answers.{DigitIs, integer_answer, digits_from, plain_number, short_integer}
 use Rattle.values.specs.Words.{reads}
 use Rattle.values.specs.declared.integers.Number.{Number}
 use Rattle.values.specs.declared.integers.Number.TheVariants.{Value, Nothing}
@@ -33,53 +33,53 @@ value-least n [] = omega arith
 value-least n (b ∷ bs) = let h = value-least (n * 10 + (b - byte "0")) bs in omega arith
 
 -- digits from a place on, behind the number n
-module _ (n i : ℕ) (ds : List ℕ) (x : Option ℕ) (now : digitsFrom n (drop i ds) ≡ x) where
+module _ (n i : ℕ) (ds : List ℕ) (x : Option ℕ) (now : digits_from n (drop i ds) ≡ x) where
   pub digits_above : length ds ≤ i → nought < n → none ≡ x
-  unfolding digitsFrom all value_of
+  unfolding digits_from all value_of
   digits_above h l = rw (drop_of_length-le ds h, lt-leb n nought l) at now
 
   pub digits-end : length ds ≤ i → n ≤ nought → some n ≡ x
-  unfolding digitsFrom all value_of
+  unfolding digits_from all value_of
   digits-end h l = rw (drop_of_length-le ds h, le-leb n nought l) at now
 
   module _ (r : Bool) (h : i < length ds) (q : r ≡ is digit (get_or ds i 0)) where
     pub digits-other : not r ≡ true → none ≡ x
-    unfolding digitsFrom all
+    unfolding digits_from all
     digits-other k = rw (drop-in ds i h, ← q, not-true r k) at now
 
     module _ (k : not r ≡ false) where
       pub digits-large : 214_748_364 < n → none ≡ x
-      unfolding digitsFrom all value_of
+      unfolding digits_from all value_of
       digits-large l =
           let m = n * 10 + (get_or ds i 0 - byte "0") in
           let least = value-least m (drop (i + 1) ds) in
           let above = lt-leb (value_of m (drop (i + 1) ds)) nought (omega arith) in
           rw (drop-in ds i h, above, and-false) at now
 
-      pub digits-on : (v : ℕ) → DigitIs (get_or ds i 0) v → digitsFrom (n * 10 + v) (drop (i + 1) ds) ≡ x
-      unfolding digitsFrom all value_of
+      pub digits-on : (v : ℕ) → DigitIs (get_or ds i 0) v → digits_from (n * 10 + v) (drop (i + 1) ds) ≡ x
+      unfolding digits_from all value_of
       digits-on v d = rw d.is (rw (drop-in ds i h, ← q, not-false r k) at now)
 
 -- plain digits
 module _ (ds : List ℕ) where
   plain-digits : 1 ≤ length ds → cond (eqb (get_or ds 0 0) (byte "0")) (eqb (length ds) 1) true ≡ true
-      → digitsFrom 0 ds ≡ plainNumber ds
-  unfolding digitsFrom plainNumber
+      → digits_from 0 ds ≡ plain_number ds
+  unfolding digits_from plain_number
   plain-digits h q = rw (le-leb 1 (length ds) h, q) (simp and-true)
 
-  pub plain-empty : length ds ≡ 0 → none ≡ plainNumber ds
-  unfolding plainNumber
+  pub plain-empty : length ds ≡ 0 → none ≡ plain_number ds
+  unfolding plain_number
   plain-empty h = rw (lt-leb 1 (length ds) (omega arith), and-false)
 
-  pub plain-zero : (length ds ≡ 1 → ⊥) → get_or ds 0 0 ≡ byte "0" → none ≡ plainNumber ds
-  unfolding plainNumber
+  pub plain-zero : (length ds ≡ 1 → ⊥) → get_or ds 0 0 ≡ byte "0" → none ≡ plain_number ds
+  unfolding plain_number
   plain-zero n q = rw (eq-eqb (get_or ds 0 0) (byte "0") q, ne_eqb (length ds) 1 n, and-false)
 
-  module _ (a : Option ℕ) (e : a ≡ digitsFrom 0 ds) where
-    pub plain-one : length ds ≡ 1 → a ≡ plainNumber ds
+  module _ (a : Option ℕ) (e : a ≡ digits_from 0 ds) where
+    pub plain-one : length ds ≡ 1 → a ≡ plain_number ds
     plain-one h = e ∙ plain-digits (omega arith) (rw (eq-eqb (length ds) 1 h) (either (λ t. t ≡ true) (eqb (get_or ds 0 0) (byte "0")) refl refl))
 
-    pub plain_more : (length ds ≡ 0 → ⊥) → (get_or ds 0 0 ≡ byte "0" → ⊥) → a ≡ plainNumber ds
+    pub plain_more : (length ds ≡ 0 → ⊥) → (get_or ds 0 0 ≡ byte "0" → ⊥) → a ≡ plain_number ds
     plain_more h n = e ∙ plain-digits (omega arith) (rw (ne_eqb (get_or ds 0 0) (byte "0") n))
 
 -- what is known of a plain number that is there, and where there is none
@@ -99,9 +99,9 @@ below-too : (p : Bool) (v : ℕ) → (p && leb v nought) ≡ false → (p && leb
 below-too true v h = let l = leb-false v nought h in lt-leb v 2_147_483_647 (omega arith)
 below-too false v h = refl
 
-module _ (ds : List ℕ) (r : Number) (h : integerAnswer r ≡ plainNumber ds) where
+module _ (ds : List ℕ) (r : Number) (h : integer_answer r ≡ plain_number ds) where
   plain-there : (n : ℕ) → r ≡ Value n → (plain ds ≡ true) × (n ≡ value_of 0 ds) × (n ≤ nought)
-  unfolding plainNumber
+  unfolding plain_number
   plain-there n q =
       let p = plain ds in
       let v = value_of 0 ds in
@@ -110,7 +110,7 @@ module _ (ds : List ℕ) (r : Number) (h : integerAnswer r ≡ plainNumber ds) w
       (and_left p (leb v nought) t.0, t.1, omega arith)
 
   plain-missing : r ≡ Nothing → (plain ds && leb (value_of 0 ds) nought) ≡ false
-  unfolding plainNumber
+  unfolding plain_number
   plain-missing q = missing (plain ds && leb (value_of 0 ds) nought) (value_of 0 ds) (rw q at h)
 
   module _ (n : ℕ) (q : r ≡ Value n) where
@@ -127,12 +127,12 @@ module _ (ds : List ℕ) (r : Number) (h : integerAnswer r ≡ plainNumber ds) w
         let t = plain-there n q in
         rw (t.0, ← t.1, le-leb 1 n l, le-leb n nought t.2)
 
-    pub unsigned-large : 2_147_483_647 < n → none ≡ notNegative ds
+    pub unsigned-large : 2_147_483_647 < n → none ≡ not_negative ds
     unsigned-large l =
         let t = plain-there n q in
         rw (t.0, ← t.1, lt-leb n 2_147_483_647 l)
 
-    pub unsigned-some : n ≤ 2_147_483_647 → some (nought + n) ≡ notNegative ds
+    pub unsigned-some : n ≤ 2_147_483_647 → some (nought + n) ≡ not_negative ds
     unsigned-some l =
         let t = plain-there n q in
         rw (t.0, ← t.1, le-leb n 2_147_483_647 l)
@@ -140,25 +140,25 @@ module _ (ds : List ℕ) (r : Number) (h : integerAnswer r ≡ plainNumber ds) w
   pub negative-none : r ≡ Nothing → none ≡ negative ds
   negative-none q = let v = value_of 0 ds in rw (without-middle (plain ds) (leb 1 v) (leb v nought) (plain-missing q))
 
-  pub unsigned-none : r ≡ Nothing → none ≡ notNegative ds
+  pub unsigned-none : r ≡ Nothing → none ≡ not_negative ds
   unsigned-none q = rw (below-too (plain ds) (value_of 0 ds) (plain-missing q))
 
 -- the ways to an integer
-pub integer_empty : (w : List ℕ) → length w ≡ 0 → none ≡ integerOf w
-unfolding integerOf all
+pub integer_empty : (w : List ℕ) → length w ≡ 0 → none ≡ integer_of w
+unfolding integer_of all
 integer_empty [] h = refl
 integer_empty (b ∷ bs) h = absurd (omega arith)
 
 module _ (w : List ℕ) (a : Option ℕ) where
   pub integer-minus : (length w ≡ 0 → ⊥) → get_or w 0 0 ≡ byte "-" → a ≡ negative (take (length w - 1) (drop 1 w))
-      → a ≡ integerOf w
-  unfolding integerOf
+      → a ≡ integer_of w
+  unfolding integer_of
   integer-minus n q e =
       let l = length-drop 1 w in
       rw (eq-eqb (get_or w 0 0) (byte "-") q) (rw (take_all (length w - 1) (drop 1 w) (omega arith)) at e)
 
-  pub integer-digits : (get_or w 0 0 ≡ byte "-" → ⊥) → a ≡ notNegative w → a ≡ integerOf w
-  unfolding integerOf
+  pub integer-digits : (get_or w 0 0 ≡ byte "-" → ⊥) → a ≡ not_negative w → a ≡ integer_of w
+  unfolding integer_of
   integer-digits n e = rw (ne_eqb (get_or w 0 0) (byte "-") n) e
 
 -- every byte passes a test where their run ends with them
@@ -174,37 +174,37 @@ all_past f at (b ∷ bs) = by_byte (all_past f (at + 1) bs) (f b) refl
 
 -- an integer of few digits
 module _ (w : List ℕ) where
-  pub short-empty : length w ≡ 0 → false ≡ shortInteger w
-  unfolding shortInteger
+  pub short-empty : length w ≡ 0 → false ≡ short_integer w
+  unfolding short_integer
   short-empty h = rw (lt-leb 1 (length w) (omega arith), and-false)
 
-  pub short-long : 9 < length w → false ≡ shortInteger w
-  unfolding shortInteger
+  pub short-long : 9 < length w → false ≡ short_integer w
+  unfolding short_integer
   short-long h = rw (lt-leb (length w) 9 h, and-false)
 
   module _ (e : ℕ) (p : PlaceIs w 0 (past (is digit) 0 (drop 0 w)) e) where
     digits-all : eqb e (length w) ≡ all (is digit) w
     digits-all = let n : 0 + length w ≡ length w = omega arith in rw p.is (rw n at (all_past (is digit) 0 w))
 
-    pub short-other : (e ≡ length w → ⊥) → false ≡ shortInteger w
-    unfolding shortInteger
+    pub short-other : (e ≡ length w → ⊥) → false ≡ short_integer w
+    unfolding short_integer
     short-other n = rw (sym digits-all ∙ ne_eqb e (length w) n)
 
     module _ (q : e ≡ length w) (h : length w ≡ 0 → ⊥) (l : length w ≤ 9) where
       every : all (is digit) w ≡ true
       every = sym digits-all ∙ eq-eqb e (length w) q
 
-      pub short-more : (get_or w 0 0 ≡ byte "0" → ⊥) → true ≡ shortInteger w
-      unfolding shortInteger
+      pub short-more : (get_or w 0 0 ≡ byte "0" → ⊥) → true ≡ short_integer w
+      unfolding short_integer
       short-more n = rw (every, le-leb 1 (length w) (omega arith), ne_eqb (get_or w 0 0) (byte "0") n, le-leb (length w) 9 l)
 
-      pub short-zero : get_or w 0 0 ≡ byte "0" → eqb (length w) 1 ≡ shortInteger w
-      unfolding shortInteger
+      pub short-zero : get_or w 0 0 ≡ byte "0" → eqb (length w) 1 ≡ short_integer w
+      unfolding short_integer
       short-zero n = rw (every, le-leb 1 (length w) (omega arith), eq-eqb (get_or w 0 0) (byte "0") n, le-leb (length w) 9 l, and-true)
 
 -- no byte above `9` is a digit
 above-digits : (b : ℕ) → byte "9" < b → is digit b ≡ false
-unfolding sortOf
+unfolding sort_of
 above-digits b h =
     rw (lt-leb b (byte "9") h, and-false)
     (later (among b blanks) (within (byte "a") (byte "z") b) (within (byte "A") (byte "Z") b) (among b marks))
@@ -234,8 +234,8 @@ first-digit [] h a = absurd (omega arith)
 first-digit (b ∷ bs) h a = and_left (is digit b) (all (is digit) bs) a
 
 -- few digits spell an integer
-pub short-reads : (w : List ℕ) → shortInteger w ≡ true → reads (integerOf w) ≡ true
-unfolding shortInteger integerOf tenfold
+pub short-reads : (w : List ℕ) → short_integer w ≡ true → reads (integer_of w) ≡ true
+unfolding short_integer integer_of tenfold
 short-reads w e =
     let x = all (is digit) w in
     let y = leb 1 (length w) in

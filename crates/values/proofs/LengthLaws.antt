@@ -21,8 +21,8 @@ use Rattle.values.proofs.DigitLaws.{digit-byte, say-digits, tenfold, tenfold-mor
 use Rattle.values.proofs.WordLaws.{good-word}
 
 pub boolean-short : {w : List ℕ} {b : ℕ} → IsBoolean w b → length w ≤ 5
-boolean-short WordRules.isTrue = omega arith
-boolean-short WordRules.isFalse = omega arith
+boolean-short WordRules.is_true = omega arith
+boolean-short WordRules.is_false = omega arith
 
 -- eleven digits without needless zeros spell more than an integer
 plain-short : {w : List ℕ} {n : ℕ} → PlainNumber w n → n ≤ 2_147_483_648 → length w ≤ 10
@@ -39,7 +39,7 @@ plain-short (WordRules.other {b = b} {n = n} {w = w} h s) l =
     absurd (omega (arith, t.1, v, m)))
 
 pub integer-short : {w : List ℕ} {v : ℕ} → IsInteger w v → length w ≤ 11
-integer-short (WordRules.notNegative p l) = let k = plain-short p (omega arith) in omega arith
+integer-short (WordRules.not_negative p l) = let k = plain-short p (omega arith) in omega arith
 integer-short (WordRules.negative p h l) = let k = plain-short p l in omega arith
 
 pub date-short : {w : List ℕ} {d : Date} → IsDate w d → length w ≤ 10
@@ -50,9 +50,9 @@ date-short (WordRules.day (fixed y _) (fixed m _) (fixed d _) _) = simp length-a
 zone-short : {z : List ℕ} → IsZone z → length z ≤ 6
 zone-short WordRules.none = omega arith
 zone-short WordRules.utc = omega arith
-zone-short (WordRules.eastHours (up_to (fixed h _) _)) = omega arith
+zone-short (WordRules.east_hours (up_to (fixed h _) _)) = omega arith
 zone-short (WordRules.east (up_to (fixed h _) _) (up_to (fixed m _) _)) = simp length-append (omega arith)
-zone-short (WordRules.westHours (up_to (fixed h _) _) _) = omega arith
+zone-short (WordRules.west_hours (up_to (fixed h _) _) _) = omega arith
 zone-short (WordRules.west (up_to (fixed h _) _) (up_to (fixed m _) _) _) = simp length-append (omega arith)
 
 pub time-short : {w : List ℕ} {parts : ℕ} → IsTime w parts → length w ≤ 14
@@ -72,7 +72,7 @@ slot-short (DurationRules.capital b _ l _) = simp length-append (omega arith)
 slots-short : {bit flag : ℕ} {letters w : List ℕ} → SlotsInOrder DigitsAndLetter bit letters w flag
     → length w ≤ length letters * 5
 slots-short DurationRules.none = omega arith
-slots-short (DurationRules.leftOut s) = let k = slots-short s in omega arith
+slots-short (DurationRules.left_out s) = let k = slots-short s in omega arith
 slots-short (DurationRules.filled v s) =
     let j = slot-short v in
     let k = slots-short s in

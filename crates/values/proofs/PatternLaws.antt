@@ -10,8 +10,8 @@ use Rattle.lexis.specs.Text.{bytes}
 use Rattle.lexis.specs.Runs.{shaped}
 use Rattle.lexis.proofs.Cases.{either}
 use Rattle.lexis.proofs.Tables.{wrong}
-use Rattle.values.specs.Patterns.{fits, fitsDate, fitsTime}
-use Rattle.values.specs.Times.{timeOf, goodTime, hours, minutes, seconds, zone}
+use Rattle.values.specs.Patterns.{fits, fits_date, fits_time}
+use Rattle.values.specs.Times.{time_of, good_time, hours, minutes, seconds, zone}
 use Rattle.values.proofs.Common.{Each, none_each, some-each}
 
 -- a pattern's test, its flag, and whether it admits one part, two parts and three
@@ -28,16 +28,16 @@ row admits flag one two three = record { admits = admits; flag = flag; one = one
 abbrev pub rows : List Row
 rows =
     -- yyyy-mm-dd, yyyy-mm-??, yyyy-??-??, yyyy-mm-XX, yyyy-??-XX
-    row fitsDate 1 false false true
-    ∷ row fitsDate 2 false true true
-    ∷ row fitsDate 3 true true true
-    ∷ row fitsDate 4 false true false
-    ∷ row fitsDate 5 true true false
+    row fits_date 1 false false true
+    ∷ row fits_date 2 false true true
+    ∷ row fits_date 3 true true true
+    ∷ row fits_date 4 false true false
+    ∷ row fits_date 5 true true false
     -- Thh:mm:ss, Thh:mm:XX, Thh:??:XX, Thh:??:??
-    ∷ row fitsTime 1 false false true
-    ∷ row fitsTime 2 false true false
-    ∷ row fitsTime 3 true true false
-    ∷ row fitsTime 4 true true true
+    ∷ row fits_time 1 false false true
+    ∷ row fits_time 2 false true false
+    ∷ row fits_time 3 true true false
+    ∷ row fits_time 4 true true true
     ∷ []
 
 abbrev pub agrees : Row → Bool
@@ -46,18 +46,18 @@ agrees r =
 
 -- all rows hold
 pub patterns-hold : wrong agrees 0 rows ≡ []
-unfolding wrong fits fitsDate fitsTime
+unfolding wrong fits fits_date fits_time
 patterns-hold = refl
 
 -- a time that is read has one part to three
 abbrev OneToThree : ℕ → Type 0
 OneToThree n = (1 ≤ n) × (n ≤ 3)
 
-good-parts : (b : Bool) (m : ℕ) → OneToThree m → Each OneToThree (goodTime b m)
+good-parts : (b : Bool) (m : ℕ) → OneToThree m → Each OneToThree (good_time b m)
 good-parts b m h = either (Each OneToThree) b (some-each OneToThree m h) (none_each _)
 
-pub time-parts : (w : List ℕ) (n : ℕ) → timeOf w ≡ some n → (1 ≤ n) × (n ≤ 3)
-unfolding timeOf
+pub time-parts : (w : List ℕ) (n : ℕ) → time_of w ≡ some n → (1 ≤ n) × (n ≤ 3)
+unfolding time_of
 time-parts w =
     let P = Each OneToThree in
     either P (shaped (bytes "dd:dd:dd") w) (good-parts (hours w && minutes w && seconds w && zone (drop 8 w)) 3 (omega arith))

@@ -8,7 +8,7 @@ use lib.Dec.{eqb, leb}
 use lib.ListN.{length, get_or, get_or-eq_default}
 use borrow.Author.Tests.{le-leb, lt-leb, eq-eqb, ne_eqb, not-true, not-false}
 use Rattle.lexis.specs.Bytes.{within}
-use Rattle.values.specs.Patterns.{Part, fits, datePatterns, timePatterns, fitsDate, fitsTime, slotFits, slotsFit, fitsDuration}
+use Rattle.values.specs.Patterns.{Part, fits, date_patterns, time_patterns, fits_date, fits_time, slot_fits, slots_fit, fits_duration}
 use Rattle.values.proofs.Common.{all_below, below, by_order}
 
 -- between two numbers
@@ -51,88 +51,88 @@ module _ (ps : List Part) (h : length ps ≤ 3) where
 
 module _ (flag parts : ℕ) where
   -- yyyy-mm-dd, yyyy-mm-??, yyyy-??-??, yyyy-mm-XX, yyyy-??-XX
-  pub date-first : flag ≡ 1 → eqb parts 3 ≡ fitsDate flag parts
-  unfolding fits fitsDate
-  date-first q = rw q (single (get_or datePatterns 0 []) (omega arith) 3 (omega arith) refl parts)
+  pub date-first : flag ≡ 1 → eqb parts 3 ≡ fits_date flag parts
+  unfolding fits fits_date
+  date-first q = rw q (single (get_or date_patterns 0 []) (omega arith) 3 (omega arith) refl parts)
 
-  pub date-second : (r : Bool) → r ≡ within 2 3 parts → flag ≡ 2 → r ≡ fitsDate flag parts
-  unfolding fits fitsDate
-  date-second r e q = e ∙ rw q (range (get_or datePatterns 1 []) (omega arith) 2 3 (omega arith) refl parts)
+  pub date-second : (r : Bool) → r ≡ within 2 3 parts → flag ≡ 2 → r ≡ fits_date flag parts
+  unfolding fits fits_date
+  date-second r e q = e ∙ rw q (range (get_or date_patterns 1 []) (omega arith) 2 3 (omega arith) refl parts)
 
-  pub date-third : (r : Bool) → r ≡ within 1 3 parts → flag ≡ 3 → r ≡ fitsDate flag parts
-  unfolding fits fitsDate
-  date-third r e q = e ∙ rw q (range (get_or datePatterns 2 []) (omega arith) 1 3 (omega arith) refl parts)
+  pub date-third : (r : Bool) → r ≡ within 1 3 parts → flag ≡ 3 → r ≡ fits_date flag parts
+  unfolding fits fits_date
+  date-third r e q = e ∙ rw q (range (get_or date_patterns 2 []) (omega arith) 1 3 (omega arith) refl parts)
 
-  pub date-fourth : flag ≡ 4 → eqb parts 2 ≡ fitsDate flag parts
-  unfolding fits fitsDate
-  date-fourth q = rw q (single (get_or datePatterns 3 []) (omega arith) 2 (omega arith) refl parts)
+  pub date-fourth : flag ≡ 4 → eqb parts 2 ≡ fits_date flag parts
+  unfolding fits fits_date
+  date-fourth q = rw q (single (get_or date_patterns 3 []) (omega arith) 2 (omega arith) refl parts)
 
-  pub date-fifth : (r : Bool) → r ≡ within 1 2 parts → flag ≡ 5 → r ≡ fitsDate flag parts
-  unfolding fits fitsDate
-  date-fifth r e q = e ∙ rw q (range (get_or datePatterns 4 []) (omega arith) 1 2 (omega arith) refl parts)
+  pub date-fifth : (r : Bool) → r ≡ within 1 2 parts → flag ≡ 5 → r ≡ fits_date flag parts
+  unfolding fits fits_date
+  date-fifth r e q = e ∙ rw q (range (get_or date_patterns 4 []) (omega arith) 1 2 (omega arith) refl parts)
 
   -- Thh:mm:ss, Thh:mm:XX, Thh:??:XX, Thh:??:??
-  pub time-first : flag ≡ 1 → eqb parts 3 ≡ fitsTime flag parts
-  unfolding fits fitsTime
-  time-first q = rw q (single (get_or timePatterns 0 []) (omega arith) 3 (omega arith) refl parts)
+  pub time-first : flag ≡ 1 → eqb parts 3 ≡ fits_time flag parts
+  unfolding fits fits_time
+  time-first q = rw q (single (get_or time_patterns 0 []) (omega arith) 3 (omega arith) refl parts)
 
-  pub time-second : flag ≡ 2 → eqb parts 2 ≡ fitsTime flag parts
-  unfolding fits fitsTime
-  time-second q = rw q (single (get_or timePatterns 1 []) (omega arith) 2 (omega arith) refl parts)
+  pub time-second : flag ≡ 2 → eqb parts 2 ≡ fits_time flag parts
+  unfolding fits fits_time
+  time-second q = rw q (single (get_or time_patterns 1 []) (omega arith) 2 (omega arith) refl parts)
 
-  pub time-third : (r : Bool) → r ≡ within 1 2 parts → flag ≡ 3 → r ≡ fitsTime flag parts
-  unfolding fits fitsTime
-  time-third r e q = e ∙ rw q (range (get_or timePatterns 2 []) (omega arith) 1 2 (omega arith) refl parts)
+  pub time-third : (r : Bool) → r ≡ within 1 2 parts → flag ≡ 3 → r ≡ fits_time flag parts
+  unfolding fits fits_time
+  time-third r e q = e ∙ rw q (range (get_or time_patterns 2 []) (omega arith) 1 2 (omega arith) refl parts)
 
-  pub time-fourth : (r : Bool) → r ≡ within 1 3 parts → flag ≡ 4 → r ≡ fitsTime flag parts
-  unfolding fits fitsTime
-  time-fourth r e q = e ∙ rw q (range (get_or timePatterns 3 []) (omega arith) 1 3 (omega arith) refl parts)
+  pub time-fourth : (r : Bool) → r ≡ within 1 3 parts → flag ≡ 4 → r ≡ fits_time flag parts
+  unfolding fits fits_time
+  time-fourth r e q = e ∙ rw q (range (get_or time_patterns 3 []) (omega arith) 1 3 (omega arith) refl parts)
 
   -- no pattern has the flag
-  pub date-zero : flag ≡ 0 → eqb parts 0 ≡ fitsDate flag parts
-  unfolding fits fitsDate
+  pub date-zero : flag ≡ 0 → eqb parts 0 ≡ fits_date flag parts
+  unfolding fits fits_date
   date-zero q = rw q
 
-  pub time-zero : flag ≡ 0 → eqb parts 0 ≡ fitsTime flag parts
-  unfolding fits fitsTime
+  pub time-zero : flag ≡ 0 → eqb parts 0 ≡ fits_time flag parts
+  unfolding fits fits_time
   time-zero q = rw q
 
   module _ (a : flag ≡ 0 → ⊥) (b : flag ≡ 1 → ⊥) (c : flag ≡ 2 → ⊥) (d : flag ≡ 3 → ⊥) (e : flag ≡ 4 → ⊥) where
-    pub date-other : (flag ≡ 5 → ⊥) → eqb parts 0 ≡ fitsDate flag parts
-    unfolding fits fitsDate
-    date-other f = let l : 6 ≤ flag = omega arith in rw (get_or-eq_default ([] ∷ datePatterns) [] {n = flag} l)
+    pub date-other : (flag ≡ 5 → ⊥) → eqb parts 0 ≡ fits_date flag parts
+    unfolding fits fits_date
+    date-other f = let l : 6 ≤ flag = omega arith in rw (get_or-eq_default ([] ∷ date_patterns) [] {n = flag} l)
 
-    pub time-other : eqb parts 0 ≡ fitsTime flag parts
-    unfolding fits fitsTime
-    time-other = let l : 5 ≤ flag = omega arith in rw (get_or-eq_default ([] ∷ timePatterns) [] {n = flag} l)
+    pub time-other : eqb parts 0 ≡ fits_time flag parts
+    unfolding fits fits_time
+    time-other = let l : 5 ≤ flag = omega arith in rw (get_or-eq_default ([] ∷ time_patterns) [] {n = flag} l)
 
 -- one slot
 module _ (pattern filled : ℕ) where
-  pub slot-free : filled % 2 ≡ 0 → true ≡ slotFits pattern filled
+  pub slot-free : filled % 2 ≡ 0 → true ≡ slot_fits pattern filled
   slot-free q = rw (eq-eqb (filled % 2) 0 q)
 
-  pub slot-filled : (filled % 2 ≡ 0 → ⊥) → eqb (pattern % 2) 1 ≡ slotFits pattern filled
+  pub slot-filled : (filled % 2 ≡ 0 → ⊥) → eqb (pattern % 2) 1 ≡ slot_fits pattern filled
   slot-filled n = rw (ne_eqb (filled % 2) 0 n)
 
 -- the slots that are left, all of them at first
-pub slots-all : (pattern filled : ℕ) → slotsFit 7 pattern filled ≡ fitsDuration pattern filled
-unfolding fitsDuration
+pub slots-all : (pattern filled : ℕ) → slots_fit 7 pattern filled ≡ fits_duration pattern filled
+unfolding fits_duration
 slots-all pattern filled = refl
 
-pub slots_end : (left p f : ℕ) (x : Bool) → slotsFit left p f ≡ x → left ≤ 0 → true ≡ x
-unfolding slotsFit
+pub slots_end : (left p f : ℕ) (x : Bool) → slots_fit left p f ≡ x → left ≤ 0 → true ≡ x
+unfolding slots_fit
 slots_end zero p f x now l = now
 slots_end (suc left) p f x now l = absurd (omega arith)
 
-pub slots-without : (left p f : ℕ) (x r : Bool) → slotsFit left p f ≡ x → 0 < left → r ≡ slotFits p f → not r ≡ true
+pub slots-without : (left p f : ℕ) (x r : Bool) → slots_fit left p f ≡ x → 0 < left → r ≡ slot_fits p f → not r ≡ true
     → false ≡ x
-unfolding slotsFit
+unfolding slots_fit
 slots-without zero p f x r now l q k = absurd (omega arith)
 slots-without (suc left) p f x r now l q k = rw (← q, not-true r k) at now
 
-pub slots-on : (left p f : ℕ) (x r : Bool) → slotsFit left p f ≡ x → 0 < left → r ≡ slotFits p f → not r ≡ false
-    → slotsFit (left - 1) (p / 2) (f / 2) ≡ x
-unfolding slotsFit
+pub slots-on : (left p f : ℕ) (x r : Bool) → slots_fit left p f ≡ x → 0 < left → r ≡ slot_fits p f → not r ≡ false
+    → slots_fit (left - 1) (p / 2) (f / 2) ≡ x
+unfolding slots_fit
 slots-on zero p f x r now l q k = absurd (omega arith)
 slots-on (suc left) p f x r now l q k =
     let n : suc left - 1 ≡ left = omega arith in

@@ -12,8 +12,8 @@ use Rattle.lexis.specs.Runs.{same, shaped, any_digit, all}
 use Rattle.lexis.proofs.Cases.{and_left, and_right}
 use Rattle.lexis.proofs.Places.{drop-in}
 use Rattle.values.specs.Integers.{value_of}
-use Rattle.values.specs.Dates.{exactly, digitsAt}
-use Rattle.values.specs.contracts.Answers.{DigitIs, DigitsAre}
+use Rattle.values.specs.Dates.{exactly, digits_at}
+use Rattle.values.specs.Clauses.Answers.{DigitIs, DigitsAre}
 
 -- a shape, to the end
 module _ (shape w : List ℕ) where
@@ -60,7 +60,7 @@ two-are w at x y h a b =
       fits = omega arith;
     }
 
-four_is : (w : List ℕ) (x y : ℕ) → 4 ≤ length w → x ≡ digitsAt 0 2 w → y ≡ digitsAt 2 2 w → x * 100 + y ≡ digitsAt 0 4 w
+four_is : (w : List ℕ) (x y : ℕ) → 4 ≤ length w → x ≡ digits_at 0 2 w → y ≡ digits_at 2 2 w → x * 100 + y ≡ digits_at 0 4 w
 unfolding value_of
 four_is [] x y h a b = absurd (omega arith)
 four_is (p ∷ []) x y h a b = absurd (omega arith)

@@ -13,15 +13,15 @@ use Rattle.lexis.specs.Text.{bytes}
 use Rattle.lexis.specs.Runs.{same, shaped, all}
 use Rattle.lexis.proofs.Places.{shaped-long}
 use Rattle.values.specs.Integers.{value_of}
-use Rattle.values.specs.Dates.{digitsAt, exactly}
-use Rattle.values.specs.Times.{zone, hours, minutes, seconds, goodTime, timeOf}
-use Rattle.values.specs.contracts.Answers.{DigitsAre, eastZone, westZone, hourTime, minuteTime, secondTime}
+use Rattle.values.specs.Dates.{digits_at, exactly}
+use Rattle.values.specs.Times.{zone, hours, minutes, seconds, good_time, time_of}
+use Rattle.values.specs.Clauses.Answers.{DigitsAre, east_zone, west_zone, hour_time, minute_time, second_time}
 use Rattle.values.proofs.Common.{rest-is}
 use Rattle.values.proofs.ShapeSteps.{exactly-long, exactly-same}
 use Rattle.values.proofs.DateSteps.{exactly-reaches}
 
 -- a number up to a limit
-pub up-to-is : (w : List ℕ) (at n most : ℕ) → DigitsAre w at 2 3_000 n → leb n most ≡ leb (digitsAt at 2 w) most
+pub up-to-is : (w : List ℕ) (at n most : ℕ) → DigitsAre w at 2 3_000 n → leb n most ≡ leb (digits_at at 2 w) most
 up-to-is w at n most d = rw d.is
 
 -- bytes of a shape reach as far as it, and spell no minutes behind it
@@ -33,48 +33,48 @@ pub shaped-reaches : (shape w : List ℕ) (r : Bool) (n : ℕ) → r ≡ shaped 
     → n ≤ length w
 shaped-reaches shape w r n h q l = let e = shaped-long shape w (sym h ∙ q) in omega arith
 
-no-minutes : (z : List ℕ) → length z ≡ 3 → digitsAt 4 2 z ≡ 0
+no-minutes : (z : List ℕ) → length z ≡ 3 → digits_at 4 2 z ≡ 0
 unfolding value_of
 no-minutes z h = let l : length z ≤ 4 = omega arith in rw (drop_of_length-le z l)
 
 -- a zone with `+`
 module _ (z : List ℕ) (r : Bool) (h : r ≡ exactly (bytes "+dd") z) where
-  pub east-hours : (a : Bool) → r ≡ true → a ≡ leb (digitsAt 1 2 z) 13 → a ≡ eastZone z
+  pub east-hours : (a : Bool) → r ≡ true → a ≡ leb (digits_at 1 2 z) 13 → a ≡ east_zone z
   east-hours a q e = rw (no-minutes z (exactly-long (bytes "+dd") z r h q), ← h, q, and-true) e
 
   module _ (n : r ≡ false) (s : Bool) (i : s ≡ exactly (bytes "+dd:dd") z) where
-    pub east-none : not s ≡ true → false ≡ eastZone z
+    pub east-none : not s ≡ true → false ≡ east_zone z
     east-none q = rw (← h, n, ← i, not-true s q)
 
-    module _ (q : not s ≡ false) (b : Bool) (e : b ≡ leb (digitsAt 1 2 z) 13) where
-      pub east-late : not b ≡ true → false ≡ eastZone z
+    module _ (q : not s ≡ false) (b : Bool) (e : b ≡ leb (digits_at 1 2 z) 13) where
+      pub east-late : not b ≡ true → false ≡ east_zone z
       east-late k = rw (← h, n, ← i, not-false s q, ← e, not-true b k)
 
-      pub east-minutes : (a : Bool) → not b ≡ false → a ≡ leb (digitsAt 4 2 z) 59 → a ≡ eastZone z
+      pub east-minutes : (a : Bool) → not b ≡ false → a ≡ leb (digits_at 4 2 z) 59 → a ≡ east_zone z
       east-minutes a k f = rw (← h, n, ← i, not-false s q, ← e, not-false b k) f
 
 -- a zone with `-`
 module _ (z : List ℕ) (r : Bool) (h : r ≡ exactly (bytes "-dd") z) where
   module _ (q : r ≡ true) (o : ℕ) (d : DigitsAre z 1 2 3_000 o) where
-    pub west-hours-late : 12 < o → false ≡ westZone z
+    pub west-hours-late : 12 < o → false ≡ west_zone z
     west-hours-late l = rw (← h, q, ← d.is, lt-leb o 12 l)
 
-    pub west-hours : o ≤ 12 → leb 1 o ≡ westZone z
+    pub west-hours : o ≤ 12 → leb 1 o ≡ west_zone z
     west-hours l = rw (no-minutes z (exactly-long (bytes "-dd") z r h q), ← h, q, ← d.is, le-leb o 12 l, add-zero)
 
   module _ (n : r ≡ false) (s : Bool) (i : s ≡ exactly (bytes "-dd:dd") z) where
-    pub west-none : not s ≡ true → false ≡ westZone z
+    pub west-none : not s ≡ true → false ≡ west_zone z
     west-none q = rw (← h, n, ← i, not-true s q)
 
     module _ (q : not s ≡ false) (o : ℕ) (d : DigitsAre z 1 2 3_000 o) where
-      pub west-late : 12 < o → false ≡ westZone z
+      pub west-late : 12 < o → false ≡ west_zone z
       west-late l = rw (← h, n, ← i, not-false s q, ← d.is, lt-leb o 12 l)
 
       module _ (l : o ≤ 12) (m : ℕ) (f : DigitsAre z 4 2 3_000 m) where
-        pub west-minutes-late : 59 < m → false ≡ westZone z
+        pub west-minutes-late : 59 < m → false ≡ west_zone z
         west-minutes-late k = rw (← h, n, ← i, not-false s q, ← d.is, le-leb o 12 l, ← f.is, lt-leb m 59 k)
 
-        pub west-minutes : m ≤ 59 → leb 1 (o + m) ≡ westZone z
+        pub west-minutes : m ≤ 59 → leb 1 (o + m) ≡ west_zone z
         west-minutes k = rw (← h, n, ← i, not-false s q, ← d.is, le-leb o 12 l, ← f.is, le-leb m 59 k)
 
 -- no zone, or a good one
@@ -92,76 +92,76 @@ module _ (z : List ℕ) where
     unfolding zone
     zone-zulu q = rw (ne_eqb (length z) 0 n, ← zulu, ← h, q)
 
-    module _ (q : r ≡ false) (s : Bool) (i : s ≡ eastZone z) where
+    module _ (q : r ≡ false) (s : Bool) (i : s ≡ east_zone z) where
       pub zone-east : s ≡ true → true ≡ zone z
       unfolding zone
       zone-east k = rw (ne_eqb (length z) 0 n, ← zulu, ← h, q, ← i, k)
 
-      pub zone-west : (a : Bool) → s ≡ false → a ≡ westZone z → a ≡ zone z
+      pub zone-west : (a : Bool) → s ≡ false → a ≡ west_zone z → a ≡ zone z
       unfolding zone
       zone-west a k e = rw (ne_eqb (length z) 0 n, ← zulu, ← h, q, ← i, k) e
 
 -- hours, minutes and seconds
 module _ (w : List ℕ) (r : Bool) (h : r ≡ hours w) where
-  pub hour-late : not r ≡ true → false ≡ hourTime w
+  pub hour-late : not r ≡ true → false ≡ hour_time w
   hour-late q = rw (← h, not-true r q)
 
-  pub minute-hour-late : not r ≡ true → false ≡ minuteTime w
+  pub minute-hour-late : not r ≡ true → false ≡ minute_time w
   minute-hour-late q = rw (← h, not-true r q)
 
-  pub second-hour-late : not r ≡ true → false ≡ secondTime w
+  pub second-hour-late : not r ≡ true → false ≡ second_time w
   second-hour-late q = rw (← h, not-true r q)
 
   module _ (q : not r ≡ false) where
-    pub hour-zone : (a : Bool) → a ≡ zone (take (length w - 2) (drop 2 w)) → a ≡ hourTime w
+    pub hour-zone : (a : Bool) → a ≡ zone (take (length w - 2) (drop 2 w)) → a ≡ hour_time w
     hour-zone a e = rw (← h, not-false r q) (rw (rest-is w 2) at e)
 
     module _ (s : Bool) (i : s ≡ minutes w) where
-      pub minute-late : not s ≡ true → false ≡ minuteTime w
+      pub minute-late : not s ≡ true → false ≡ minute_time w
       minute-late k = rw (← h, not-false r q, ← i, not-true s k)
 
-      pub second-minute-late : not s ≡ true → false ≡ secondTime w
+      pub second-minute-late : not s ≡ true → false ≡ second_time w
       second-minute-late k = rw (← h, not-false r q, ← i, not-true s k)
 
       module _ (k : not s ≡ false) where
-        pub minute-zone : (a : Bool) → a ≡ zone (take (length w - 5) (drop 5 w)) → a ≡ minuteTime w
+        pub minute-zone : (a : Bool) → a ≡ zone (take (length w - 5) (drop 5 w)) → a ≡ minute_time w
         minute-zone a e = rw (← h, not-false r q, ← i, not-false s k) (rw (rest-is w 5) at e)
 
         module _ (t : Bool) (j : t ≡ seconds w) where
-          pub second-late : not t ≡ true → false ≡ secondTime w
+          pub second-late : not t ≡ true → false ≡ second_time w
           second-late l = rw (← h, not-false r q, ← i, not-false s k, ← j, not-true t l)
 
-          pub second-zone : (a : Bool) → not t ≡ false → a ≡ zone (take (length w - 8) (drop 8 w)) → a ≡ secondTime w
+          pub second-zone : (a : Bool) → not t ≡ false → a ≡ zone (take (length w - 8) (drop 8 w)) → a ≡ second_time w
           second-zone a l e = rw (← h, not-false r q, ← i, not-false s k, ← j, not-false t l) (rw (rest-is w 8) at e)
 
 -- so many parts
 module _ (good : Bool) (parts : ℕ) where
-  pub good-some : good ≡ true → some parts ≡ goodTime good parts
+  pub good-some : good ≡ true → some parts ≡ good_time good parts
   good-some q = rw q
 
-  pub good_none : good ≡ false → none ≡ goodTime good parts
+  pub good_none : good ≡ false → none ≡ good_time good parts
   good_none q = rw q
 
 -- a time by its shape
 module _ (w : List ℕ) (a : Option ℕ) (g r : Bool) (h : r ≡ shaped (bytes "dd:dd:dd") w) where
-  pub time-seconds : r ≡ true → g ≡ secondTime w → a ≡ goodTime g 3 → a ≡ timeOf w
-  unfolding timeOf
+  pub time-seconds : r ≡ true → g ≡ second_time w → a ≡ good_time g 3 → a ≡ time_of w
+  unfolding time_of
   time-seconds q e f = rw (← h, q, ← e) f
 
   module _ (n : r ≡ false) (s : Bool) (i : s ≡ shaped (bytes "dd:dd") w) where
-    pub time-minutes : s ≡ true → g ≡ minuteTime w → a ≡ goodTime g 2 → a ≡ timeOf w
-    unfolding timeOf
+    pub time-minutes : s ≡ true → g ≡ minute_time w → a ≡ good_time g 2 → a ≡ time_of w
+    unfolding time_of
     time-minutes q e f = rw (← h, n, ← i, q, ← e) f
 
     module _ (m : s ≡ false) (t : Bool) (j : t ≡ shaped (bytes "dd") w) where
-      pub time-hours : t ≡ true → g ≡ hourTime w → a ≡ goodTime g 1 → a ≡ timeOf w
-      unfolding timeOf
+      pub time-hours : t ≡ true → g ≡ hour_time w → a ≡ good_time g 1 → a ≡ time_of w
+      unfolding time_of
       time-hours q e f = rw (← h, n, ← i, m, ← j, q, ← e) f
 
 pub time-none : (w : List ℕ) (r s t : Bool) → r ≡ shaped (bytes "dd:dd:dd") w → r ≡ false → s ≡ shaped (bytes "dd:dd") w
     → s ≡ false
-    → t ≡ shaped (bytes "dd") w → t ≡ false → none ≡ timeOf w
-unfolding timeOf
+    → t ≡ shaped (bytes "dd") w → t ≡ false → none ≡ time_of w
+unfolding time_of
 time-none w r s t h n i m j q = rw (← h, n, ← i, m, ← j, q)
 
 pub ruleset steps = (

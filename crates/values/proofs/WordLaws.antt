@@ -10,17 +10,17 @@ use lib.Dec.{eqb, leb}
 use lib.ListN.{length, get_or}
 use borrow.Author.Tests.{eqb-true, eqb-false, le-leb, ne_eqb}
 use Rattle.lexis.specs.Text.{byte, bytes}
-use Rattle.lexis.specs.Bytes.{is, digit, sortOf}
+use Rattle.lexis.specs.Bytes.{is, digit, sort_of}
 use Rattle.lexis.specs.Runs.{same, all}
 use Rattle.lexis.proofs.Cases.{by_cond, and_left, and_right}
 use Rattle.lexis.proofs.QuickSteps.{digit-dash}
-use Rattle.values.specs.Integers.{value_of, plain, nought, notNegative, negative, integerOf}
-use Rattle.values.specs.Dates.{dateOf}
-use Rattle.values.specs.Times.{timeOf}
-use Rattle.values.specs.Durations.{durationOf}
-use Rattle.values.specs.Words.{booleanOf, reads, good}
+use Rattle.values.specs.Integers.{value_of, plain, nought, not_negative, negative, integer_of}
+use Rattle.values.specs.Dates.{date_of}
+use Rattle.values.specs.Times.{time_of}
+use Rattle.values.specs.Durations.{duration_of}
+use Rattle.values.specs.Words.{boolean_of, reads, good}
 use Rattle.values.proofs.Common.{Each, none_each, some-each, le_right}
-use Rattle.values.specs.WordRules.{IsBoolean, isTrue, isFalse, PlainNumber, IsInteger, IsGood}
+use Rattle.values.specs.WordRules.{IsBoolean, is_true, is_false, PlainNumber, IsInteger, IsGood}
 use Rattle.values.specs.WordRules
 use Rattle.lexis.proofs.TestLaws.{true-or-false, false-true, same-eq, or_cases}
 use Rattle.values.proofs.DigitLaws.{no-more, digits-say, say-digits}
@@ -29,21 +29,21 @@ use Rattle.values.proofs.TimeWordLaws.{time-word}
 use Rattle.values.proofs.DurationWordLaws.{duration-word}
 
 -- True and False
-boolean-by : (w : List ℕ) → Each (IsBoolean w) (booleanOf w)
-unfolding booleanOf
+boolean-by : (w : List ℕ) → Each (IsBoolean w) (boolean_of w)
+unfolding boolean_of
 boolean-by w =
     by_cond (Each (IsBoolean w)) (same (bytes "True") w)
-    (λ e. some-each (IsBoolean w) 1 (subst (λ (v : List ℕ). IsBoolean v 1) (same-eq (bytes "True") w e) isTrue))
+    (λ e. some-each (IsBoolean w) 1 (subst (λ (v : List ℕ). IsBoolean v 1) (same-eq (bytes "True") w e) is_true))
     (λ n. by_cond (Each (IsBoolean w)) (same (bytes "False") w)
-    (λ e. some-each (IsBoolean w) 2 (subst (λ (v : List ℕ). IsBoolean v 2) (same-eq (bytes "False") w e) isFalse))
+    (λ e. some-each (IsBoolean w) 2 (subst (λ (v : List ℕ). IsBoolean v 2) (same-eq (bytes "False") w e) is_false))
     (λ e. none_each (IsBoolean w)))
 
-boolean-of : {w : List ℕ} {b : ℕ} → IsBoolean w b → booleanOf w ≡ some b
-unfolding booleanOf same
-boolean-of isTrue = refl
-boolean-of isFalse = refl
+boolean-of : {w : List ℕ} {b : ℕ} → IsBoolean w b → boolean_of w ≡ some b
+unfolding boolean_of same
+boolean-of is_true = refl
+boolean-of is_false = refl
 
-pub boolean-word : (w : List ℕ) (b : ℕ) → (booleanOf w ≡ some b) ↔ IsBoolean w b
+pub boolean-word : (w : List ℕ) (b : ℕ) → (boolean_of w ≡ some b) ↔ IsBoolean w b
 boolean-word w b = (boolean-by w b, boolean-of)
 
 -- a number without needless zeros
@@ -62,7 +62,7 @@ plain_by (b ∷ w) e =
     (λ t. WordRules.other (eqb-false b (byte "0") t) (digits-say (b ∷ w) (and_left (all (is digit) (b ∷ w)) some (and_left (all (is digit) (b ∷ w) && some) first e))))
 
 plain_of : {ds : List ℕ} {n : ℕ} → PlainNumber ds n → (plain ds ≡ true) × (value_of 0 ds ≡ n)
-unfolding all value_of sortOf
+unfolding all value_of sort_of
 plain_of WordRules.nought = (refl, refl)
 plain_of (WordRules.other {b = b} {w = w} h s) =
     let t = say-digits s in
@@ -73,11 +73,11 @@ unfolding all
 unsigned WordRules.nought = refl
 unsigned (WordRules.other {b = b} {w = w} h s) = digit-dash b (and_left (is digit b) (all (is digit) w) (say-digits s).0)
 
-not-negative-by : (w : List ℕ) → Each (IsInteger w) (notNegative w)
+not-negative-by : (w : List ℕ) → Each (IsInteger w) (not_negative w)
 not-negative-by w =
     let n = value_of 0 w in
     by_cond (Each (IsInteger w)) (plain w && leb n 2_147_483_647)
-    (λ e. some-each (IsInteger w) (nought + n) (WordRules.notNegative (plain_by w (and_left (plain w) (leb n 2_147_483_647) e)) (le_right (plain w) n 2_147_483_647 e)))
+    (λ e. some-each (IsInteger w) (nought + n) (WordRules.not_negative (plain_by w (and_left (plain w) (leb n 2_147_483_647) e)) (le_right (plain w) n 2_147_483_647 e)))
     (λ e. none_each (IsInteger w))
 
 negative-by : (w : List ℕ) → Each (IsInteger (byte "-" ∷ w)) (negative w)
@@ -90,20 +90,20 @@ negative-by w =
     some-each P (nought - n) (WordRules.negative (plain_by w (and_left (plain w) (leb 1 n) h)) (le_right (plain w) 1 n h) (le_right (plain w && leb 1 n) n 2_147_483_648 e)))
     (λ e. none_each P)
 
-integer-by : (w : List ℕ) → Each (IsInteger w) (integerOf w)
-unfolding integerOf
+integer-by : (w : List ℕ) → Each (IsInteger w) (integer_of w)
+unfolding integer_of
 integer-by [] = not-negative-by []
 integer-by (b ∷ w) =
     by_cond (Each (IsInteger (b ∷ w))) (eqb b (byte "-"))
     (λ e. rw (eqb-true b (byte "-") e) (negative-by w))
     (λ e. not-negative-by (b ∷ w))
 
-integer-of : {w : List ℕ} {v : ℕ} → IsInteger w v → integerOf w ≡ some v
-unfolding integerOf
-integer-of (WordRules.notNegative {w = w} {n = n} p l) = let t = plain_of p in rw (unsigned p, t.0, t.1, le-leb n 2_147_483_647 l)
+integer-of : {w : List ℕ} {v : ℕ} → IsInteger w v → integer_of w ≡ some v
+unfolding integer_of
+integer-of (WordRules.not_negative {w = w} {n = n} p l) = let t = plain_of p in rw (unsigned p, t.0, t.1, le-leb n 2_147_483_647 l)
 integer-of (WordRules.negative {w = w} {n = n} p l h) = let t = plain_of p in rw (t.0, t.1, le-leb 1 n l, le-leb n 2_147_483_648 h)
 
-pub integer-word : (w : List ℕ) (v : ℕ) → (integerOf w ≡ some v) ↔ IsInteger w v
+pub integer-word : (w : List ℕ) (v : ℕ) → (integer_of w ≡ some v) ↔ IsInteger w v
 integer-word w v = (integer-by w v, integer-of)
 
 -- good words
@@ -114,28 +114,28 @@ reads-some (some a) e = (a, refl)
 good_of : {w : List ℕ} → IsGood w → good w ≡ true
 unfolding good
 good_of {w} (WordRules.boolean h) = rw (boolean-of h)
-good_of {w} (WordRules.integer h) = rw (integer-of h, or-true (reads (booleanOf w)))
-good_of {w} (WordRules.date h) = rw ((date-word w _).1 h, or-true (reads (booleanOf w) || reads (integerOf w)))
-good_of {w} (WordRules.time h) = rw ((time-word w _).1 h, or-true (reads (booleanOf w) || reads (integerOf w) || reads (dateOf w)))
+good_of {w} (WordRules.integer h) = rw (integer-of h, or-true (reads (boolean_of w)))
+good_of {w} (WordRules.date h) = rw ((date-word w _).1 h, or-true (reads (boolean_of w) || reads (integer_of w)))
+good_of {w} (WordRules.time h) = rw ((time-word w _).1 h, or-true (reads (boolean_of w) || reads (integer_of w) || reads (date_of w)))
 good_of {w} (WordRules.duration h) =
-    rw ((duration-word w _).1 h, or-true (reads (booleanOf w) || reads (integerOf w) || reads (dateOf w) || reads (timeOf w)))
+    rw ((duration-word w _).1 h, or-true (reads (boolean_of w) || reads (integer_of w) || reads (date_of w) || reads (time_of w)))
 
 good-by : (w : List ℕ) → good w ≡ true → IsGood w
 unfolding good
 good-by w t =
-    let a = reads (booleanOf w) in
-    let b = reads (integerOf w) in
-    let c = reads (dateOf w) in
-    let d = reads (timeOf w) in
-    or_cases (a || b || c || d) (reads (durationOf w)) t
+    let a = reads (boolean_of w) in
+    let b = reads (integer_of w) in
+    let c = reads (date_of w) in
+    let d = reads (time_of w) in
+    or_cases (a || b || c || d) (reads (duration_of w)) t
     (λ t. or_cases (a || b || c) d t
     (λ t. or_cases (a || b) c t
     (λ t. or_cases a b t
-    (λ e. let x = reads-some (booleanOf w) e in WordRules.boolean (boolean-by w x.0 x.1))
-    (λ e. let x = reads-some (integerOf w) e in WordRules.integer (integer-by w x.0 x.1)))
-    (λ e. let x = reads-some (dateOf w) e in WordRules.date ((date-word w x.0).0 x.1)))
-    (λ e. let x = reads-some (timeOf w) e in WordRules.time ((time-word w x.0).0 x.1)))
-    (λ e. let x = reads-some (durationOf w) e in WordRules.duration ((duration-word w x.0).0 x.1))
+    (λ e. let x = reads-some (boolean_of w) e in WordRules.boolean (boolean-by w x.0 x.1))
+    (λ e. let x = reads-some (integer_of w) e in WordRules.integer (integer-by w x.0 x.1)))
+    (λ e. let x = reads-some (date_of w) e in WordRules.date ((date-word w x.0).0 x.1)))
+    (λ e. let x = reads-some (time_of w) e in WordRules.time ((time-word w x.0).0 x.1)))
+    (λ e. let x = reads-some (duration_of w) e in WordRules.duration ((duration-word w x.0).0 x.1))
 
 pub good-word : (w : List ℕ) → (good w ≡ true) ↔ IsGood w
 good-word w = (good-by w, good_of)

@@ -6,12 +6,12 @@ use mathlib.Core.List.{List}
 use Prim.Native.Nat.{ℕ}
 use Rattle.lexis.specs.Text.{bytes}
 use Rattle.lexis.specs.Runs.{same, all}
-use Rattle.values.specs.Integers.{integerOf}
-use Rattle.values.specs.Dates.{exactly, dateOf}
-use Rattle.values.specs.Times.{timeOf}
-use Rattle.values.specs.Durations.{durationOf}
-use Rattle.values.specs.Words.{booleanOf, reads, good}
-use Rattle.values.specs.contracts.Answers.{integerAnswer, shortInteger, dateAnswer, timeAnswer, durationAnswer, booleanAnswer}
+use Rattle.values.specs.Integers.{integer_of}
+use Rattle.values.specs.Dates.{exactly, date_of}
+use Rattle.values.specs.Times.{time_of}
+use Rattle.values.specs.Durations.{duration_of}
+use Rattle.values.specs.Words.{boolean_of, reads, good}
+use Rattle.values.specs.Clauses.Answers.{integer_answer, short_integer, date_answer, time_answer, duration_answer, boolean_answer}
 use Rattle.values.specs.declared.integers.Number.{Number}
 use Rattle.values.specs.declared.integers.Number.TheVariants as number
 use Rattle.values.specs.declared.dates.Day.{Day}
@@ -35,50 +35,50 @@ module _ (w : List ℕ) (r : Bool) (h : r ≡ exactly (bytes "True") w) where
   unfolding all
   as-false = exactly-same (bytes "False") w refl
 
-  pub boolean-true : r ≡ true → some 1 ≡ booleanOf w
-  unfolding booleanOf
+  pub boolean-true : r ≡ true → some 1 ≡ boolean_of w
+  unfolding boolean_of
   boolean-true q = rw (← as-true, ← h, q)
 
   module _ (n : r ≡ false) (s : Bool) (i : s ≡ exactly (bytes "False") w) where
-    pub boolean-false : s ≡ true → some 2 ≡ booleanOf w
-    unfolding booleanOf
+    pub boolean-false : s ≡ true → some 2 ≡ boolean_of w
+    unfolding boolean_of
     boolean-false q = rw (← as-true, ← h, n, ← as-false, ← i, q)
 
-    pub boolean-none : s ≡ false → none ≡ booleanOf w
-    unfolding booleanOf
+    pub boolean-none : s ≡ false → none ≡ boolean_of w
+    unfolding boolean_of
     boolean-none q = rw (← as-true, ← h, n, ← as-false, ← i, q)
 
 -- few digits are a good word
-pub good-few-digits : (w : List ℕ) (r : Bool) → r ≡ shortInteger w → r ≡ true → true ≡ good w
+pub good-few-digits : (w : List ℕ) (r : Bool) → r ≡ short_integer w → r ≡ true → true ≡ good w
 unfolding good
-good-few-digits w r h e = rw (short-reads w (sym h ∙ e)) (second (reads (booleanOf w)) (reads (dateOf w)) (reads (timeOf w)) (reads (durationOf w)))
+good-few-digits w r h e = rw (short-reads w (sym h ∙ e)) (second (reads (boolean_of w)) (reads (date_of w)) (reads (time_of w)) (reads (duration_of w)))
   where
     second : (x y z v : Bool) → true ≡ (x || true || y || z || v)
     second true y z v = refl
     second false y z v = refl
 
 -- a good word, by the first that it reads as
-module _ (w : List ℕ) (b : Boolean) (hb : booleanAnswer b ≡ booleanOf w) where
+module _ (w : List ℕ) (b : Boolean) (hb : boolean_answer b ≡ boolean_of w) where
   pub good-boolean : (n : ℕ) → b ≡ boolean.Value n → true ≡ good w
   unfolding good
   good-boolean n q = rw (← hb, q)
 
-  module _ (nb : b ≡ boolean.Nothing) (i : Number) (hi : integerAnswer i ≡ integerOf w) where
+  module _ (nb : b ≡ boolean.Nothing) (i : Number) (hi : integer_answer i ≡ integer_of w) where
     pub good-integer : (n : ℕ) → i ≡ number.Value n → true ≡ good w
     unfolding good
     good-integer n q = rw (← hb, nb, ← hi, q)
 
-    module _ (ni : i ≡ number.Nothing) (d : Day) (hd : dateAnswer d ≡ dateOf w) where
+    module _ (ni : i ≡ number.Nothing) (d : Day) (hd : date_answer d ≡ date_of w) where
       pub good-date : (p n : ℕ) → d ≡ date.Value p n → true ≡ good w
       unfolding good
       good-date p n q = rw (← hb, nb, ← hi, ni, ← hd, q)
 
-      module _ (nd : d ≡ date.Nothing) (t : Parts) (ht : timeAnswer t ≡ timeOf w) where
+      module _ (nd : d ≡ date.Nothing) (t : Parts) (ht : time_answer t ≡ time_of w) where
         pub good-time : (n : ℕ) → t ≡ time.Value n → true ≡ good w
         unfolding good
         good-time n q = rw (← hb, nb, ← hi, ni, ← hd, nd, ← ht, q)
 
-        module _ (nt : t ≡ time.Nothing) (u : Duration) (hu : durationAnswer u ≡ durationOf w) where
+        module _ (nt : t ≡ time.Nothing) (u : Duration) (hu : duration_answer u ≡ duration_of w) where
           pub good-duration : (n : ℕ) → u ≡ duration.Value n → true ≡ good w
           unfolding good
           good-duration n q = rw (← hb, nb, ← hi, ni, ← hd, nd, ← ht, nt, ← hu, q)

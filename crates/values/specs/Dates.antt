@@ -17,15 +17,15 @@ abbrev pub exactly : List ℕ → List ℕ → Bool
 exactly shape w = eqb (length w) (length shape) && shaped shape w
 
 -- the number that n digits spell from a place on
-abbrev pub digitsAt : ℕ → ℕ → List ℕ → ℕ
-digitsAt at n w = value_of 0 (take n (drop at w))
+abbrev pub digits_at : ℕ → ℕ → List ℕ → ℕ
+digits_at at n w = value_of 0 (take n (drop at w))
 
-abbrev pub realDate : ℕ → ℕ → Option Date
-realDate parts day = cond (real day) (some (record { parts = parts; day = day })) none
+abbrev pub real_date : ℕ → ℕ → Option Date
+real_date parts day = cond (real day) (some (record { parts = parts; day = day })) none
 
-unfoldable pub dateOf : List ℕ → Option Date
-dateOf w =
-    cond (exactly (bytes "dddd") w) (realDate 1 (packed (digitsAt 0 4 w) 1 1))
-    (cond (exactly (bytes "dddd-dd") w) (realDate 2 (packed (digitsAt 0 4 w) (digitsAt 5 2 w) 1))
+unfoldable pub date_of : List ℕ → Option Date
+date_of w =
+    cond (exactly (bytes "dddd") w) (real_date 1 (packed (digits_at 0 4 w) 1 1))
+    (cond (exactly (bytes "dddd-dd") w) (real_date 2 (packed (digits_at 0 4 w) (digits_at 5 2 w) 1))
     (cond (exactly (bytes "dddd-dd-dd") w)
-    (realDate 3 (packed (digitsAt 0 4 w) (digitsAt 5 2 w) (digitsAt 8 2 w))) none))
+    (real_date 3 (packed (digits_at 0 4 w) (digits_at 5 2 w) (digits_at 8 2 w))) none))

@@ -1,17 +1,17 @@
 -- The days of the calendar, as rules. Document 01, 'Constraint text': "Gregorian months; leap years by 4, not 100, yet 400"; 'Table', kind 7: "year×10,000+month×100+day", and
--- "dates real, none after 9999-12-31". Proved one with real, leap, monthDays. Assumes nothing.
+-- "dates real, none after 9999-12-31". Proved one with real, leap, month_days. Assumes nothing.
 use Rattle.std.specs.Prelude.{◌≡◌, ◌≢◌, ℕ, ◌+◌, ◌*◌, ◌%◌, ◌≤◌}
 
 -- leap years by 4, not 100, yet 400
 pub data Leap (year : ℕ) : Type 0 where
-  byFour : year % 4 ≡ 0 → year % 100 ≢ 0 → Leap year
-  byFourHundred : year % 400 ≡ 0 → Leap year
+  by_four : year % 4 ≡ 0 → year % 100 ≢ 0 → Leap year
+  by_four_hundred : year % 400 ≡ 0 → Leap year
 
 -- the days of each month
 pub data MonthHas (year : ℕ) : (month days : ℕ) → Type 0 where
   january : MonthHas year 1 31
   february : ¬ Leap year → MonthHas year 2 28
-  leapFebruary : Leap year → MonthHas year 2 29
+  leap_february : Leap year → MonthHas year 2 29
   march : MonthHas year 3 31
   april : MonthHas year 4 30
   may : MonthHas year 5 31
@@ -25,8 +25,8 @@ pub data MonthHas (year : ℕ) : (month days : ℕ) → Type 0 where
 
 -- a day of the calendar, up to 9999-12-31
 pub data IsDay (year month day : ℕ) : Type 0 where
-  isDay : {days : ℕ} → year ≤ 9999 → MonthHas year month days → 1 ≤ day → day ≤ days → IsDay year month day
+  is_day : {days : ℕ} → year ≤ 9999 → MonthHas year month days → 1 ≤ day → day ≤ days → IsDay year month day
 
 -- a day packed into one number
 pub data PackedDay : ℕ → Type 0 where
-  packedDay : {year month day : ℕ} → IsDay year month day → PackedDay (year * 10_000 + month * 100 + day)
+  packed_day : {year month day : ℕ} → IsDay year month day → PackedDay (year * 10_000 + month * 100 + day)

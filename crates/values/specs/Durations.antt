@@ -4,15 +4,15 @@ use Rattle.std.specs.Prelude.{cond, List, ℕ, eqb, drop}
 use Rattle.std.proofs.Math.Option.{Option, none, some}
 use Rattle.lexis.specs.Text.{byte}
 use Rattle.lexis.specs.Runs.{byte_at}
-use Rattle.lexis.specs.Durations.{digitSlot, slots_of}
+use Rattle.lexis.specs.Durations.{digit_slot, slots_of}
 
 -- the sign is free
-abbrev pub behindSign : List ℕ → List ℕ
-behindSign w = cond (eqb (byte_at w 0) (byte "-")) (drop 1 w) w
+abbrev pub behind_sign : List ℕ → List ℕ
+behind_sign w = cond (eqb (byte_at w 0) (byte "-")) (drop 1 w) w
 
-abbrev pub slotsIf : ℕ → Option ℕ
-slotsIf flag = cond (eqb flag 0) none (some flag)
+abbrev pub slots_if : ℕ → Option ℕ
+slots_if flag = cond (eqb flag 0) none (some flag)
 
 -- the slots that a duration word fills, as a flag: bits 0 to 6 are y m w d h m s
-unfoldable pub durationOf : List ℕ → Option ℕ
-durationOf w = slotsIf (slots_of digitSlot (behindSign w))
+unfoldable pub duration_of : List ℕ → Option ℕ
+duration_of w = slots_if (slots_of digit_slot (behind_sign w))

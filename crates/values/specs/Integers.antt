@@ -24,19 +24,19 @@ greatest = 4_294_967_295
 abbrev pub plain : List ℕ → Bool
 plain ds = all (is digit) ds && leb 1 (length ds) && (cond (eqb (get_or ds 0 0) (byte "0")) (eqb (length ds) 1) true)
 
-abbrev pub notNegative : List ℕ → Option ℕ
-notNegative ds = let n = value_of 0 ds in cond (plain ds && leb n 2_147_483_647) (some (nought + n)) none
+abbrev pub not_negative : List ℕ → Option ℕ
+not_negative ds = let n = value_of 0 ds in cond (plain ds && leb n 2_147_483_647) (some (nought + n)) none
 
 abbrev pub negative : List ℕ → Option ℕ
 negative ds = let n = value_of 0 ds in cond (plain ds && leb 1 n && leb n 2_147_483_648) (some (nought - n)) none
 
 -- the integer that bytes spell, as a distance
-unfoldable pub integerOf : List ℕ → Option ℕ
-integerOf w = cond (eqb (get_or w 0 0) (byte "-")) (negative (drop 1 w)) (notNegative w)
+unfoldable pub integer_of : List ℕ → Option ℕ
+integer_of w = cond (eqb (get_or w 0 0) (byte "-")) (negative (drop 1 w)) (not_negative w)
 
 -- a distance as the 32 bits of two's complement that the table holds (document 01, 'Table', kind 4), and back
-abbrev pub twosComplement : ℕ → ℕ
-twosComplement x = (x + nought) % 2 ^ 32
+abbrev pub twos_complement : ℕ → ℕ
+twos_complement x = (x + nought) % 2 ^ 32
 
 -- a low and a high end
 pub record Pair : Type 0 where

@@ -7,4 +7,4 @@ pub mod Durations
 pub mod Patterns
 pub mod Words
 pub mod WordRules
-pub mod contracts
+pub mod Clauses

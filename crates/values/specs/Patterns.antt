@@ -4,24 +4,24 @@
 use Rattle.std.specs.Prelude.{Bool, true, false, cond, ◌&&◌, ◌||◌, List, [], ◌∷◌, ℕ, zero, suc, ◌-◌, ◌/◌, ◌%◌, eqb, get_or}
 
 pub data Part : Type 0 where
-  must may mustNot : Part
+  must may must_not : Part
 
 -- year, month, day
-abbrev pub datePatterns : List (List Part)
-datePatterns =
+abbrev pub date_patterns : List (List Part)
+date_patterns =
     (must ∷ must ∷ must ∷ [])
     ∷ (must ∷ must ∷ may ∷ [])
     ∷ (must ∷ may ∷ may ∷ [])
-    ∷ (must ∷ must ∷ mustNot ∷ [])
-    ∷ (must ∷ may ∷ mustNot ∷ [])
+    ∷ (must ∷ must ∷ must_not ∷ [])
+    ∷ (must ∷ may ∷ must_not ∷ [])
     ∷ []
 
 -- hour, minute, second
-abbrev pub timePatterns : List (List Part)
-timePatterns =
+abbrev pub time_patterns : List (List Part)
+time_patterns =
     (must ∷ must ∷ must ∷ [])
-    ∷ (must ∷ must ∷ mustNot ∷ [])
-    ∷ (must ∷ may ∷ mustNot ∷ [])
+    ∷ (must ∷ must ∷ must_not ∷ [])
+    ∷ (must ∷ may ∷ must_not ∷ [])
     ∷ (must ∷ may ∷ may ∷ [])
     ∷ []
 
@@ -29,8 +29,8 @@ timePatterns =
 abbrev pub suits : Part → Bool → Bool
 suits must there = there
 suits may there = true
-suits mustNot true = false
-suits mustNot false = true
+suits must_not true = false
+suits must_not false = true
 
 -- a value that has its first n parts, part by part
 unfoldable pub fits : List Part → ℕ → Bool
@@ -38,21 +38,21 @@ fits [] n = eqb n 0
 fits (p ∷ ps) n = suits p (cond (eqb n 0) false true) && fits ps (n - 1)
 
 -- by the pattern's flag, counted from 1
-unfoldable pub fitsDate : ℕ → ℕ → Bool
-fitsDate flag parts = fits (get_or ([] ∷ datePatterns) flag []) parts
+unfoldable pub fits_date : ℕ → ℕ → Bool
+fits_date flag parts = fits (get_or ([] ∷ date_patterns) flag []) parts
 
-unfoldable pub fitsTime : ℕ → ℕ → Bool
-fitsTime flag parts = fits (get_or ([] ∷ timePatterns) flag []) parts
+unfoldable pub fits_time : ℕ → ℕ → Bool
+fits_time flag parts = fits (get_or ([] ∷ time_patterns) flag []) parts
 
 -- a slot, by the lowest bit of what a value fills and of the pattern
-abbrev pub slotFits : ℕ → ℕ → Bool
-slotFits pattern filled = eqb (filled % 2) 0 || eqb (pattern % 2) 1
+abbrev pub slot_fits : ℕ → ℕ → Bool
+slot_fits pattern filled = eqb (filled % 2) 0 || eqb (pattern % 2) 1
 
 -- slot by slot, so many of them, from the lowest bit on
-unfoldable pub slotsFit : ℕ → ℕ → ℕ → Bool
-slotsFit zero pattern filled = true
-slotsFit (suc slots) pattern filled = slotFits pattern filled && slotsFit slots (pattern / 2) (filled / 2)
+unfoldable pub slots_fit : ℕ → ℕ → ℕ → Bool
+slots_fit zero pattern filled = true
+slots_fit (suc slots) pattern filled = slot_fits pattern filled && slots_fit slots (pattern / 2) (filled / 2)
 
 -- the slots y m w d h m s
-unfoldable pub fitsDuration : ℕ → ℕ → Bool
-fitsDuration pattern filled = slotsFit 7 pattern filled
+unfoldable pub fits_duration : ℕ → ℕ → Bool
+fits_duration pattern filled = slots_fit 7 pattern filled

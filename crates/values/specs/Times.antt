@@ -5,20 +5,20 @@ use Rattle.std.specs.Prelude.{Bool, cond, ◌&&◌, ◌||◌, List, ℕ, ◌+◌
 use Rattle.std.proofs.Math.Option.{Option, none, some}
 use Rattle.lexis.specs.Text.{bytes}
 use Rattle.lexis.specs.Runs.{same, shaped}
-use Rattle.values.specs.Dates.{exactly, digitsAt}
+use Rattle.values.specs.Dates.{exactly, digits_at}
 
 -- hours and minutes of a zone, 0 where no minutes are spelled
-abbrev pub zoneHours : List ℕ → ℕ
-zoneHours z = digitsAt 1 2 z
+abbrev pub zone_hours : List ℕ → ℕ
+zone_hours z = digits_at 1 2 z
 
-abbrev pub zoneMinutes : List ℕ → ℕ
-zoneMinutes z = digitsAt 4 2 z
+abbrev pub zone_minutes : List ℕ → ℕ
+zone_minutes z = digits_at 4 2 z
 
 abbrev pub east : List ℕ → Bool
-east z = leb (zoneHours z) 13 && leb (zoneMinutes z) 59
+east z = leb (zone_hours z) 13 && leb (zone_minutes z) 59
 
 abbrev pub west : List ℕ → Bool
-west z = leb (zoneHours z) 12 && leb (zoneMinutes z) 59 && leb 1 (zoneHours z + zoneMinutes z)
+west z = leb (zone_hours z) 12 && leb (zone_minutes z) 59 && leb 1 (zone_hours z + zone_minutes z)
 
 -- there is no zone, or a good one
 unfoldable pub zone : List ℕ → Bool
@@ -29,20 +29,20 @@ zone z =
     || (exactly (bytes "-dd") z || exactly (bytes "-dd:dd") z) && west z
 
 abbrev pub hours : List ℕ → Bool
-hours w = leb (digitsAt 0 2 w) 23
+hours w = leb (digits_at 0 2 w) 23
 
 abbrev pub minutes : List ℕ → Bool
-minutes w = leb (digitsAt 3 2 w) 59
+minutes w = leb (digits_at 3 2 w) 59
 
 abbrev pub seconds : List ℕ → Bool
-seconds w = leb (digitsAt 6 2 w) 59
+seconds w = leb (digits_at 6 2 w) 59
 
-abbrev pub goodTime : Bool → ℕ → Option ℕ
-goodTime good parts = cond good (some parts) none
+abbrev pub good_time : Bool → ℕ → Option ℕ
+good_time good parts = cond good (some parts) none
 
 -- how many of hours, minutes and seconds a word spells: where `:` and two digits go on, they are the next part
-unfoldable pub timeOf : List ℕ → Option ℕ
-timeOf w =
-    cond (shaped (bytes "dd:dd:dd") w) (goodTime (hours w && minutes w && seconds w && zone (drop 8 w)) 3)
-    (cond (shaped (bytes "dd:dd") w) (goodTime (hours w && minutes w && zone (drop 5 w)) 2)
-    (cond (shaped (bytes "dd") w) (goodTime (hours w && zone (drop 2 w)) 1) none))
+unfoldable pub time_of : List ℕ → Option ℕ
+time_of w =
+    cond (shaped (bytes "dd:dd:dd") w) (good_time (hours w && minutes w && seconds w && zone (drop 8 w)) 3)
+    (cond (shaped (bytes "dd:dd") w) (good_time (hours w && minutes w && zone (drop 5 w)) 2)
+    (cond (shaped (bytes "dd") w) (good_time (hours w && zone (drop 2 w)) 1) none))

@@ -1,8 +1,8 @@
 -- What a word says, as rules. Document 01, 'Constraint text': "An integer is spelled without needless zeros, isn't `-0`, and lies in -2,147,483,648..2,147,483,647"; 'Data text': "it is good
 -- if it reads as at least one of: True or False; an integer; a date `yyyy`, `yyyy-mm` or `yyyy-mm-dd`; a time `hh`, `hh:mm` or `hh:mm:ss` with optional zone. Hours 00..23 (002: 24:00:00
 -- nowhere), minutes and seconds 00..59. Zone: `Z`, or sign and two digits, alone or with `:` and two more digits; hours to 13 after `+`, to 12 after `-`, minutes 00..59; nought is never
--- `-`."; document 02, 1: "A duration word, good too, is an optional `-`, P and slots in that order .. A value is admitted when each slot it fills is in the pattern". Proved one with booleanOf,
--- integerOf, dateOf, zone, timeOf, durationOf, good, fitsDuration. Assumes nothing.
+-- `-`."; document 02, 1: "A duration word, good too, is an optional `-`, P and slots in that order .. A value is admitted when each slot it fills is in the pattern". Proved one with boolean_of,
+-- integer_of, date_of, zone, time_of, duration_of, good, fits_duration. Assumes nothing.
 use Rattle.std.specs.Prelude.{◌≡◌, ◌≢◌, List, [], ◌∷◌, ◌++◌, ℕ, suc, ◌+◌, ◌*◌, ◌-◌, ◌≤◌, ◌<◌, length}
 use Rattle.lexis.specs.Text.{byte, bytes}
 use Rattle.lexis.specs.DurationRules.{SlotsBehindP, DigitsAndLetter}
@@ -11,8 +11,8 @@ use Rattle.values.specs.Days.{IsDay}
 
 -- True is 1 and False 2, as in the flag of kind 3 ('Table')
 pub data IsBoolean : List ℕ → ℕ → Type 0 where
-  isTrue : IsBoolean (bytes "True") 1
-  isFalse : IsBoolean (bytes "False") 2
+  is_true : IsBoolean (bytes "True") 1
+  is_false : IsBoolean (bytes "False") 2
 
 -- digits and the number that they spell
 pub data DigitsSay : List ℕ → ℕ → Type 0 where
@@ -26,7 +26,7 @@ pub data PlainNumber : List ℕ → ℕ → Type 0 where
 
 -- an integer, as its distance from -2,147,483,648
 pub data IsInteger : List ℕ → ℕ → Type 0 where
-  notNegative : {w : List ℕ} {n : ℕ} → PlainNumber w n → n ≤ 2_147_483_647 → IsInteger w (2_147_483_648 + n)
+  not_negative : {w : List ℕ} {n : ℕ} → PlainNumber w n → n ≤ 2_147_483_647 → IsInteger w (2_147_483_648 + n)
   negative : {w : List ℕ} {n : ℕ} → PlainNumber w n → 1 ≤ n → n ≤ 2_147_483_648
       → IsInteger (byte "-" ∷ w) (2_147_483_648 - n)
 
@@ -51,10 +51,10 @@ pub data UpTo (most : ℕ) : List ℕ → ℕ → Type 0 where
 pub data IsZone : List ℕ → Type 0 where
   none : IsZone []
   utc : IsZone (bytes "Z")
-  eastHours : {h : List ℕ} {hours : ℕ} → UpTo 13 h hours → IsZone (byte "+" ∷ h)
+  east_hours : {h : List ℕ} {hours : ℕ} → UpTo 13 h hours → IsZone (byte "+" ∷ h)
   east : {h m : List ℕ} {hours minutes : ℕ} → UpTo 13 h hours → UpTo 59 m minutes
       → IsZone (byte "+" ∷ (h ++ (byte ":" ∷ m)))
-  westHours : {h : List ℕ} {hours : ℕ} → UpTo 12 h hours → hours ≢ 0 → IsZone (byte "-" ∷ h)
+  west_hours : {h : List ℕ} {hours : ℕ} → UpTo 12 h hours → hours ≢ 0 → IsZone (byte "-" ∷ h)
   west : {h m : List ℕ} {hours minutes : ℕ} → UpTo 12 h hours → UpTo 59 m minutes → hours + minutes ≢ 0
       → IsZone (byte "-" ∷ (h ++ (byte ":" ∷ m)))
 
@@ -75,8 +75,8 @@ pub data IsDuration : List ℕ → (flag : ℕ) → Type 0 where
 -- the flag has the bit with that number, counted from 0
 pub data HasBit : (flag bit : ℕ) → Type 0 where
   lowest : (half : ℕ) → HasBit (half * 2 + 1) 0
-  ofEven : {half bit : ℕ} → HasBit half bit → HasBit (half * 2) (suc bit)
-  ofOdd : {half bit : ℕ} → HasBit half bit → HasBit (half * 2 + 1) (suc bit)
+  of_even : {half bit : ℕ} → HasBit half bit → HasBit (half * 2) (suc bit)
+  of_odd : {half bit : ℕ} → HasBit half bit → HasBit (half * 2 + 1) (suc bit)
 
 -- each slot that is filled is in the pattern
 pub record SlotsWithin (pattern filled : ℕ) : Type 0 where

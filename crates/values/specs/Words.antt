@@ -4,14 +4,14 @@ use Rattle.std.specs.Prelude.{Bool, true, false, cond, ◌||◌, List, ℕ}
 use Rattle.std.proofs.Math.Option.{Option, none, some}
 use Rattle.lexis.specs.Text.{bytes}
 use Rattle.lexis.specs.Runs.{same}
-use Rattle.values.specs.Integers.{integerOf}
-use Rattle.values.specs.Dates.{dateOf}
-use Rattle.values.specs.Times.{timeOf}
-use Rattle.values.specs.Durations.{durationOf}
+use Rattle.values.specs.Integers.{integer_of}
+use Rattle.values.specs.Dates.{date_of}
+use Rattle.values.specs.Times.{time_of}
+use Rattle.values.specs.Durations.{duration_of}
 
 -- True is 1 and False 2, as in the flag of kind 3 ('Table')
-unfoldable pub booleanOf : List ℕ → Option ℕ
-booleanOf w = cond (same (bytes "True") w) (some 1) (cond (same (bytes "False") w) (some 2) none)
+unfoldable pub boolean_of : List ℕ → Option ℕ
+boolean_of w = cond (same (bytes "True") w) (some 1) (cond (same (bytes "False") w) (some 2) none)
 
 abbrev pub reads : {A : Type 0} → Option A → Bool
 reads none = false
@@ -19,4 +19,4 @@ reads (some a) = true
 
 unfoldable pub good : List ℕ → Bool
 good w =
-    reads (booleanOf w) || reads (integerOf w) || reads (dateOf w) || reads (timeOf w) || reads (durationOf w)
+    reads (boolean_of w) || reads (integer_of w) || reads (date_of w) || reads (time_of w) || reads (duration_of w)

@@ -1,6 +1,6 @@
 // The calendar: leap years, the days of a month, and a day's neighbours.
 ghost use Rattle.std.specs.Prelude.{◌≡◌, ◌<◌, ◌≤◌, ◌^◌};
-ghost use Rattle.values.specs.Calendar.{leap, monthDays, packed, real, firstDay, lastDay, dayAfter, dayBefore};
+ghost use Rattle.values.specs.Calendar.{leap, month_days, packed, real, first_day, last_day, day_after, day_before};
 
 // The days of January to December, behind a month that has none.
 const MONTHS: [u32; 13] = [0, 31, 28, 31, 30, 31, 30, 31, 31, 30, 31, 30, 31];
@@ -20,14 +20,14 @@ pub fn leap(y: u32) -> bool
 
 // The days of February.
 fn february_days(y: u32) -> u32
-    ensures { result ≡ monthDays y 2 }
+    ensures { result ≡ month_days y 2 }
 {
     if leap(y) { 29 } else { 28 }
 }
 
 // The days of a month, 0 where the year has no such month.
 pub fn month_days(y: u32, m: u32) -> u32
-    ensures { result ≡ monthDays y m }
+    ensures { result ≡ month_days y m }
 {
     if 12 < m {
         return 0;
@@ -62,8 +62,8 @@ pub fn real(p: u32) -> bool
 
 // The next calendar day.
 pub fn day_after(p: u32) -> u32
-    requires { p ≤ lastDay }
-    ensures { result ≡ dayAfter p }
+    requires { p ≤ last_day }
+    ensures { result ≡ day_after p }
 {
     let y = p / 10_000;
     let m = p / 100 % 100;
@@ -78,8 +78,8 @@ pub fn day_after(p: u32) -> u32
 
 // The calendar day before.
 pub fn day_before(p: u32) -> u32
-    requires { firstDay < p }
-    ensures { result ≡ dayBefore p }
+    requires { first_day < p }
+    ensures { result ≡ day_before p }
 {
     let y = p / 10_000;
     let m = p / 100 % 100;

@@ -1,7 +1,7 @@
 // Dates as they are spelled.
 ghost use Rattle.std.specs.Prelude.{◌≡◌, ◌≤◌, length};
-ghost use Rattle.values.specs.Dates.{realDate, dateOf};
-ghost use Rattle.values.specs.contracts.Answers.{yearDate, monthDate, dayDate, dateAnswer};
+ghost use Rattle.values.specs.Dates.{real_date, date_of};
+ghost use Rattle.values.specs.Clauses.Answers.{year_date, month_date, day_date, date_answer};
 
 use crate::calendar::{packed, real};
 use crate::shapes::{exactly, four_digits, two_digits};
@@ -15,7 +15,7 @@ pub enum Day {
 
 // The day, if the calendar has it.
 fn real_date(parts: u8, day: u32) -> Day
-    ensures { dateAnswer result ≡ realDate parts day }
+    ensures { date_answer result ≡ real_date parts day }
 {
     if real(day) {
         return Day::Value { parts, day };
@@ -26,7 +26,7 @@ fn real_date(parts: u8, day: u32) -> Day
 // yyyy
 fn year_date(w: &[u8]) -> Day
     requires { 4 ≤ length w.now }
-    ensures { dateAnswer result ≡ yearDate w.now }
+    ensures { date_answer result ≡ year_date w.now }
 {
     real_date(1, packed(four_digits(w), 1, 1))
 }
@@ -34,7 +34,7 @@ fn year_date(w: &[u8]) -> Day
 // yyyy-mm
 fn month_date(w: &[u8]) -> Day
     requires { 7 ≤ length w.now }
-    ensures { dateAnswer result ≡ monthDate w.now }
+    ensures { date_answer result ≡ month_date w.now }
 {
     real_date(2, packed(four_digits(w), two_digits(w, 5), 1))
 }
@@ -42,7 +42,7 @@ fn month_date(w: &[u8]) -> Day
 // yyyy-mm-dd
 fn day_date(w: &[u8]) -> Day
     requires { 10 ≤ length w.now }
-    ensures { dateAnswer result ≡ dayDate w.now }
+    ensures { date_answer result ≡ day_date w.now }
 {
     real_date(
         3,
@@ -52,7 +52,7 @@ fn day_date(w: &[u8]) -> Day
 
 // The date that bytes spell, whole or from the year on.
 pub fn date_of(w: &[u8]) -> Day
-    ensures { dateAnswer result ≡ dateOf w.now }
+    ensures { date_answer result ≡ date_of w.now }
 {
     if exactly(b"dddd", w) {
         return year_date(w);

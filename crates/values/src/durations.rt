@@ -1,7 +1,7 @@
 // Durations as they are spelled.
 ghost use Rattle.std.specs.Prelude.{◌≡◌};
-ghost use Rattle.values.specs.Durations.{slotsIf, durationOf};
-ghost use Rattle.values.specs.contracts.Answers.{durationAnswer};
+ghost use Rattle.values.specs.Durations.{slots_if, duration_of};
+ghost use Rattle.values.specs.Clauses.Answers.{duration_answer};
 
 use lexis::durations::word_slots;
 
@@ -14,7 +14,7 @@ pub enum Duration {
 
 // A duration that fills these slots, if there are any.
 fn slots_if(flag: u8) -> Duration
-    ensures { durationAnswer result ≡ slotsIf flag }
+    ensures { duration_answer result ≡ slots_if flag }
 {
     if flag == 0 {
         return Duration::Nothing;
@@ -24,7 +24,7 @@ fn slots_if(flag: u8) -> Duration
 
 // The duration that bytes spell, with or without a sign.
 pub fn duration_of(w: &[u8]) -> Duration
-    ensures { durationAnswer result ≡ durationOf w.now }
+    ensures { duration_answer result ≡ duration_of w.now }
 {
     if w.len() == 0 {
         return Duration::Nothing;

@@ -1,7 +1,7 @@
 // Integers, kept as their distance from -2,147,483,648.
 ghost use Rattle.std.specs.Prelude.{◌≡◌, true};
-ghost use Rattle.values.specs.Integers.{integerOf, negative, notNegative, twosComplement, magnitude, inside, pair, around};
-ghost use Rattle.values.specs.contracts.Answers.{integerAnswer, digitsFrom, plainNumber, shortInteger};
+ghost use Rattle.values.specs.Integers.{integer_of, negative, not_negative, twos_complement, magnitude, inside, pair, around};
+ghost use Rattle.values.specs.Clauses.Answers.{integer_answer, digits_from, plain_number, short_integer};
 
 use crate::shapes::digit_value;
 use lexis::runs::{Class, past_run};
@@ -22,7 +22,7 @@ pub const GREATEST: u32 = 4_294_967_295;
 
 // The number that digits spell, up to 2,147,483,648: a longer run is left as soon as it is larger.
 fn digits(ds: &[u8]) -> Number
-    ensures { integerAnswer result ≡ digitsFrom 0 ds.now }
+    ensures { integer_answer result ≡ digits_from 0 ds.now }
 {
     let mut n: u32 = 0;
     let mut i = 0;
@@ -44,7 +44,7 @@ fn digits(ds: &[u8]) -> Number
 
 // The same of digits without a needless zero in front.
 fn plain_number(ds: &[u8]) -> Number
-    ensures { integerAnswer result ≡ plainNumber ds.now }
+    ensures { integer_answer result ≡ plain_number ds.now }
 {
     if ds.len() == 0 {
         return Number::Nothing;
@@ -60,7 +60,7 @@ fn plain_number(ds: &[u8]) -> Number
 
 // An integer from the digits behind `-`.
 fn negative(ds: &[u8]) -> Number
-    ensures { integerAnswer result ≡ negative ds.now }
+    ensures { integer_answer result ≡ negative ds.now }
 {
     match plain_number(ds) {
         Number::Value(n) => {
@@ -75,7 +75,7 @@ fn negative(ds: &[u8]) -> Number
 
 // An integer from digits without `-`.
 fn not_negative(ds: &[u8]) -> Number
-    ensures { integerAnswer result ≡ notNegative ds.now }
+    ensures { integer_answer result ≡ not_negative ds.now }
 {
     match plain_number(ds) {
         Number::Value(n) => {
@@ -90,7 +90,7 @@ fn not_negative(ds: &[u8]) -> Number
 
 // The integer that bytes spell, as a distance.
 pub fn integer_of(w: &[u8]) -> Number
-    ensures { integerAnswer result ≡ integerOf w.now }
+    ensures { integer_answer result ≡ integer_of w.now }
 {
     if w.len() == 0 {
         return Number::Nothing;
@@ -106,7 +106,7 @@ const SHORT: usize = 9;
 
 // The bytes spell an integer with few digits and no `-`, which is then in the range.
 pub fn short_integer(w: &[u8]) -> bool
-    ensures { result ≡ shortInteger w.now }
+    ensures { result ≡ short_integer w.now }
 {
     if w.len() == 0 {
         return false;
@@ -125,7 +125,7 @@ pub fn short_integer(w: &[u8]) -> bool
 
 // A distance as 32 bits of two's complement, and back.
 pub fn twos_complement(x: u32) -> u32
-    ensures { result ≡ twosComplement x }
+    ensures { result ≡ twos_complement x }
 {
     if x < NOUGHT { x + NOUGHT } else { x - NOUGHT }
 }

@@ -1,7 +1,7 @@
 // Patterns of dates, times and durations, by their flags.
 ghost use Rattle.std.specs.Prelude.{◌≡◌};
 ghost use Rattle.lexis.specs.Bytes.{within};
-ghost use Rattle.values.specs.Patterns.{fitsDate, fitsTime, slotFits, fitsDuration};
+ghost use Rattle.values.specs.Patterns.{fits_date, fits_time, slot_fits, fits_duration};
 
 // The number lies between two others.
 fn within(low: u8, high: u8, n: u8) -> bool
@@ -15,7 +15,7 @@ fn within(low: u8, high: u8, n: u8) -> bool
 
 // A date with so many parts fits the pattern: yyyy-mm-dd, yyyy-mm-??, yyyy-??-??, yyyy-mm-XX, yyyy-??-XX.
 pub fn fits_date(flag: u8, parts: u8) -> bool
-    ensures { result ≡ fitsDate flag parts }
+    ensures { result ≡ fits_date flag parts }
 {
     match flag {
         0 => parts == 0,
@@ -30,7 +30,7 @@ pub fn fits_date(flag: u8, parts: u8) -> bool
 
 // A time with so many parts fits the pattern: Thh:mm:ss, Thh:mm:XX, Thh:??:XX, Thh:??:??.
 pub fn fits_time(flag: u8, parts: u8) -> bool
-    ensures { result ≡ fitsTime flag parts }
+    ensures { result ≡ fits_time flag parts }
 {
     match flag {
         0 => parts == 0,
@@ -44,7 +44,7 @@ pub fn fits_time(flag: u8, parts: u8) -> bool
 
 // The lowest slot is in the pattern where it is filled.
 fn slot_fits(pattern: u8, filled: u8) -> bool
-    ensures { result ≡ slotFits pattern filled }
+    ensures { result ≡ slot_fits pattern filled }
 {
     if filled % 2 == 0 {
         return true;
@@ -54,7 +54,7 @@ fn slot_fits(pattern: u8, filled: u8) -> bool
 
 // Each slot that a duration fills, of y, m, w, d, h, m and s, is in the pattern.
 pub fn fits_duration(pattern: u8, filled: u8) -> bool
-    ensures { result ≡ fitsDuration pattern filled }
+    ensures { result ≡ fits_duration pattern filled }
 {
     let mut p = pattern;
     let mut f = filled;

@@ -1,7 +1,7 @@
 // Bytes of a given shape, and the numbers that digits spell.
 ghost use Rattle.std.specs.Prelude.{◌≡◌, ◌+◌, ◌≤◌, length};
 ghost use Rattle.values.specs.Dates.{exactly};
-ghost use Rattle.values.specs.contracts.Answers.{DigitIs, DigitsAre};
+ghost use Rattle.values.specs.Clauses.Answers.{DigitIs, DigitsAre};
 
 use lexis::runs::shaped;
 

@@ -1,8 +1,8 @@
 // Times and zones as they are spelled.
 ghost use Rattle.std.specs.Prelude.{◌≡◌, ◌+◌, ◌≤◌, leb, length};
-ghost use Rattle.values.specs.Dates.{digitsAt};
-ghost use Rattle.values.specs.Times.{zone, goodTime, timeOf};
-ghost use Rattle.values.specs.contracts.Answers.{eastZone, westZone, hourTime, minuteTime, secondTime, timeAnswer};
+ghost use Rattle.values.specs.Dates.{digits_at};
+ghost use Rattle.values.specs.Times.{zone, good_time, time_of};
+ghost use Rattle.values.specs.Clauses.Answers.{east_zone, west_zone, hour_time, minute_time, second_time, time_answer};
 
 use crate::shapes::{exactly, two_digits};
 use lexis::runs::shaped;
@@ -32,14 +32,14 @@ pub enum Parts {
 // Two digits spell a number up to a limit.
 fn up_to(w: &[u8], at: usize, most: u32) -> bool
     requires { at + 2 ≤ length w.now }
-    ensures { result ≡ leb (digitsAt at 2 w.now) most }
+    ensures { result ≡ leb (digits_at at 2 w.now) most }
 {
     two_digits(w, at) <= most
 }
 
 // A zone with `+`.
 fn east(z: &[u8]) -> bool
-    ensures { result ≡ eastZone z.now }
+    ensures { result ≡ east_zone z.now }
 {
     if exactly(b"+dd", z) {
         return up_to(z, 1, MOST_EAST);
@@ -55,7 +55,7 @@ fn east(z: &[u8]) -> bool
 
 // A zone with `-`, which nought never has.
 fn west(z: &[u8]) -> bool
-    ensures { result ≡ westZone z.now }
+    ensures { result ≡ west_zone z.now }
 {
     if exactly(b"-dd", z) {
         let h = two_digits(z, 1);
@@ -97,7 +97,7 @@ pub fn zone(z: &[u8]) -> bool
 // hh
 fn hour_time(w: &[u8]) -> bool
     requires { 2 ≤ length w.now }
-    ensures { result ≡ hourTime w.now }
+    ensures { result ≡ hour_time w.now }
 {
     if !up_to(w, 0, LAST_HOUR) {
         return false;
@@ -108,7 +108,7 @@ fn hour_time(w: &[u8]) -> bool
 // hh:mm
 fn minute_time(w: &[u8]) -> bool
     requires { 5 ≤ length w.now }
-    ensures { result ≡ minuteTime w.now }
+    ensures { result ≡ minute_time w.now }
 {
     if !up_to(w, 0, LAST_HOUR) {
         return false;
@@ -122,7 +122,7 @@ fn minute_time(w: &[u8]) -> bool
 // hh:mm:ss
 fn second_time(w: &[u8]) -> bool
     requires { 8 ≤ length w.now }
-    ensures { result ≡ secondTime w.now }
+    ensures { result ≡ second_time w.now }
 {
     if !up_to(w, 0, LAST_HOUR) {
         return false;
@@ -138,7 +138,7 @@ fn second_time(w: &[u8]) -> bool
 
 // So many parts, if they are good.
 fn good_time(good: bool, parts: u8) -> Parts
-    ensures { timeAnswer result ≡ goodTime good parts }
+    ensures { time_answer result ≡ good_time good parts }
 {
     if good {
         return Parts::Value(parts);
@@ -148,7 +148,7 @@ fn good_time(good: bool, parts: u8) -> Parts
 
 // The time that bytes spell, whole or from the hour on, with or without a zone.
 pub fn time_of(w: &[u8]) -> Parts
-    ensures { timeAnswer result ≡ timeOf w.now }
+    ensures { time_answer result ≡ time_of w.now }
 {
     if shaped(w, 0, b"dd:dd:dd") {
         return good_time(second_time(w), 3);

@@ -1,7 +1,7 @@
 // Words: what they read as.
 ghost use Rattle.std.specs.Prelude.{◌≡◌};
-ghost use Rattle.values.specs.Words.{booleanOf, good};
-ghost use Rattle.values.specs.contracts.Answers.{booleanAnswer};
+ghost use Rattle.values.specs.Words.{boolean_of, good};
+ghost use Rattle.values.specs.Clauses.Answers.{boolean_answer};
 
 use crate::dates::{Day, date_of};
 use crate::durations::{Duration, duration_of};
@@ -18,7 +18,7 @@ pub enum Boolean {
 
 // The Boolean that bytes spell.
 pub fn boolean_of(w: &[u8]) -> Boolean
-    ensures { booleanAnswer result ≡ booleanOf w.now }
+    ensures { boolean_answer result ≡ boolean_of w.now }
 {
     if exactly(b"True", w) {
         return Boolean::Value(1);

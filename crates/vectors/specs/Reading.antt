@@ -5,8 +5,8 @@ use Rattle.table.specs.Order.{get}
 use Rattle.vectors.specs.declared.reading.Head.{Head}
 
 -- what a case begins with, by six bytes of which so many were read: its kind, its order, and a number with the highest byte first; kind 0 where there are fewer
-abbrev pub caseHead : List ℕ → ℕ → Head
-caseHead bs n =
+abbrev pub case_head : List ℕ → ℕ → Head
+case_head bs n =
     cond (ltb n 6) (record { kind = 0; little = false; number = 0 })
     (record { kind = get_or bs 0 0; little = eqb (get_or bs 1 0) 1; number = get false (take 4 (drop 2 bs)) })
 
@@ -14,7 +14,7 @@ caseHead bs n =
 pub record HeadRead (r : Head) : Type 0 where
   pub bytes : List ℕ
   pub count : ℕ
-  pub is : r ≡ caseHead bytes count
+  pub is : r ≡ case_head bytes count
 
 -- r lies between a place and the buffer's end, and the buffer is as long as before
 pub record Grown (at : ℕ) (before after : List ℕ) (r : ℕ) : Type 0 where

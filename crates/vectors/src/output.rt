@@ -1,6 +1,6 @@
 // Answers, printed.
 ghost use Rattle.std.specs.Prelude.{◌≡◌, ◌<◌};
-ghost use Rattle.vectors.specs.Digests.{digestOf};
+ghost use Rattle.vectors.specs.Digests.{digest_of};
 
 use refusals::Refusal;
 use refusals::numbers::number;
@@ -32,7 +32,7 @@ fn wide(b: u8) -> u64
 
 // A number by which a buffer's bytes are compared with those expected.
 pub fn digest(bytes: &[u8]) -> u64
-    ensures { result ≡ digestOf bytes.now }
+    ensures { result ≡ digest_of bytes.now }
 {
     let mut sum: u64 = 0;
     let mut i = 0;

@@ -6,7 +6,7 @@
 // the row.
 ghost use Rattle.std.specs.Prelude.{◌≤◌, ◌≡◌, length};
 ghost use Rattle.io.specs.Counts.{IsPrefixLen};
-ghost use Rattle.vectors.specs.Reading.{caseHead, HeadRead, Grown, cut, Copied};
+ghost use Rattle.vectors.specs.Reading.{case_head, HeadRead, Grown, cut, Copied};
 
 use table::order::{get16, get32};
 
@@ -26,7 +26,7 @@ pub struct Head {
 // What six bytes say that a case begins with; none where fewer were read.
 fn head_of(head: &[u8], n: usize) -> Head
     requires { 6 ≤ length head.now }
-    ensures { result ≡ caseHead head.now n }
+    ensures { result ≡ case_head head.now n }
 {
     if n < 6 {
         return Head {

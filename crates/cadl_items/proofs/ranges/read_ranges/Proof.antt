@@ -1,7 +1,7 @@
 -- `cadl_items::ranges::read_ranges` meets its contract. Assumes nothing.
 use borrow.Author.Rules.{rules}
 use Prim.Native.Nat.{◌-◌}
-use Rattle.refusals.specs.Limits.{itemLimit}
+use Rattle.refusals.specs.Limits.{item_limit}
 use Rattle.cadl_items.proofs.RangeSteps.{InRanges, ranges-faulty, ranges-last, ranges-start, ranges-room, ranges-less, ranges_more}
 use Rattle.cadl_items.proofs.ranges.read_ranges.Statement.{statement}
 use Rattle.cadl_items.proofs.ranges.read_ranges.Tie as tie
@@ -10,7 +10,7 @@ abbrev invariant-loop : tie.invariant-loop
 invariant-loop s number from scratch₀ kind₀ count₀ at₀ scratch kind count at = InRanges s number from scratch kind count at
 
 abbrev decreases-loop : tie.decreases-loop
-decreases-loop s number from scratch₀ kind₀ count₀ at₀ scratch kind count at = itemLimit - count
+decreases-loop s number from scratch₀ kind₀ count₀ at₀ scratch kind count at = item_limit - count
 
 pub read-ranges-spec : {M : Type 1} → statement M
 read-ranges-spec =

@@ -1,7 +1,7 @@
 -- `cadl_items::strings::read_strings` meets its contract. Assumes nothing.
 use borrow.Author.Rules.{rules}
 use Prim.Native.Nat.{◌-◌}
-use Rattle.refusals.specs.Limits.{itemLimit}
+use Rattle.refusals.specs.Limits.{item_limit}
 use Rattle.cadl_items.proofs.StringSteps.{InStrings, strings-start, strings-room, strings-faulty, strings-last, strings-less, strings-more}
 use Rattle.cadl_items.proofs.strings.read_strings.Statement.{statement}
 use Rattle.cadl_items.proofs.strings.read_strings.Tie as tie
@@ -10,7 +10,7 @@ abbrev invariant-loop : tie.invariant-loop
 invariant-loop s number from scratch₀ count₀ at₀ scratch count at = InStrings s number from scratch count at
 
 abbrev decreases-loop : tie.decreases-loop
-decreases-loop s number from scratch₀ count₀ at₀ scratch count at = itemLimit - count
+decreases-loop s number from scratch₀ count₀ at₀ scratch count at = item_limit - count
 
 pub read-strings-spec : {M : Type 1} → statement M
 read-strings-spec =

@@ -2,12 +2,12 @@
 use Prim.Native.Nat.{◌-◌}
 use borrow.Author.Rules.{rules}
 use Rattle.compile_emission.proofs.WritingSteps.{InRanges, ranges-start, ranges-go-on, ranges-end}
-use Rattle.cadl_items.specs.contracts.Answers.{rangeSortOf}
+use Rattle.cadl_items.specs.Clauses.Answers.{range_sort_of}
 use Rattle.compile_emission.proofs.lists.put_ranges.Statement.{statement}
 use Rattle.compile_emission.proofs.lists.put_ranges.Tie as tie
 
 abbrev invariant-loop : tie.invariant-loop
-invariant-loop records₀ little p sort scratch count place end i₀ records i = InRanges little p (rangeSortOf sort) scratch count end records₀ i records
+invariant-loop records₀ little p sort scratch count place end i₀ records i = InRanges little p (range_sort_of sort) scratch count end records₀ i records
 
 abbrev decreases-loop : tie.decreases-loop
 decreases-loop records₀ little p sort scratch count place end i₀ records i = count - i

@@ -2,7 +2,7 @@
 use Prim.Native.Nat.{ℕ, ◌+◌, ◌*◌, ◌-◌, ◌<◌}
 use lib.ListN.{length}
 use borrow.Author.Rules.{rules}
-use Rattle.refusals.specs.Limits.{levelLimit}
+use Rattle.refusals.specs.Limits.{level_limit}
 use Rattle.dadl.proofs.BlockSteps.{InMembers, block-deep, block-inner, block-members, member-faulty, leaf-finish, leaf-member, block_room, block_refused, block-count, block-finish, block-member, members-start, members-close, members-fault, member-room, member-earlier, member-less, member-next, member-not}
 use borrow.Fn.Kinds.{In}
 use borrow.Fn.PlainCycle.{Measures, is, falls, and}
@@ -219,7 +219,7 @@ abbrev read-members-Inv-loop : read-members-lts.invariant-loop
 read-members-Inv-loop s levels from tape₀ n rows₀ t₀ tape rows t = InMembers s levels from n tape₀ rows t tape
 
 abbrev read-members-μ-loop : read-members-lts.decreases-loop
-read-members-μ-loop s levels from tape₀ n rows₀ t₀ tape rows t = length s + levelLimit - rows
+read-members-μ-loop s levels from tape₀ n rows₀ t₀ tape rows t = length s + level_limit - rows
 
 read-members-data-token-at-requires : (t : ℕ)
     → read-members-lts.Need-data-token-at-requires (read-members-calls t)

@@ -3,7 +3,7 @@ use mathlib.Core.Path.{sym, ◌∙◌}
 use lib.Dec.{lit<}
 use lib.ListN.{length, length-replicate}
 use borrow.Author.Rules.{rules}
-use Rattle.judge.proofs.WalkSteps.{InAttributes, effort, effortOfMemo, memo-effort, object-lies, object-name, visit-small, type-differs, attributes-start, visit-near, attributes-end, attributes-chain, attributes-known, attribute-lies, attribute-at, attribute-less, told-valid, told-fails, levels-some, levels-fall, memo-fall, nested-under, nested-valid, nested-fails}
+use Rattle.judge.proofs.WalkSteps.{InAttributes, effort, effort_of_memo, memo-effort, object-lies, object-name, visit-small, type-differs, attributes-start, visit-near, attributes-end, attributes-chain, attributes-known, attribute-lies, attribute-at, attribute-less, told-valid, told-fails, levels-some, levels-fall, memo-fall, nested-under, nested-valid, nested-fails}
 use Rattle.judge_tape.proofs.MemoLaws.{memo-zeros}
 use Rattle.judge_admission.proofs.ItemSteps.{left}
 use Prim.Native.Nat.{ℕ, ◌<◌}
@@ -30,7 +30,7 @@ abbrev μ-judge-block : Measures 6 judge-block-kinds.ps ℕ
 μ-judge-block κs a = effort a.1.1.1.1.1.1.1.0 (length a.1.1.1.1.1.0.now)
 
 abbrev μ-judge-with-memo : Measures 4 judge-with-memo-kinds.ps ℕ
-μ-judge-with-memo κs a = effortOfMemo a.1.1.1.1.1.0
+μ-judge-with-memo κs a = effort_of_memo a.1.1.1.1.1.0
 
 abbrev judge-block-at : ℕ → In 6 judge-block-kinds.ps
 judge-block-at t =
@@ -287,11 +287,11 @@ judge-block-same-length-3 : (t : ℕ)
     → judge-block-lts.Need-same-length-3 (judge-block-calls t)
     (judge-block-at t) judge-block.Post judge-block-Inv-loop judge-block-μ-loop
 judge-block-same-length-3 t c =
-    let keptInside = c.before.before.before.before in
-    let kept = keptInside.before.before.before.before.before.before.before.before in
+    let kept_inside = c.before.before.before.before in
+    let kept = kept_inside.before.before.before.before.before.before.before.before in
     let turn = kept.before.before.before.before.before.before.before.before.before.before.before in
     let lent = turn.before.before in
-    keptInside.memo3.given ∙ kept.memo2.given ∙ turn.loop.invariant.same ∙ lent.memo.given
+    kept_inside.memo3.given ∙ kept.memo2.given ∙ turn.loop.invariant.same ∙ lent.memo.given
 
 judge-block-returns-4 : (t : ℕ)
     → judge-block-lts.Need-returns-4 (judge-block-calls t)

@@ -42,22 +42,22 @@ use denote.Triple.Table.{entered, cited}
 use denote.Triple.Walked.{says, Stays, stay_none, walk_of, Goes-none, Walks, ends_at, walked, walk_Meets}
 use denote.Exit.{yes}
 use denote.Triple.Clauses.{ensured, lasts}
-use Rattle.lexis.specs.contracts.Answers.{tokenBy}
+use Rattle.lexis.specs.Clauses.Answers.{token_by}
 use Rattle.lexis.specs.declared.Token.{Token}
 use Rattle.lexis.specs.declared.reader.Reader.{Reader}
 use Rattle.lexis.specs.declared.reader.Tokens.{Tokens}
-use Rattle.lexis.specs.contracts.reader.Reader as T
+use Rattle.lexis.specs.Clauses.reader.Reader as T
 use Rattle.lexis.proofs.reader.Reader.TheLaws as T'
-use Rattle.lexis.specs.contracts.reader.Tokens as E
+use Rattle.lexis.specs.Clauses.reader.Tokens as E
 use Rattle.lexis.proofs.reader.Tokens.TheLaws as E'
-use Rattle.lexis.specs.contracts.Token as S
+use Rattle.lexis.specs.Clauses.Token as S
 use Rattle.lexis.proofs.Token.TheLaws as S'
-use Rattle.lexis.specs.contracts.reader.token_of as work
+use Rattle.lexis.specs.Clauses.reader.token_of as work
 use Rattle.lexis.proofs.reader.token_of.Symbol as work-def
 use Rattle.lexis.proofs.reader.token_of.Symbol.{name as #lexis·reader·token-of}
 use Rattle.lexis.proofs.reader.token_of.Met as work-thm
-use Rattle.lexis.specs.contracts.reader.next.Key.{name as #lexis·reader·next}
-use Rattle.lexis.specs.contracts.reader.next as next
+use Rattle.lexis.specs.Clauses.reader.next.Key.{name as #lexis·reader·next}
+use Rattle.lexis.specs.Clauses.reader.next as next
 use Rattle.lexis.proofs.reader.next.Statement as stated
 use Rattle.lexis.proofs.reader.next.Code as code
 
@@ -91,7 +91,7 @@ module _ {M : Type 1} {𝓤 : Ura M} (𝓛 : Logic 𝓤) (mem : Memory → SProp
   at = (mach ∷ [], (c ∷ [], tt))
 
   abbrev found : Token
-  found = tokenBy k d.text.now d.place
+  found = token_by k d.text.now d.place
 
   abbrev Post : Val → SProp 𝓤
   Post = (walk_of 𝓛 next.ended stayed (next.clauses 𝓛 mem run)).post (((κ, tt), (q, tt), tt, (d, (k, tt)), at), tt)

@@ -39,26 +39,26 @@ use denote.Triple.Table.{entered, cited}
 use denote.Triple.Walked.{says, Stays, stay_none, stay_none_slice, walk_of, Goes-none, Goes-none_slice, Walks, ends_at, walked, walk_Meets}
 use denote.Exit.{yes}
 use denote.Triple.Clauses.{ensured, lasts}
-use Rattle.lexis.specs.contracts.Answers.{tokenBy}
+use Rattle.lexis.specs.Clauses.Answers.{token_by}
 use Rattle.lexis.specs.declared.Token.{Token}
 use Rattle.lexis.specs.declared.reader.Reader.{Reader}
 use Rattle.lexis.specs.declared.reader.Tokens.{Tokens}
-use Rattle.lexis.specs.contracts.reader.Reader as T
+use Rattle.lexis.specs.Clauses.reader.Reader as T
 use Rattle.lexis.proofs.reader.Reader.TheLaws as T'
-use Rattle.lexis.specs.contracts.reader.Tokens as E
+use Rattle.lexis.specs.Clauses.reader.Tokens as E
 use Rattle.lexis.proofs.reader.Tokens.TheLaws as E'
-use Rattle.lexis.specs.contracts.Token as S
+use Rattle.lexis.specs.Clauses.Token as S
 use Rattle.lexis.proofs.Token.TheLaws as S'
-use Rattle.lexis.specs.contracts.reader.reader_at as new
+use Rattle.lexis.specs.Clauses.reader.reader_at as new
 use Rattle.lexis.proofs.reader.reader_at.Symbol as new-def
 use Rattle.lexis.proofs.reader.reader_at.Symbol.{name as #lexis·reader·reader-at}
 use Rattle.lexis.proofs.reader.reader_at.Met as new-thm
-use Rattle.lexis.specs.contracts.reader.next as next
+use Rattle.lexis.specs.Clauses.reader.next as next
 use Rattle.lexis.proofs.reader.next.Symbol as next-def
 use Rattle.lexis.proofs.reader.next.Symbol.{name as #lexis·reader·next}
 use Rattle.lexis.proofs.reader.next.Met as next-thm
-use Rattle.lexis.specs.contracts.reader.token_from.Key.{name as #lexis·reader·token-from}
-use Rattle.lexis.specs.contracts.reader.token_from as first
+use Rattle.lexis.specs.Clauses.reader.token_from.Key.{name as #lexis·reader·token-from}
+use Rattle.lexis.specs.Clauses.reader.token_from as first
 use Rattle.lexis.proofs.reader.token_from.Statement as stated
 use Rattle.lexis.proofs.reader.token_from.Code as code
 
@@ -92,7 +92,7 @@ module _ {M : Type 1} {𝓤 : Ura M} (𝓛 : Logic 𝓤) (mem : Memory → SProp
   at = (v ∷ [], (vint w64 n ∷ [], (c ∷ [], tt)))
 
   abbrev found : Token
-  found = tokenBy k s.now n
+  found = token_by k s.now n
 
   -- the reader's type as a local of a body has it
   abbrev αᵉ : NamedLft
@@ -119,8 +119,8 @@ module _ {M : Type 1} {𝓤 : Ura M} (𝓛 : Logic 𝓤) (mem : Memory → SProp
 
   next-said : (r : Reader) (t : Token)
       → ent 𝓤 (ensured 𝓛 next.ended (next.clauses 𝓛 mem run) (κ, tt) (r, (k, tt)) tt t)
-      (fact 𝓤 (t ≡ tokenBy k r.text.now r.place))
-  next-said r t = ex_e 𝓤 _ (λ ws. snd∗ 𝓤 (sem 𝓛 (lasts next.ended (κ, tt) (r, (k, tt)) ws)) (fact 𝓤 (t ≡ tokenBy k r.text.now r.place)))
+      (fact 𝓤 (t ≡ token_by k r.text.now r.place))
+  next-said r t = ex_e 𝓤 _ (λ ws. snd∗ 𝓤 (sem 𝓛 (lasts next.ended (κ, tt) (r, (k, tt)) ws)) (fact 𝓤 (t ≡ token_by k r.text.now r.place)))
 
   module _ (ok : n < 2 ^ 64) (is-k : Is E.the_row k (c ∷ [])) where
     goes-new : ent 𝓤 (on_entry 𝓛 first.signature (κ, tt) (q, tt) (s, (n, (k, tt))) at)
@@ -165,13 +165,13 @@ module _ {M : Type 1} {𝓤 : Ura M} (𝓛 : Logic 𝓤) (mem : Memory → SProp
           use2 𝓛 (raw ((Next 𝓛 mem run).pre (to-next r u))) (goes-next r u) $
           calls_at ! fm (Next 𝓛 mem run) known_next (to-next r u) (and_then ! (load ! (from ! (stop !)) (look ! 2 refl)) (and_then ! (load ! (from ! (stop !)) (look ! 4 refl)) (no_more !))) (λ u'.
           use1 𝓛 (later (some (λ (t : Token). ((‵ (flft κ q) ⊛ ‵ ftrue) ⊛ ‵ ((S.the_row).own_val t (u' ∷ []))) ⊛ raw (ensured 𝓛 next.ended (next.clauses 𝓛 mem run) (κ, tt) (r, (k, tt)) tt t)))) (id⊢ 𝓤 _) $ await ! tt $ pick ! (λ t.
-          split ! $ move ! (1 ∷ []) $ use1 𝓛 (raw (fact 𝓤 (t ≡ tokenBy k r.text.now r.place))) (next-said r t) $ heard ! (t ≡ tokenBy k r.text.now r.place) (λ e'. split ! $ move ! (1 ∷ []) $
+          split ! $ move ! (1 ∷ []) $ use1 𝓛 (raw (fact 𝓤 (t ≡ token_by k r.text.now r.place))) (next-said r t) $ heard ! (t ≡ token_by k r.text.now r.place) (λ e'. split ! $ move ! (1 ∷ []) $
           -- [the result; the token; what s owns; _4; …; _3; …; _2; …; _1; …; room for _0; …]
           peeks ! S.the_row (Is S.the_row) (shows 𝓛 S.the_row) t (u' ∷ []) (λ is'.
           land ! (from ! (stop !)) (init ! 11 refl ((LL.lawful S.the_type S'.the_laws 𝓛).typed t _ is').0) $
           returns ! (look ! 11 refl) $ forget ! 3 refl $ forget ! 5 refl $ forget ! 7 refl $ forget ! 9 refl $ forget ! 11 refl $
           move ! (11 ∷ 12 ∷ []) $ free1 ! $ move ! (9 ∷ 10 ∷ []) $ free1 ! $ move ! (7 ∷ 8 ∷ []) $ free1 ! $ move ! (5 ∷ 6 ∷ []) $ free1 ! $ move ! (3 ∷ 4 ∷ []) $ free1 ! $ free0 ! $
-          by ! (exits t u' (e' ∙ (ap (λ (x : Bor (List ℕ)). tokenBy k x.now r.place) e.0 ∙ ap (tokenBy k s.now) e.1))))))))))))))))
+          by ! (exits t u' (e' ∙ (ap (λ (x : Bor (List ℕ)). token_by k x.now r.place) e.0 ∙ ap (token_by k s.now) e.1))))))))))))))))
 
 module _ {M : Type 1} {𝓤 : Ura M} (𝓛 : Logic 𝓤) (mem : Memory → SProp 𝓤)
     (run : Routine → Fun 𝓤) where

@@ -2,13 +2,13 @@
 use Prim.Native.Nat.{◌-◌}
 use lib.ListN.{length, drop}
 use borrow.Author.Rules.{rules}
-use Rattle.lexis.specs.contracts.Answers.{admits, beginsBy}
+use Rattle.lexis.specs.Clauses.Answers.{admits, begins_by}
 use Rattle.lexis.proofs.RunSteps.{InWord, begins-short, word_first, word_end, word_out, word_on}
 use Rattle.lexis.proofs.runs.begins.Statement.{statement}
 use Rattle.lexis.proofs.runs.begins.Tie as tie
 
 abbrev invariant-loop : tie.invariant-loop
-invariant-loop s at w shape i₀ i = InWord (admits shape) w s at i (beginsBy (admits shape) w (drop at s))
+invariant-loop s at w shape i₀ i = InWord (admits shape) w s at i (begins_by (admits shape) w (drop at s))
 
 abbrev decreases-loop : tie.decreases-loop
 decreases-loop s at w shape i₀ i = length w - i

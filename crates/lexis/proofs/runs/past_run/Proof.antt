@@ -3,7 +3,7 @@ use Prim.Native.Nat.{◌-◌}
 use lib.ListN.{length, drop}
 use borrow.Author.Rules.{rules}
 use Rattle.lexis.specs.Runs.{past}
-use Rattle.lexis.specs.contracts.Answers.{test_of}
+use Rattle.lexis.specs.Clauses.Answers.{test_of}
 use Rattle.lexis.proofs.RunSteps.{InRun, run-first, run_end, run_out, run_on}
 use Rattle.lexis.proofs.runs.past_run.Statement.{statement}
 use Rattle.lexis.proofs.runs.past_run.Tie as tie

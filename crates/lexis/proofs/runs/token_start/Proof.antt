@@ -1,14 +1,14 @@
 -- `lexis::runs::token_start` meets its contract. Assumes nothing.
 use Prim.Native.Nat.{◌-◌}
 use lib.ListN.{length}
-use Rattle.lexis.specs.Blanks.{tokenStart}
+use Rattle.lexis.specs.Blanks.{token_start}
 use Rattle.lexis.proofs.RunSteps.{InBlanks, blanks-first, blanks-end, blanks-out, blanks-on}
 use borrow.Author.Rules.{rules}
 use Rattle.lexis.proofs.runs.token_start.Statement.{statement}
 use Rattle.lexis.proofs.runs.token_start.Tie as tie
 
 abbrev invariant-loop : tie.invariant-loop
-invariant-loop s from at₀ inside₀ at inside = InBlanks s from (tokenStart s from) at inside
+invariant-loop s from at₀ inside₀ at inside = InBlanks s from (token_start s from) at inside
 
 abbrev decreases-loop : tie.decreases-loop
 decreases-loop s from at₀ inside₀ at inside = length s - at

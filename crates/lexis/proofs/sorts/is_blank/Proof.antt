@@ -4,25 +4,25 @@ use mathlib.Core.Bool.{Bool, true, false, cond}
 use native.Mathlib.Omega.{arith}
 use lib.Dec.{eqb}
 use borrow.Author.Tests.{ne_eqb}
-use Rattle.lexis.specs.Bytes.{sortOf, is, blank}
+use Rattle.lexis.specs.Bytes.{sort_of, is, blank}
 use Rattle.lexis.proofs.ByteLaws.{agree}
 use Rattle.lexis.proofs.sorts.is_blank.Statement.{statement}
 use Rattle.lexis.proofs.sorts.is_blank.Tie as tie
 
 returns : tie.Need-returns
-unfolding sortOf
+unfolding sort_of
 returns c = agree (λ b. true) (is blank) 32 1 refl c.before.args.b (omega arith) (omega arith)
 
 returns-2 : tie.Need-returns-2
-unfolding sortOf
+unfolding sort_of
 returns-2 c = agree (λ b. false) (is blank) 0 9 refl c.before.before.args.b (omega arith) (omega arith)
 
 returns-3 : tie.Need-returns-3
-unfolding sortOf
+unfolding sort_of
 returns-3 c = agree (λ b. true) (is blank) 9 2 refl c.before.before.before.args.b (omega arith) (omega arith)
 
 returns-4 : tie.Need-returns-4
-unfolding sortOf
+unfolding sort_of
 returns-4 c =
     let b = c.before.before.before.args.b in
     let e = agree (λ b. cond (eqb b 32) true (eqb b 13)) (is blank) 11 245 refl b (omega arith) (omega arith) in

@@ -3,17 +3,17 @@ use mathlib.Core.Path.{refl}
 use mathlib.Core.Bool.{false}
 use native.Mathlib.Omega.{arith}
 use lib.Dec.{leb}
-use Rattle.lexis.specs.Bytes.{sortOf, is, capital}
+use Rattle.lexis.specs.Bytes.{sort_of, is, capital}
 use Rattle.lexis.proofs.ByteLaws.{agree}
 use Rattle.lexis.proofs.sorts.is_capital.Statement.{statement}
 use Rattle.lexis.proofs.sorts.is_capital.Tie as tie
 
 returns : tie.Need-returns
-unfolding sortOf
+unfolding sort_of
 returns c = agree (λ b. false) (is capital) 0 65 refl c.before.args.b (omega arith) (omega arith)
 
 returns-2 : tie.Need-returns-2
-unfolding sortOf
+unfolding sort_of
 returns-2 c = agree (λ b. leb b 90) (is capital) 65 191 refl c.before.args.b (omega arith) (omega arith)
 
 pub is-capital-spec : {M : Type 1} → statement M

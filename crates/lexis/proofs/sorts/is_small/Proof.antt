@@ -3,17 +3,17 @@ use mathlib.Core.Path.{refl}
 use mathlib.Core.Bool.{false}
 use native.Mathlib.Omega.{arith}
 use lib.Dec.{leb}
-use Rattle.lexis.specs.Bytes.{sortOf, is, small}
+use Rattle.lexis.specs.Bytes.{sort_of, is, small}
 use Rattle.lexis.proofs.ByteLaws.{agree}
 use Rattle.lexis.proofs.sorts.is_small.Statement.{statement}
 use Rattle.lexis.proofs.sorts.is_small.Tie as tie
 
 returns : tie.Need-returns
-unfolding sortOf
+unfolding sort_of
 returns c = agree (λ b. false) (is small) 0 97 refl c.before.args.b (omega arith) (omega arith)
 
 returns-2 : tie.Need-returns-2
-unfolding sortOf
+unfolding sort_of
 returns-2 c = agree (λ b. leb b 122) (is small) 97 159 refl c.before.args.b (omega arith) (omega arith)
 
 pub is-small-spec : {M : Type 1} → statement M

@@ -2,18 +2,18 @@
 use mathlib.Core.Path.{refl}
 use native.Mathlib.Omega.{arith}
 use lib.Dec.{eqb}
-use Rattle.lexis.specs.Bytes.{sortOf, lineEnd}
+use Rattle.lexis.specs.Bytes.{sort_of, line_end}
 use Rattle.lexis.proofs.ByteLaws.{agree}
 use Rattle.lexis.proofs.sorts.line_end.Statement.{statement}
 use Rattle.lexis.proofs.sorts.line_end.Tie as tie
 
 returns : tie.Need-returns
-unfolding sortOf lineEnd
-returns c = agree (λ b. eqb b 10) lineEnd 0 13 refl c.before.args.b (omega arith) (omega arith)
+unfolding sort_of line_end
+returns c = agree (λ b. eqb b 10) line_end 0 13 refl c.before.args.b (omega arith) (omega arith)
 
 returns-2 : tie.Need-returns-2
-unfolding sortOf lineEnd
-returns-2 c = agree (λ b. eqb b 13) lineEnd 13 243 refl c.before.args.b (omega arith) (omega arith)
+unfolding sort_of line_end
+returns-2 c = agree (λ b. eqb b 13) line_end 13 243 refl c.before.args.b (omega arith) (omega arith)
 
 pub line-end-spec : {M : Type 1} → statement M
 line-end-spec = tie.close (tie.spec returns returns-2)

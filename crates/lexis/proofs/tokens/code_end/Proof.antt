@@ -3,13 +3,13 @@ use mathlib.Core.Bool.{false}
 use Prim.Native.Nat.{◌-◌}
 use lib.ListN.{length, drop}
 use borrow.Author.Rules.{rules}
-use Rattle.lexis.specs.Tokens.{codeEnd}
+use Rattle.lexis.specs.Tokens.{code_end}
 use Rattle.lexis.proofs.TokenSteps.{InCode, code-first, code-none, code-close, code-stop, code-on}
 use Rattle.lexis.proofs.tokens.code_end.Statement.{statement}
 use Rattle.lexis.proofs.tokens.code_end.Tie as tie
 
 abbrev invariant-loop : tie.invariant-loop
-invariant-loop s from at₀ some₀ at some = InCode s (codeEnd false from (drop from s)) at some
+invariant-loop s from at₀ some₀ at some = InCode s (code_end false from (drop from s)) at some
 
 abbrev decreases-loop : tie.decreases-loop
 decreases-loop s from at₀ some₀ at some = length s - at

@@ -1,7 +1,7 @@
 -- `table_merge::copying::copy_records` meets its contract. The records below `n` are written: with those that are left the output is what it is to be. Assumes nothing.
 use Prim.Native.Nat.{◌-◌}
 use borrow.Author.Rules.{rules}
-use Rattle.table_merge.specs.contracts.Answers.{shifts}
+use Rattle.table_merge.specs.Clauses.Answers.{shifts}
 use Rattle.table_merge.proofs.CopySteps.{InCopy, copy-steps}
 use Rattle.table_merge.proofs.copying.copy_records.Statement.{statement}
 use Rattle.table_merge.proofs.copying.copy_records.Tie as tie

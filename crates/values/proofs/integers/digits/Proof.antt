@@ -4,13 +4,13 @@ use mathlib.Core.Path.{◌≡◌, refl}
 use Prim.Native.Nat.{◌-◌}
 use lib.ListN.{length, drop}
 use borrow.Author.Rules.{rules}
-use Rattle.values.specs.contracts.Answers.{digitsFrom}
+use Rattle.values.specs.Clauses.Answers.{digits_from}
 use Rattle.values.proofs.IntegerSteps.{steps}
 use Rattle.values.proofs.integers.digits.Statement.{statement}
 use Rattle.values.proofs.integers.digits.Tie as tie
 
 abbrev invariant-loop : tie.invariant-loop
-invariant-loop ds n₀ i₀ n i = digitsFrom n (drop i ds) ≡ digitsFrom 0 ds
+invariant-loop ds n₀ i₀ n i = digits_from n (drop i ds) ≡ digits_from 0 ds
 
 abbrev decreases-loop : tie.decreases-loop
 decreases-loop ds n₀ i₀ n i = length ds - i

@@ -2,13 +2,13 @@
 -- where all of them do. Assumes nothing.
 use mathlib.Core.Path.{◌≡◌}
 use borrow.Author.Rules.{rules}
-use Rattle.values.specs.Patterns.{slotsFit, fitsDuration}
+use Rattle.values.specs.Patterns.{slots_fit, fits_duration}
 use Rattle.values.proofs.PatternSteps.{steps}
 use Rattle.values.proofs.patterns.fits_duration.Statement.{statement}
 use Rattle.values.proofs.patterns.fits_duration.Tie as tie
 
 abbrev invariant-loop : tie.invariant-loop
-invariant-loop pattern filled p₀ f₀ left₀ p f left = slotsFit left p f ≡ fitsDuration pattern filled
+invariant-loop pattern filled p₀ f₀ left₀ p f left = slots_fit left p f ≡ fits_duration pattern filled
 
 abbrev decreases-loop : tie.decreases-loop
 decreases-loop pattern filled p₀ f₀ left₀ p f left = left

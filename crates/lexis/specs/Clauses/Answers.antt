@@ -1,0 +1,155 @@
+-- What the functions of this crate promise of their answers: an equation with a definition, and bounds. Assumes nothing.
+use Rattle.std.specs.Prelude.{◌≡◌, Bool, true, false, cond, not, ◌&&◌, ◌||◌, List, [], ◌∷◌, ℕ, ◌+◌, ◌≤◌, ◌<◌, eqb, length, drop}
+use Rattle.lexis.specs.Bytes.{among, is, blank, digit, word_byte, string_byte, run_byte, line_end}
+use Rattle.lexis.specs.Text.{byte, bytes}
+use Rattle.lexis.specs.Runs.{byte_at, allows}
+use Rattle.lexis.specs.Blanks.{opens_comment, token_start}
+use Rattle.lexis.specs.Spelling.{Literal, less, greater, keywords, booleans}
+use Rattle.lexis.specs.Tokens.{token_at, type_name}
+use Rattle.lexis.specs.Durations.{letter_slot, digit_slot, Filled, filled}
+use Rattle.lexis.specs.DataTokens.{equals, open_round, close_round, run_sort, type_sort, data_token_at, type_token_at}
+use Rattle.lexis.specs.declared.Token.{Token}
+use Rattle.lexis.specs.declared.durations.Slots.{Slots}
+use Rattle.lexis.specs.declared.reader.Tokens.{Tokens}
+use Rattle.lexis.specs.declared.reader.Tokens.TheVariants.{Constraint, Data, Behind}
+use Rattle.lexis.specs.declared.spellings.Words.{Words}
+use Rattle.lexis.specs.declared.spellings.Words.TheVariants.{Keywords, Booleans}
+use Rattle.lexis.specs.declared.runs.Class.{Class}
+use Rattle.lexis.specs.declared.runs.Class.TheVariants.{Digit, Word, Text, Run}
+
+-- r is the place x, from a place of the text on
+pub record PlaceIs (s : List ℕ) (from x r : ℕ) : Type 0 where
+  pub is : r ≡ x
+  pub low : from ≤ r
+  pub high : r ≤ length s
+
+-- what a run of data text holds besides the bytes of words
+abbrev pub run_mark : ℕ → Bool
+run_mark b = among b (bytes "+-.:")
+
+-- a place of the text at which no word goes on
+pub record WordEnds (s : List ℕ) (at : ℕ) : Type 0 where
+  pub inside : at ≤ length s
+  pub stops : word_byte (byte_at s at) ≡ false
+
+-- a place of the text from which on the next token starts where it does from an earlier one
+pub record StartsAlike (s : List ℕ) (from r : ℕ) : Type 0 where
+  pub is : token_start s r ≡ token_start s from
+  pub low : from ≤ r
+  pub high : r ≤ length s
+
+-- the byte b stands at a place of the text
+pub record OpensMark (s : List ℕ) (at b : ℕ) : Type 0 where
+  pub inside : at < length s
+  pub is : byte_at s at ≡ b
+
+-- a byte with which no longer mark opens stands at a place of the text
+pub record OpensPlain (s : List ℕ) (at : ℕ) : Type 0 where
+  pub inside : at < length s
+  pub less : byte_at s at ≡ byte "<" → ⊥
+  pub greater : byte_at s at ≡ byte ">" → ⊥
+  pub dot : byte_at s at ≡ byte "." → ⊥
+  pub plus : byte_at s at ≡ byte "+" → ⊥
+
+-- the byte is the mark of data text of that sort
+abbrev pub is_mark : ℕ → ℕ → Bool
+is_mark b sort =
+    cond (eqb sort less) (eqb b (byte "<"))
+    (cond (eqb sort greater) (eqb b (byte ">"))
+    (cond (eqb sort equals) (eqb b (byte "="))
+    (cond (eqb sort open_round) (eqb b (byte "("))
+    (cond (eqb sort close_round) (eqb b (byte ")")) false))))
+
+-- the test that the bytes of a class pass
+abbrev pub test_of : Class → ℕ → Bool
+test_of Digit = is digit
+test_of Word = word_byte
+test_of Text = string_byte
+test_of Run = run_byte
+
+-- a comment is open behind the byte b, before which one is open or not, and behind which bs stand
+abbrev pub comment_open : Bool → ℕ → List ℕ → Bool
+comment_open true b bs = not (line_end b)
+comment_open false b bs = opens_comment b bs
+
+-- a token starts at the byte b, before which a comment is open or not, and behind which bs stand
+abbrev pub token_here : Bool → ℕ → List ℕ → Bool
+token_here true b bs = false
+token_here false b bs = not (is blank b || opens_comment b bs)
+
+-- a byte of a shape admits another by the shape's rule, a byte of a spelling only itself
+abbrev pub admits : Bool → ℕ → ℕ → Bool
+admits true = allows
+admits false = eqb
+
+-- the bytes begin with bytes that the word's admit, one by one
+unfoldable pub begins_by : (ℕ → ℕ → Bool) → List ℕ → List ℕ → Bool
+begins_by f [] bs = true
+begins_by f (w ∷ ws) [] = false
+begins_by f (w ∷ ws) (b ∷ bs) = f w b && begins_by f ws bs
+
+-- the words that are no NAME, and those that are no TYPE
+abbrev pub words_of : Words → List Literal
+words_of Keywords = keywords
+words_of Booleans = booleans
+
+-- how the sort of a run is told, behind `(` and elsewhere
+abbrev pub sorting : Bool → List ℕ → ℕ → ℕ
+sorting true = type_sort
+sorting false = run_sort
+
+-- the tokens are those behind `(`
+abbrev pub behind_of : Tokens → Bool
+behind_of Constraint = false
+behind_of Data = false
+behind_of Behind = true
+
+-- the next token from a place of a text on, of those that are read
+abbrev pub token_by : Tokens → List ℕ → ℕ → Token
+token_by Constraint = token_at
+token_by Data = data_token_at
+token_by Behind = type_token_at
+
+-- r is the token t, and lies in the text from a place on; it has a byte, unless it is the text's end or unreadable
+pub record TokenIs (s : List ℕ) (from : ℕ) (t r : Token) : Type 0 where
+  pub is : r ≡ t
+  pub start : from ≤ r.start
+  pub order : r.start ≤ r.end
+  pub inside : r.end ≤ length s
+  pub strict : 1 < r.sort → r.start < r.end
+
+-- a slot with digits, or without
+abbrev pub slot_by : Bool → ℕ → List ℕ → ℕ
+slot_by true = digit_slot
+slot_by false = letter_slot
+
+-- r is a slot's size n, from a place of the word on
+pub record SlotIs (w : List ℕ) (at n r : ℕ) : Type 0 where
+  pub is : r ≡ n
+  pub inside : at + r ≤ length w
+
+-- a walk over slots, by the place that it has come to
+abbrev pub filled_at : List ℕ → Slots → Filled
+filled_at w x = filled x.flag (drop x.at w)
+
+-- a walk that lies in the word, and has room for one more slot's bit
+pub record FillRoom (w : List ℕ) (x : Slots) (bit : ℕ) : Type 0 where
+  pub inside : x.at ≤ length w
+  pub few : x.flag + bit ≤ 127
+
+-- r is the walk x, lies in the word, and its flag is at most so much
+pub record FillIs (w : List ℕ) (most : ℕ) (x : Filled) (r : Slots) : Type 0 where
+  pub is : filled_at w r ≡ x
+  pub inside : r.at ≤ length w
+  pub few : r.flag ≤ most
+
+-- r is the flag n, and at most that of all slots
+pub record FlagIs (n r : ℕ) : Type 0 where
+  pub is : r ≡ n
+  pub few : r ≤ 127
+
+-- a TYPE with its bytes stands in the text
+pub record TypeThere (s : List ℕ) (t : Token) : Type 0 where
+  pub is : t.sort ≡ type_name
+  pub order : t.start < t.end
+  pub inside : t.end ≤ length s
