@@ -73,7 +73,7 @@ def main():
     for path in files(".antt", ".rt", ".edit"):
         text = read(path)
         new = turned(text) if path.endswith(".edit") else spelled(text, known)
-        new = new.replace(".specs.contracts", ".specs.Clauses").replace("specs/contracts/", "specs/Clauses/")
+        new = re.sub(r"\.specs\.contracts\.(?!reader|Token)", ".specs.Clauses.", new).replace("specs/contracts/", "specs/Clauses/")
         if path.endswith("specs/Lib.antt"):
             new = re.sub(r"(?m)^pub mod contracts$", "pub mod Clauses", new)
         if new != text:

@@ -23,7 +23,7 @@ const LAST_DAY: u32 = 99_991_231;
 
 // An interval's kind, its low end, its high end or, where `below` says so, the value that it must stay below, and the place
 // behind them, or the refusal before it. A low end that is moved may lie behind the range's end.
-#[derive(Drop)]
+#[derive(Clone, Copy)]
 pub enum EndsRead {
     Faulty(Refusal),
     Ends {
@@ -36,7 +36,7 @@ pub enum EndsRead {
 }
 
 // An interval's kind, its closed pair and the place behind it, or its refusal.
-#[derive(Drop)]
+#[derive(Clone, Copy)]
 pub enum IntervalRead {
     Faulty(Refusal),
     Interval {

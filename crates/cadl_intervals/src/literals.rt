@@ -11,7 +11,7 @@ use values::dates::{Day, date_of};
 use values::integers::{Number, integer_of};
 
 // A literal's value, an integer as a distance or a day packed, and the place behind it, or its refusal.
-#[derive(Drop)]
+#[derive(Clone, Copy)]
 pub enum LiteralRead {
     Faulty(Refusal),
     Literal { value: u32, next: usize },

@@ -36,7 +36,7 @@ const LAST_DURATION_PATTERN: u8 = 227;
 const BOTH: u8 = 3;
 
 // The sorts of leaves of one record.
-#[derive(Drop)]
+#[derive(Clone, Copy)]
 pub enum SingleSort {
     Booleans,
     DatePattern,
@@ -45,7 +45,7 @@ pub enum SingleSort {
 }
 
 // The sorts of lists of closed pairs.
-#[derive(Drop)]
+#[derive(Clone, Copy)]
 pub enum RangeSort {
     Integers,
     Dates,
@@ -53,7 +53,7 @@ pub enum RangeSort {
 
 // A leaf's flag, or the number of its items, which stand in the scratch, and the place behind it; or its refusal. Item i stands at 2i and 2i + 1:
 // an integer's low and high end as distances, a date's packed, a string's start and end in the text without its quotes.
-#[derive(Drop)]
+#[derive(Clone, Copy)]
 pub enum LeafRead {
     Faulty(Refusal),
     Single {

@@ -1,4 +1,6 @@
 // The leaves of constraint text: a leaf's items are left in a scratch that the caller lends. The definitions stand in specs/.
+#![tactic(auto)]
+
 pub mod leaves;
 mod ranges;
 pub mod spans;

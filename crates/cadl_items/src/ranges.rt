@@ -18,7 +18,7 @@ use refusals::steps::syntax_fault;
 use refusals::{Cause, Refusal};
 
 // An item's first token: its place, whether it is a value, with the value, and the place behind it, or its refusal.
-#[derive(Drop)]
+#[derive(Clone, Copy)]
 pub enum StartRead {
     Faulty(Refusal),
     Start {
@@ -30,7 +30,7 @@ pub enum StartRead {
 }
 
 // An item that is in the scratch, with the list's kind: the last, or one with a comma and more behind it; or a refusal.
-#[derive(Drop)]
+#[derive(Clone, Copy)]
 pub enum RangeRead {
     Faulty(Refusal),
     Last { kind: u8, next: usize },
@@ -38,7 +38,7 @@ pub enum RangeRead {
 }
 
 // A list's kind, the number of its items and the place behind it, or its refusal.
-#[derive(Drop)]
+#[derive(Clone, Copy)]
 pub enum RangesRead {
     Faulty(Refusal),
     Ranges { kind: u8, count: usize, next: usize },

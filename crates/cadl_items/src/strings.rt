@@ -20,7 +20,7 @@ use refusals::{Cause, Refusal};
 const QUOTES: usize = 2;
 
 // The place behind a string that is in the scratch: the last, or one with a comma and more behind it; or its refusal.
-#[derive(Drop)]
+#[derive(Clone, Copy)]
 pub enum StringRead {
     Faulty(Refusal),
     Last { next: usize },
@@ -28,7 +28,7 @@ pub enum StringRead {
 }
 
 // The number of a list's strings and the place behind it, or its refusal.
-#[derive(Drop)]
+#[derive(Clone, Copy)]
 pub enum StringsRead {
     Faulty(Refusal),
     Strings { count: usize, next: usize },

@@ -17,7 +17,7 @@ use refusals::Refusal;
 use refusals::steps::{Expected, expect, syntax_fault};
 
 // An existence and the place behind it, or its refusal.
-#[derive(Drop)]
+#[derive(Clone, Copy)]
 pub enum ExistenceRead {
     Faulty(Refusal),
     Existence { flag: u8, next: usize },

@@ -15,7 +15,7 @@ use refusals::steps::{Expected, expect, too_long};
 use refusals::{Cause, Refusal};
 
 // The place of a code, empty where there is none, and the place behind it; or its refusal.
-#[derive(Drop)]
+#[derive(Clone, Copy)]
 pub enum CodeRead {
     Faulty(Refusal),
     Code {
@@ -26,7 +26,7 @@ pub enum CodeRead {
 }
 
 // An object's type and code and the place behind its opening brace, or its refusal.
-#[derive(Drop)]
+#[derive(Clone, Copy)]
 pub enum ObjectHeadRead {
     Faulty(Refusal),
     Head {
@@ -39,7 +39,7 @@ pub enum ObjectHeadRead {
 }
 
 // An attribute's name and existence and the place behind its opening brace, or its refusal.
-#[derive(Drop)]
+#[derive(Clone, Copy)]
 pub enum AttributeHeadRead {
     Faulty(Refusal),
     Head {

@@ -1,4 +1,6 @@
 // Compiling a constraint text into a table. The definitions stand in specs/.
+#![tactic(auto)]
+
 mod objects;
 mod output;
 
@@ -15,7 +17,7 @@ use refusals::{Cause, Refusal};
 use table::layout::{POOL_ROOM, RECORDS_ROOM};
 
 // What compiling answers: the table's length, or why the text is refused.
-#[derive(Drop)]
+#[derive(Clone, Copy)]
 pub enum CompileResult {
     Done { length: usize },
     Refused(Refusal),

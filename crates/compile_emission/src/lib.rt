@@ -1,4 +1,6 @@
 // Records, bytes and names of a constraint text, put into scratches that the caller lends. The definitions stand in specs/.
+#![tactic(auto)]
+
 pub mod heads;
 pub mod leaves;
 mod lists;

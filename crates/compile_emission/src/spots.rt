@@ -6,7 +6,7 @@ use refusals::limits::RECORD_LIMIT;
 pub const NAMES_ROOM: usize = 2 * RECORD_LIMIT;
 
 // A place of the text, the number of the next record and the bytes in the pool.
-#[derive(Drop)]
+#[derive(Clone, Copy)]
 pub struct Spot {
     pub place: usize,
     pub next: usize,
@@ -14,14 +14,14 @@ pub struct Spot {
 }
 
 // The spot behind a part of the text whose records and bytes are written, or its refusal.
-#[derive(Drop)]
+#[derive(Clone, Copy)]
 pub enum TreeRead {
     Refused(Refusal),
     Read(Spot),
 }
 
 // The spot behind an attribute, whether more follow or it is the last, where the spot is behind the object's `}`; or its refusal.
-#[derive(Drop)]
+#[derive(Clone, Copy)]
 pub enum AttributeRead {
     Refused(Refusal),
     Last(Spot),

@@ -1,1 +1,2 @@
 // A tree as a table. The definitions stand in specs/.
+#![tactic(auto)]

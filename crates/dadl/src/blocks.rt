@@ -13,14 +13,14 @@ use refusals::steps::syntax_fault;
 use refusals::{Cause, Refusal};
 
 // The number of the next free row and the place behind the members, or their refusal.
-#[derive(Drop)]
+#[derive(Clone, Copy)]
 pub enum RowsRead {
     Refused(Refusal),
     Read { rows: usize, place: usize },
 }
 
 // The number of the next free row and the token behind a member, or the member's refusal.
-#[derive(Drop)]
+#[derive(Clone, Copy)]
 pub enum MemberRead {
     Not(Refusal),
     Member { rows: usize, after: Token },

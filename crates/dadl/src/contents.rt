@@ -18,7 +18,7 @@ const IS_STRING: usize = 1;
 const IS_WORD: usize = 2;
 
 // A leaf and the place behind its `>`, a block's type and `<` and the place behind it, or a refusal.
-#[derive(Drop)]
+#[derive(Clone, Copy)]
 pub enum ContentStart {
     Faulty(Refusal),
     Leaf {

@@ -1,4 +1,6 @@
 // Data text: one pass over it answers its first refusal, or puts a row for each member on the tape.
+#![tactic(auto)]
+
 mod blocks;
 mod contents;
 mod names;
@@ -22,7 +24,7 @@ use refusals::{Cause, Refusal};
 
 // What reading a data text answers: its refusal, or the outermost block's `<` and type, 0 and 0 where it has none,
 // the number of rows on the tape, and the text's end.
-#[derive(Drop)]
+#[derive(Clone, Copy)]
 pub enum DataRead {
     Refused(Refusal),
     Read {

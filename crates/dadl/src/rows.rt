@@ -12,7 +12,7 @@ pub const MEMBER_SIZE: usize = 4;
 
 // A row but for the number of the next member's: what the member holds, its name, the place of its `<`, its type,
 // and its string or word, or 0 and the number of rows inside it.
-#[derive(Drop)]
+#[derive(Clone, Copy)]
 pub struct Row {
     pub holds: usize,
     pub name_start: usize,

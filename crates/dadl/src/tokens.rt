@@ -12,7 +12,7 @@ use refusals::limits::NAME_LIMIT;
 use refusals::steps::{Expected, syntax_fault, taken, too_long};
 
 // A name or a type and the place behind the mark that ends it, or its refusal.
-#[derive(Drop)]
+#[derive(Clone, Copy)]
 pub enum SpanRead {
     Bad(Refusal),
     Spans {
@@ -23,7 +23,7 @@ pub enum SpanRead {
 }
 
 // A block's `<`, its type, 0 and 0 where it has none, and the place behind the `<`, or the refusal before it.
-#[derive(Drop)]
+#[derive(Clone, Copy)]
 pub enum Opening {
     Shut(Refusal),
     Opens {

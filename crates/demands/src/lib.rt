@@ -1,1 +1,2 @@
 // The three demands. They stand in specs/.
+#![tactic(auto)]

@@ -1,6 +1,8 @@
 // The five jobs under one roof. Any bytes may be given to each; none has a `requires`. Each answer, and every byte of a lent output, is what the
 // definition says that the contract names, once by document 01's numbers and once by the cause; crates/demands/specs/Demands.antt states the three
 // demands over these definitions.
+#![tactic(auto)]
+
 mod interface;
 
 ghost use Rattle.std.specs.Prelude.{◌≡◌};

@@ -1,4 +1,6 @@
 // Judging a data text by a table. The definitions stand in specs/.
+#![tactic(auto)]
+
 mod walk;
 
 ghost use Rattle.std.specs.Prelude.{◌≡◌, ◌≤◌, length};
@@ -39,7 +41,7 @@ const LONG_TAPE: usize = ROW_SIZE * (TEXT_LIMIT / MEMBER_SIZE + 5);
 
 // What judging answers: that the text is valid, why text, table or root are refused, or a reason with the record and the
 // data place that fail.
-#[derive(Drop)]
+#[derive(Clone, Copy)]
 pub enum JudgeResult {
     Valid,
     Refused(Refusal),

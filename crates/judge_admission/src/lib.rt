@@ -1,4 +1,6 @@
 // Admission: how a value stands to the items of a leaf.
+#![tactic(auto)]
+
 ghost use Rattle.std.specs.Prelude.{◌≡◌, [], ◌∷◌, ◌+◌, ◌*◌, ◌≤◌, length};
 ghost use Rattle.meaning.specs.Constraints.{booleans, integers, date_pattern, dates, time_pattern, duration_pattern, single, ranges};
 ghost use Rattle.meaning.specs.Findings.{found};
@@ -20,7 +22,7 @@ use values::times::{Parts, time_of};
 use values::words::{Boolean, boolean_of};
 
 // How a value stands to a leaf: it is not of the kind asked, is not admitted, or is.
-#[derive(Drop)]
+#[derive(Clone, Copy)]
 pub enum Admission {
     Unsuited,
     Refuted,

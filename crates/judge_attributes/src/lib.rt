@@ -1,4 +1,6 @@
 // Attributes: what an attribute tells of a block without judging a block inside it.
+#![tactic(auto)]
+
 ghost use Rattle.std.specs.Prelude.{◌≡◌, ◌+◌, ◌*◌, ◌≤◌, ◌<◌, length};
 ghost use Rattle.meaning.specs.Verdicts as definitions;
 ghost use Rattle.meaning.specs.Judging.{verdict_of};
@@ -28,7 +30,7 @@ const PRESENT: u8 = 23;
 const NOT_ADMITTED: u8 = 24;
 
 // A failure: a reason, with the record and the data place that fail.
-#[derive(Drop)]
+#[derive(Clone, Copy)]
 pub struct Failure {
     pub reason: u8,
     pub record: RecordNumber,
@@ -36,14 +38,14 @@ pub struct Failure {
 }
 
 // A verdict: valid, or the first failure.
-#[derive(Drop)]
+#[derive(Clone, Copy)]
 pub enum Verdict {
     Valid,
     Fails(Failure),
 }
 
 // What an attribute tells of a block: a verdict, or a block inside it that is still to be judged by an object.
-#[derive(Drop)]
+#[derive(Clone, Copy)]
 pub enum AttributeAnswer {
     Told(Verdict),
     Nested { object: RecordNumber, block: Block },

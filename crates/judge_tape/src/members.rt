@@ -8,7 +8,7 @@ use dadl::rows::row_name;
 use lexis::runs::same_bytes;
 
 // The row of the member that was sought, or that there is none.
-#[derive(Drop)]
+#[derive(Clone, Copy)]
 pub enum Found {
     At(usize),
     Nothing,
@@ -16,7 +16,7 @@ pub enum Found {
 
 // A block: the place of its `<`, its type, 0 and 0 where it has none, the row of its first member, and the number of
 // rows inside it, 0 where it has no member.
-#[derive(Drop)]
+#[derive(Clone, Copy)]
 pub struct Block {
     pub place: usize,
     pub type_start: usize,

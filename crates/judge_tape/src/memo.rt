@@ -16,7 +16,7 @@ const HEADER: u32 = 0;
 
 // A visit of a block: the number of the block's first bit, and whether the block was judged before. The bit of the pair with a
 // record stands so many behind the first as the record's number says.
-#[derive(Drop)]
+#[derive(Clone, Copy)]
 pub struct Visit {
     pub base: usize,
     pub again: bool,

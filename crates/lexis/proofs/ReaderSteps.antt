@@ -15,7 +15,7 @@ use Rattle.lexis.specs.Clauses.Answers.{PlaceIs, sorting, behind_of, token_by}
 use Rattle.lexis.specs.declared.Token.{Token}
 use Rattle.lexis.specs.declared.reader.Tokens.{Tokens}
 use Rattle.lexis.specs.declared.reader.Tokens.TheVariants.{Constraint, Data, Behind}
-use Rattle.lexis.specs.Clauses.reader.Tokens.{the_type}
+use Rattle.lexis.specs.contracts.reader.Tokens.{the_type}
 
 module _ (s : List ℕ) (from : ℕ) where
   -- behind the text's end

@@ -7,7 +7,7 @@ ghost use Rattle.lexis.specs.Clauses.Answers.{slot_by, SlotIs, filled_at, FillRo
 use crate::runs::{Class, past_run};
 
 // How far a walk over slots has come: the slots filled, as a flag, and the place behind them.
-#[derive(Drop)]
+#[derive(Clone, Copy)]
 pub struct Slots {
     pub flag: u8,
     pub at: usize,

@@ -1,4 +1,6 @@
 // The lexical layer: where tokens start and end in constraint text and in data text, and of which sort they are.
+#![tactic(auto)]
+
 ghost use Rattle.std.specs.Prelude.{◌≡◌};
 ghost use Rattle.lexis.specs.Tokens.{no_token};
 
@@ -11,7 +13,7 @@ pub mod spellings;
 pub mod tokens;
 
 // A token: its sort, the place of its first byte and the place behind its last.
-#[derive(Drop)]
+#[derive(Clone, Copy)]
 pub struct Token {
     pub sort: u8,
     pub start: usize,

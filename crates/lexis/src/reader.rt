@@ -8,14 +8,14 @@ use crate::tokens::token_on;
 use crate::{TEXT_END, Token};
 
 // The tokens that are read: those of constraint text, those of data text, or those of data text behind `(`.
-#[derive(Drop)]
+#[derive(Clone, Copy)]
 pub enum Tokens {
     Constraint,
     Data,
     Behind,
 }
 
-#[derive(Drop)]
+#[derive(Clone, Copy)]
 pub struct Reader<'a> {
     pub text: &'a [u8],
     pub place: usize,

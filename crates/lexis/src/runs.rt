@@ -7,7 +7,7 @@ ghost use Rattle.lexis.specs.Clauses.Answers.{PlaceIs, test_of, comment_open, to
 use crate::sorts::{byte_at, is_blank, is_digit, line_end, run_byte, string_byte, word_byte};
 
 // What the bytes of a run are.
-#[derive(Drop)]
+#[derive(Clone, Copy)]
 pub enum Class {
     Digit,
     Word,

@@ -15,7 +15,7 @@ use crate::{
 };
 
 // The words that are no NAME, and those that are no TYPE.
-#[derive(Drop)]
+#[derive(Clone, Copy)]
 pub enum Words {
     Keywords,
     Booleans,

@@ -1,4 +1,5 @@
 // The types of constraint trees, datum trees and verdicts. The definitions stand in specs/.
+#![tactic(auto)]
 
 // The flags of existence: 0..0, 0..1 and 1..1.
 pub const PROHIBITED: u8 = 0;

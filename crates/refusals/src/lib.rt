@@ -1,10 +1,12 @@
 // What is refused and why; the limits and numbers of document 01; and the tokens of constraint text that must stand at a place.
+#![tactic(auto)]
+
 pub mod limits;
 pub mod numbers;
 pub mod steps;
 
 // Why a text, a table or a request is refused: what happened. A definition gives document 01's number for each.
-#[derive(Drop)]
+#[derive(Clone, Copy)]
 pub enum Cause {
     TextTooLong,
     Unreadable,
@@ -29,7 +31,7 @@ pub enum Cause {
 }
 
 // A refusal: its cause, and the place that document 01 names for it.
-#[derive(Drop)]
+#[derive(Clone, Copy)]
 pub struct Refusal {
     pub cause: Cause,
     pub place: usize,

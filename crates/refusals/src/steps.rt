@@ -10,7 +10,7 @@ use lexis::tokens::token_at;
 use lexis::{TEXT_END, Token, UNREADABLE};
 
 // A token that must stand at a place, or the refusal where another does.
-#[derive(Drop)]
+#[derive(Clone, Copy)]
 pub enum Expected {
     Fault(Refusal),
     Taken(Token),

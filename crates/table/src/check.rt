@@ -12,7 +12,7 @@ use crate::rules::rules_kept;
 use refusals::{Cause, Refusal};
 
 // What the check answers.
-#[derive(Drop)]
+#[derive(Clone, Copy)]
 pub enum CheckAnswer {
     Passed,
     Refused(Refusal),

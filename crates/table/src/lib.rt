@@ -1,4 +1,6 @@
 // Tables: byte order, records, the check and names. The definitions stand in specs/.
+#![tactic(auto)]
+
 pub mod check;
 pub mod copying;
 pub mod layout;

@@ -13,7 +13,7 @@ use crate::records::{Frame, PoolPlace, RecordNumber, frame_of, kind_at, read};
 use refusals::{Cause, Refusal};
 
 // What a request for a name answers: the part of the table that is the name, or why there is none.
-#[derive(Drop)]
+#[derive(Clone, Copy)]
 pub enum NameResult {
     Named { start: usize, length: usize },
     Refused(Refusal),

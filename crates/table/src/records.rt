@@ -14,19 +14,19 @@ pub const RECORD_MOST: u32 = RECORD_LIMIT as u32;
 pub const POOL_MOST: u32 = POOL_LIMIT as u32;
 
 // The number of a record, as a link holds it.
-#[derive(Drop)]
+#[derive(Clone, Copy)]
 pub struct RecordNumber(pub u32);
 
 // A place in the pool.
-#[derive(Drop)]
+#[derive(Clone, Copy)]
 pub struct PoolPlace(pub u32);
 
 // How far record numbers move.
-#[derive(Drop)]
+#[derive(Clone, Copy)]
 pub struct RecordShift(pub u32);
 
 // How far places in the pool move.
-#[derive(Drop)]
+#[derive(Clone, Copy)]
 pub struct PoolShift(pub u32);
 
 impl RecordNumber {
@@ -80,7 +80,7 @@ pub fn is_marked(s: &[u8], at: usize) -> bool
 }
 
 // A record without its mark.
-#[derive(Drop)]
+#[derive(Clone, Copy)]
 pub struct Entry {
     pub kind: u8,
     pub flag: u8,
@@ -143,7 +143,7 @@ pub fn read(s: &[u8], at: usize) -> Entry
 }
 
 // A table's counts, as its header has them: of records, the header among them, and of the pool's bytes.
-#[derive(Drop)]
+#[derive(Clone, Copy)]
 pub struct Frame {
     pub count: u32,
     pub pool: u32,

@@ -1,4 +1,6 @@
 // Merging two tables, and lists of merges. The definitions stand in specs/.
+#![tactic(auto)]
+
 mod copying;
 mod joining;
 mod moving;
@@ -18,7 +20,7 @@ use table::records::{POOL_MOST, PoolPlace, PoolShift, RECORD_MOST, RecordShift};
 
 // What a merge answers: how long the table written is, and how far the second table was moved; or why there is none,
 // and which table is at fault, 0 where neither is.
-#[derive(Drop)]
+#[derive(Clone, Copy)]
 pub enum MergeResult {
     Done {
         length: usize,

@@ -7,7 +7,7 @@ use crate::calendar::{packed, real};
 use crate::shapes::{exactly, four_digits, two_digits};
 
 // A date that is read, with its parts counted and 1 for a part that is not there, or that none is spelled.
-#[derive(Drop)]
+#[derive(Clone, Copy)]
 pub enum Day {
     Value { parts: u8, day: u32 },
     Nothing,

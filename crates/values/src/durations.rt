@@ -6,7 +6,7 @@ ghost use Rattle.values.specs.Clauses.Answers.{duration_answer};
 use lexis::durations::word_slots;
 
 // The slots that a duration that is read fills, as a flag, or that none is spelled.
-#[derive(Drop)]
+#[derive(Clone, Copy)]
 pub enum Duration {
     Value(u8),
     Nothing,

@@ -8,7 +8,7 @@ use lexis::runs::{Class, past_run};
 use lexis::sorts::is_digit;
 
 // An integer that is read, or that none is spelled.
-#[derive(Drop)]
+#[derive(Clone, Copy)]
 pub enum Number {
     Value(u32),
     Nothing,
@@ -149,7 +149,7 @@ pub fn inside(a: u32, d: u32) -> bool
 }
 
 // The ends of an interval, as distances.
-#[derive(Drop)]
+#[derive(Clone, Copy)]
 pub struct Ends {
     pub low: u32,
     pub high: u32,

@@ -1,4 +1,6 @@
 // The values that literals and words spell. The definitions stand in specs/.
+#![tactic(auto)]
+
 pub mod calendar;
 pub mod dates;
 pub mod durations;

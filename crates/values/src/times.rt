@@ -23,7 +23,7 @@ const MOST_EAST: u32 = 13;
 const MOST_WEST: u32 = 12;
 
 // How many of hours, minutes and seconds a time that is read has, or that none is spelled.
-#[derive(Drop)]
+#[derive(Clone, Copy)]
 pub enum Parts {
     Value(u8),
     Nothing,

@@ -10,7 +10,7 @@ use crate::shapes::exactly;
 use crate::times::{Parts, time_of};
 
 // A Boolean that is read, 1 for True and 2 for False, or that none is spelled.
-#[derive(Drop)]
+#[derive(Clone, Copy)]
 pub enum Boolean {
     Value(u8),
     Nothing,

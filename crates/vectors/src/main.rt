@@ -1,5 +1,7 @@
 // Runs cases of the jobs from standard input, and lists of merges that start from a compiled text and are judged after each step; prints a line for
 // each.
+#![tactic(auto)]
+
 mod answers;
 mod lists;
 mod output;
@@ -16,7 +18,7 @@ use crate::texts::{compile_case, judge_case};
 use crate::titles::say_title;
 
 // Whether there was a case, and how long the carried table is behind it.
-#[derive(Drop)]
+#[derive(Clone, Copy)]
 struct Carried {
     more: bool,
     length: usize,

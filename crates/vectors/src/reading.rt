@@ -16,7 +16,7 @@ pub const TABLE_ROOM: usize = 65_568;
 pub const TEXT_ROOM: usize = 16_400;
 
 // What a case begins with. Kind 0 says that no case is left.
-#[derive(Drop)]
+#[derive(Clone, Copy)]
 pub struct Head {
     pub kind: u8,
     pub little: bool,

@@ -46,18 +46,18 @@ use Rattle.lexis.specs.Clauses.Answers.{token_by}
 use Rattle.lexis.specs.declared.Token.{Token}
 use Rattle.lexis.specs.declared.reader.Reader.{Reader}
 use Rattle.lexis.specs.declared.reader.Tokens.{Tokens}
-use Rattle.lexis.specs.Clauses.reader.Reader as T
+use Rattle.lexis.specs.contracts.reader.Reader as T
 use Rattle.lexis.proofs.reader.Reader.TheLaws as T'
-use Rattle.lexis.specs.Clauses.reader.Tokens as E
+use Rattle.lexis.specs.contracts.reader.Tokens as E
 use Rattle.lexis.proofs.reader.Tokens.TheLaws as E'
-use Rattle.lexis.specs.Clauses.Token as S
+use Rattle.lexis.specs.contracts.Token as S
 use Rattle.lexis.proofs.Token.TheLaws as S'
-use Rattle.lexis.specs.Clauses.reader.token_of as work
+use Rattle.lexis.specs.contracts.reader.token_of as work
 use Rattle.lexis.proofs.reader.token_of.Symbol as work-def
 use Rattle.lexis.proofs.reader.token_of.Symbol.{name as #lexis·reader·token-of}
 use Rattle.lexis.proofs.reader.token_of.Met as work-thm
-use Rattle.lexis.specs.Clauses.reader.next.Key.{name as #lexis·reader·next}
-use Rattle.lexis.specs.Clauses.reader.next as next
+use Rattle.lexis.specs.contracts.reader.next.Key.{name as #lexis·reader·next}
+use Rattle.lexis.specs.contracts.reader.next as next
 use Rattle.lexis.proofs.reader.next.Statement as stated
 use Rattle.lexis.proofs.reader.next.Code as code
 

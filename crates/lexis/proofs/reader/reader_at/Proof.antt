@@ -35,10 +35,10 @@ use denote.Triple.Table.{entered}
 use denote.Triple.Walked.{says, Stays, stay_none, stay_none_slice, walk_of, Goes-none, Goes-none_slice, Walks, ends_at, walked, walk_Meets}
 use denote.Exit.{yes}
 use Rattle.lexis.specs.declared.reader.Reader.{Reader}
-use Rattle.lexis.specs.Clauses.reader.Reader as T
+use Rattle.lexis.specs.contracts.reader.Reader as T
 use Rattle.lexis.proofs.reader.Reader.TheLaws as T'
-use Rattle.lexis.specs.Clauses.reader.reader_at.Key.{name as #lexis·reader·reader-at}
-use Rattle.lexis.specs.Clauses.reader.reader_at as new
+use Rattle.lexis.specs.contracts.reader.reader_at.Key.{name as #lexis·reader·reader-at}
+use Rattle.lexis.specs.contracts.reader.reader_at as new
 use Rattle.lexis.proofs.reader.reader_at.Statement as stated
 use Rattle.lexis.proofs.reader.reader_at.Code as code
 

@@ -43,22 +43,22 @@ use Rattle.lexis.specs.Clauses.Answers.{token_by}
 use Rattle.lexis.specs.declared.Token.{Token}
 use Rattle.lexis.specs.declared.reader.Reader.{Reader}
 use Rattle.lexis.specs.declared.reader.Tokens.{Tokens}
-use Rattle.lexis.specs.Clauses.reader.Reader as T
+use Rattle.lexis.specs.contracts.reader.Reader as T
 use Rattle.lexis.proofs.reader.Reader.TheLaws as T'
-use Rattle.lexis.specs.Clauses.reader.Tokens as E
+use Rattle.lexis.specs.contracts.reader.Tokens as E
 use Rattle.lexis.proofs.reader.Tokens.TheLaws as E'
-use Rattle.lexis.specs.Clauses.Token as S
+use Rattle.lexis.specs.contracts.Token as S
 use Rattle.lexis.proofs.Token.TheLaws as S'
-use Rattle.lexis.specs.Clauses.reader.reader_at as new
+use Rattle.lexis.specs.contracts.reader.reader_at as new
 use Rattle.lexis.proofs.reader.reader_at.Symbol as new-def
 use Rattle.lexis.proofs.reader.reader_at.Symbol.{name as #lexis·reader·reader-at}
 use Rattle.lexis.proofs.reader.reader_at.Met as new-thm
-use Rattle.lexis.specs.Clauses.reader.next as next
+use Rattle.lexis.specs.contracts.reader.next as next
 use Rattle.lexis.proofs.reader.next.Symbol as next-def
 use Rattle.lexis.proofs.reader.next.Symbol.{name as #lexis·reader·next}
 use Rattle.lexis.proofs.reader.next.Met as next-thm
-use Rattle.lexis.specs.Clauses.reader.token_from.Key.{name as #lexis·reader·token-from}
-use Rattle.lexis.specs.Clauses.reader.token_from as first
+use Rattle.lexis.specs.contracts.reader.token_from.Key.{name as #lexis·reader·token-from}
+use Rattle.lexis.specs.contracts.reader.token_from as first
 use Rattle.lexis.proofs.reader.token_from.Statement as stated
 use Rattle.lexis.proofs.reader.token_from.Code as code
 

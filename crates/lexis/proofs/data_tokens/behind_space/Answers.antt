@@ -1,0 +1,10 @@
+-- `lexis::data_tokens::behind_space` meets its contract. Assumes nothing.
+use Rattle.lexis.proofs.QuickSteps.{behind-blank, behind-none}
+use borrow.Author.Rules.{rules}
+use Rattle.lexis.proofs.data_tokens.behind_space.Goals as goal
+
+pub returns-then-byte_at-eq32 : goal.returns-then-byte_at-eq32
+returns-then-byte_at-eq32 c = search behind-blank
+
+pub returns : goal.returns
+returns c = search behind-none

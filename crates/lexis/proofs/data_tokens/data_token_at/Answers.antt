@@ -1,0 +1,7 @@
+-- `lexis::data_tokens::data_token_at` meets its contract. Assumes nothing.
+use borrow.Author.Rules.{rules}
+use Rattle.lexis.proofs.DataTokenSteps.{data-told}
+use Rattle.lexis.proofs.data_tokens.data_token_at.Goals as goal
+
+pub returns : goal.returns
+returns c = search data-told

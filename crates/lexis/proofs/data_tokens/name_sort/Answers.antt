@@ -1,0 +1,13 @@
+-- `lexis::data_tokens::name_sort` meets its contract. Assumes nothing.
+use Rattle.lexis.proofs.DataTokenSteps.{name-broken, name-spelled, name-is}
+use borrow.Author.Rules.{rules}
+use Rattle.lexis.proofs.data_tokens.name_sort.Goals as goal
+
+pub returns-then-not-whole : goal.returns-then-not-whole
+returns-then-not-whole c = search name-broken
+
+pub returns-then-word_sort-sort : goal.returns-then-word_sort-sort
+returns-then-word_sort-sort c = search name-spelled
+
+pub returns : goal.returns
+returns c = search name-is

@@ -1,0 +1,7 @@
+-- `lexis::data_tokens::type_token_at` meets its contract. Assumes nothing.
+use borrow.Author.Rules.{rules}
+use Rattle.lexis.proofs.DataTokenSteps.{type-told}
+use Rattle.lexis.proofs.data_tokens.type_token_at.Goals as goal
+
+pub returns : goal.returns
+returns c = search type-told

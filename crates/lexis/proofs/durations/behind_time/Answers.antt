@@ -1,0 +1,13 @@
+-- `lexis::durations::behind_time` meets its contract. Assumes nothing.
+use borrow.Author.Rules.{rules}
+use Rattle.lexis.proofs.DurationSteps.{time-left, time-none, time-some}
+use Rattle.lexis.proofs.durations.behind_time.Goals as goal
+
+pub returns-then-x-w : goal.returns-then-x-w
+returns-then-x-w c = search time-left
+
+pub returns-then-x-lt1 : goal.returns-then-x-lt1
+returns-then-x-lt1 c = search time-none
+
+pub returns : goal.returns
+returns c = search time-some

@@ -1,0 +1,10 @@
+-- `lexis::durations::in_either_case` meets its contract. Assumes nothing.
+use borrow.Author.Rules.{rules}
+use Rattle.lexis.proofs.DurationSteps.{case_same, case-other}
+use Rattle.lexis.proofs.durations.in_either_case.Goals as goal
+
+pub returns-then-b-letter : goal.returns-then-b-letter
+returns-then-b-letter c = search case_same
+
+pub returns : goal.returns
+returns c = search case-other

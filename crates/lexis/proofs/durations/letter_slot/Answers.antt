@@ -1,0 +1,13 @@
+-- `lexis::durations::letter_slot` meets its contract. Assumes nothing.
+use borrow.Author.Rules.{rules}
+use Rattle.lexis.proofs.DurationSteps.{letter-none, letter-here, letter-other}
+use Rattle.lexis.proofs.durations.letter_slot.Goals as goal
+
+pub returns-then-at-w : goal.returns-then-at-w
+returns-then-at-w c = search letter-none
+
+pub returns-then-w-at : goal.returns-then-w-at
+returns-then-w-at c = search letter-here
+
+pub returns : goal.returns
+returns c = search letter-other

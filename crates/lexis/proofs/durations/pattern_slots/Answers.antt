@@ -1,0 +1,7 @@
+-- `lexis::durations::pattern_slots` meets its contract. Assumes nothing.
+use borrow.Author.Rules.{rules}
+use Rattle.lexis.proofs.DurationSteps.{pattern-told}
+use Rattle.lexis.proofs.durations.pattern_slots.Goals as goal
+
+pub returns : goal.returns
+returns c = search pattern-told

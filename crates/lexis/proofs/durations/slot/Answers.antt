@@ -1,0 +1,10 @@
+-- `lexis::durations::slot` meets its contract. Assumes nothing.
+use borrow.Author.Rules.{rules}
+use Rattle.lexis.proofs.DurationSteps.{slot-digits, slot-letter}
+use Rattle.lexis.proofs.durations.slot.Goals as goal
+
+pub returns-then-digits : goal.returns-then-digits
+returns-then-digits c = search slot-digits
+
+pub returns : goal.returns
+returns c = search slot-letter

@@ -1,0 +1,13 @@
+-- `lexis::runs::comment_open` meets its contract. Assumes nothing.
+use Rattle.lexis.proofs.RunSteps.{open-inside, open-other, open-two}
+use borrow.Author.Rules.{rules}
+use Rattle.lexis.proofs.runs.comment_open.Goals as goal
+
+pub returns-then-inside : goal.returns-then-inside
+returns-then-inside c = search open-inside
+
+pub returns-then-s-at-ne45 : goal.returns-then-s-at-ne45
+returns-then-s-at-ne45 c = search open-other
+
+pub returns : goal.returns
+returns c = search open-two

@@ -1,0 +1,16 @@
+-- `lexis::runs::in_class` meets its contract. Assumes nothing.
+use borrow.Author.Rules.{rules}
+use Rattle.lexis.proofs.RunSteps.{class-digit, class-word, class-text, class-run}
+use Rattle.lexis.proofs.runs.in_class.Goals as goal
+
+pub returns-in-Digit : goal.returns-in-Digit
+returns-in-Digit c = search class-digit
+
+pub returns-in-Word : goal.returns-in-Word
+returns-in-Word c = search class-word
+
+pub returns-in-Text : goal.returns-in-Text
+returns-in-Text c = search class-text
+
+pub returns-in-Run : goal.returns-in-Run
+returns-in-Run c = search class-run

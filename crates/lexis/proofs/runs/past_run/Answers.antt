@@ -1,0 +1,20 @@
+-- `lexis::runs::past_run` meets its contract. Assumes nothing.
+use Prim.Native.Nat.{◌-◌}
+use lib.ListN.{length, drop}
+use borrow.Author.Rules.{rules}
+use Rattle.lexis.specs.Runs.{past}
+use Rattle.lexis.specs.Clauses.Answers.{test_of}
+use Rattle.lexis.proofs.RunSteps.{InRun, run-first, run_end, run_out, run_on}
+use Rattle.lexis.proofs.runs.past_run.Goals as goal
+
+pub loop-at-init : goal.loop-at-init
+loop-at-init c = search run-first
+
+pub returns-then-not-in_class : goal.returns-then-not-in_class
+returns-then-not-in_class c = search run_out
+
+pub loop-at-preserved : goal.loop-at-preserved
+loop-at-preserved c = search run_on
+
+pub returns : goal.returns
+returns c = search run_end

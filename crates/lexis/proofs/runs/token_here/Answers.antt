@@ -1,0 +1,13 @@
+-- `lexis::runs::token_here` meets its contract. Assumes nothing.
+use Rattle.lexis.proofs.RunSteps.{here-far, here-two, here-other}
+use borrow.Author.Rules.{rules}
+use Rattle.lexis.proofs.runs.token_here.Goals as goal
+
+pub returns-then-b-gt45 : goal.returns-then-b-gt45
+returns-then-b-gt45 c = search here-far
+
+pub returns-then-b-eq45 : goal.returns-then-b-eq45
+returns-then-b-eq45 c = search here-two
+
+pub returns : goal.returns
+returns c = search here-other

@@ -1,0 +1,10 @@
+-- `lexis::spellings::spelling` meets its contract. Assumes nothing.
+use Rattle.lexis.proofs.SpellingSteps.{spelled-one, spelled-other}
+use borrow.Author.Rules.{rules}
+use Rattle.lexis.proofs.spellings.spelling.Goals as goal
+
+pub returns-then-starts_with : goal.returns-then-starts_with
+returns-then-starts_with c = search spelled-one
+
+pub returns : goal.returns
+returns c = search spelled-other

@@ -1,0 +1,10 @@
+-- `lexis::spellings::word_sort` meets its contract. Assumes nothing.
+use Rattle.lexis.proofs.WordSteps.{sort-keywords, sort-booleans}
+use borrow.Author.Rules.{rules}
+use Rattle.lexis.proofs.spellings.word_sort.Goals as goal
+
+pub returns-in-Keywords : goal.returns-in-Keywords
+returns-in-Keywords c = search sort-keywords
+
+pub returns-in-Booleans : goal.returns-in-Booleans
+returns-in-Booleans c = search sort-booleans

@@ -1,0 +1,7 @@
+-- `lexis::tokens::closes` meets its contract. Assumes nothing.
+use borrow.Author.Rules.{rules}
+use Rattle.lexis.proofs.ContentSteps.{closing-told}
+use Rattle.lexis.proofs.tokens.closes.Goals as goal
+
+pub returns : goal.returns
+returns c = search closing-told

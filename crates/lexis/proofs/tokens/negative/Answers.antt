@@ -1,0 +1,10 @@
+-- `lexis::tokens::negative` meets its contract. Assumes nothing.
+use borrow.Author.Rules.{rules}
+use Rattle.lexis.proofs.TokenSteps.{negative-not, negative-is}
+use Rattle.lexis.proofs.tokens.negative.Goals as goal
+
+pub returns-then-s-at-ne45 : goal.returns-then-s-at-ne45
+returns-then-s-at-ne45 c = search negative-not
+
+pub returns : goal.returns
+returns c = search negative-is

@@ -1,0 +1,22 @@
+-- `lexis::tokens::token_on` meets its contract. Assumes nothing.
+use Rattle.lexis.proofs.TokenSteps.{on-end, on-capital, on-small, on-digit, on-mark, on-other}
+use borrow.Author.Rules.{rules}
+use Rattle.lexis.proofs.tokens.token_on.Goals as goal
+
+pub returns-then-s-at : goal.returns-then-s-at
+returns-then-s-at c = search on-end
+
+pub returns-in-3 : goal.returns-in-3
+returns-in-3 c = search on-capital
+
+pub returns-in-2 : goal.returns-in-2
+returns-in-2 c = search on-small
+
+pub returns-in-1 : goal.returns-in-1
+returns-in-1 c = search on-digit
+
+pub returns-in-4 : goal.returns-in-4
+returns-in-4 c = search on-mark
+
+pub returns-in_default : goal.returns-in_default
+returns-in_default c = search on-other

@@ -1,0 +1,7 @@
+-- `lexis::tokens::word` meets its contract. Assumes nothing.
+use borrow.Author.Rules.{rules}
+use Rattle.lexis.proofs.WordSteps.{word-is}
+use Rattle.lexis.proofs.tokens.word.Goals as goal
+
+pub returns : goal.returns
+returns c = search word-is
