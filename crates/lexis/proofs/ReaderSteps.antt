@@ -1,12 +1,10 @@
 -- The steps of reading the next token of a text: a lemma for each way out, in the form that `search` takes. Assumes nothing.
-use mathlib.Core.Path.{◌≡◌}
+use mathlib.Core.Path.{◌≡◌, refl}
 use mathlib.Core.Bool.{Bool}
 use mathlib.Core.List.{List, [], ◌∷◌}
 use Prim.Native.Nat.{ℕ, ◌≤◌, ◌<◌}
 use native.Mathlib.Omega.{arith}
 use lib.ListN.{length, drop_of_length-le}
-use types.Run.{OneOf, miss}
-use denote.Enum.Declared.{tag_of}
 use borrow.Author.Tests.{le-leb}
 use Rattle.lexis.specs.Blanks.{skip, token_start}
 use Rattle.lexis.specs.Tokens.{token, text_end, token_on, token_at}
@@ -15,7 +13,6 @@ use Rattle.lexis.specs.Clauses.Answers.{PlaceIs, sorting, behind_of, token_by}
 use Rattle.lexis.specs.declared.Token.{Token}
 use Rattle.lexis.specs.declared.reader.Tokens.{Tokens}
 use Rattle.lexis.specs.declared.reader.Tokens.TheVariants.{Constraint, Data, Behind}
-use Rattle.lexis.specs.contracts.reader.Tokens.{the_type}
 
 module _ (s : List ℕ) (from : ℕ) where
   -- behind the text's end
@@ -31,13 +28,13 @@ module _ (s : List ℕ) (from : ℕ) where
     next-constraint e q = rw e (rw p.is at q)
 
     -- the choice is one of the last two
-    pub next-data : (b : Bool) → OneOf (1 ∷ 2 ∷ []) (tag_of the_type k) → b ≡ behind_of k
-        → t ≡ data_token_on (sorting b) s at → t ≡ token_by k s from
+    pub next-data : (b : Bool) → (k ≡ Constraint → ⊥) → b ≡ behind_of k → t ≡ data_token_on (sorting b) s at
+        → t ≡ token_by k s from
     unfolding data_token_at type_token_at
     next-data b n e q = by_kind k n (rw (p.is, e) at q)
       where
-        by_kind : (k : Tokens) → OneOf (1 ∷ 2 ∷ []) (tag_of the_type k)
+        by_kind : (k : Tokens) → (k ≡ Constraint → ⊥)
             → t ≡ data_token_on (sorting (behind_of k)) s (token_start s from) → t ≡ token_by k s from
-        by_kind Constraint n q = absurd (miss (1 ∷ 2 ∷ []) 0 tt n)
+        by_kind Constraint n q = absurd (n refl)
         by_kind Data n q = q
         by_kind Behind n q = q

@@ -83,8 +83,8 @@ passed (b ∷ bs) true s from h =
     let m = passed bs true s (from + 1) t in
     let n = passed bs false s (from + 1) t in
     true-or-false (line_end b)
-    (λ e. let k = (is-line-end b).0 e in rw e (from, CommentTo.line_ends g k, Separates.blank g (Blank.line_end k) n))
-    (λ e. rw e (m.0, CommentTo.onward g (λ k. false-true (sym e ∙ (is-line-end b).1 k)) m.1, m.2))
+    (λ e. let k = (is-line-end b).0 e in rw (e, skip) (from, CommentTo.line_ends g k, Separates.blank g (Blank.line_end k) n))
+    (λ e. rw (e, skip) (m.0, CommentTo.onward g (λ k. false-true (sym e ∙ (is-line-end b).1 k)) m.1, m.2))
 passed (b ∷ bs) false s from h =
     let g = split-stands s from (b ∷ []) bs h in
     let t = behind s from (b ∷ []) bs h in

@@ -10,4 +10,4 @@ pub returns-in-Constraint : goal.returns-in-Constraint
 returns-in-Constraint c = search next-constraint
 
 pub returns-in_default : goal.returns-in_default
-returns-in_default c = search next-data
+returns-in_default c = next-data _ _ _ _ _ c.token_start-at.ensures _ c.in_default.not-Constraint c.behind.ensures c.data_token_on.ensures

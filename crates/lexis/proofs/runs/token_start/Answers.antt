@@ -6,11 +6,9 @@ use Rattle.lexis.proofs.RunSteps.{InBlanks, blanks-first, blanks-end, blanks-out
 use borrow.Author.Rules.{rules}
 use Rattle.lexis.proofs.runs.token_start.Goals as goal
 
-loop-again : tie.Need-loop-preserved invariant-loop decreases-loop
-loop-again c =
-    let k = c.before.before in
-    let l = k.before.before in
-    blanks-on _ _ _ _ _ l.loop.invariant _ k.before.loop-test.true k.token-here.ensures _ c.before.if1.false c.comment-open.ensures
+pub loop-at-preserved : goal.loop-at-preserved
+loop-at-preserved c =
+    blanks-on _ _ _ _ _ c.loop-at.invariant _ c.loop-at-test.true c.token_here.ensures _ c.if-token_here.false c.comment_open-inside.ensures
 
 pub loop-at-init : goal.loop-at-init
 loop-at-init c = search blanks-first

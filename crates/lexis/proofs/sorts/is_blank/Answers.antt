@@ -25,4 +25,4 @@ unfolding sort_of
 returns c =
     let b = c.args.b in
     let e = agree (λ b. cond (eqb b 32) true (eqb b 13)) (is blank) 11 245 refl b (omega arith) (omega arith) in
-    sym (ap (λ (k : Bool). cond k true (eqb b 13)) (ne_eqb b 32 c.if1.false)) ∙ e
+    sym (ap (λ (k : Bool). cond k true (eqb b 13)) (ne_eqb b 32 c.if-b-eq32.false)) ∙ e

@@ -1,5 +1,6 @@
 -- `lexis::tokens::code_end` meets its contract. Assumes nothing.
-use mathlib.Core.Bool.{false}
+use mathlib.Core.Path.{ap}
+use mathlib.Core.Bool.{false, not}
 use Prim.Native.Nat.{◌-◌}
 use lib.ListN.{length, drop}
 use borrow.Author.Rules.{rules}
@@ -7,11 +8,9 @@ use Rattle.lexis.specs.Tokens.{code_end}
 use Rattle.lexis.proofs.TokenSteps.{InCode, code-first, code-none, code-close, code-stop, code-on}
 use Rattle.lexis.proofs.tokens.code_end.Goals as goal
 
-loop-again : tie.Need-loop-preserved invariant-loop decreases-loop
-loop-again c =
-    let k = c.before.before.before in
-    let l = k.before.before.before in
-    code-on _ _ _ _ l.before.before.before.loop.invariant l.before.before.loop-test.true _ l.code-close.ensures _ k.code-byte.ensures _ c.before.before.if2.false c.is_digit.ensures
+pub loop-at-preserved : goal.loop-at-preserved
+loop-at-preserved c =
+    code-on _ _ _ _ c.loop-at.invariant c.loop-at-test.true _ c.code_close.ensures _ c.code_byte.ensures _ (ap not c.if-not-code_byte.false) c.is_digit-some.ensures
 
 pub loop-at-init : goal.loop-at-init
 loop-at-init c = search code-first
