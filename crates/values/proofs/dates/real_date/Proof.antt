@@ -1,8 +1,0 @@
--- `dates::real_date` answers what its definition says. Assumes nothing.
-use borrow.Author.Rules.{rules}
-use Rattle.values.proofs.DateSteps.{steps}
-use Rattle.values.proofs.dates.real_date.Statement.{statement}
-use Rattle.values.proofs.dates.real_date.Tie as tie
-
-pub real-date-spec : {M : Type 1} → statement M
-real-date-spec = tie.close (tie.spec (λ c κs. search rules) (λ c. search (steps, rules)) (λ c. search (steps, rules)))

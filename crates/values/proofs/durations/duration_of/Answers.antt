@@ -1,0 +1,13 @@
+-- `values::durations::duration_of` meets its contract. Assumes nothing.
+use borrow.Author.Rules.{rules}
+use Rattle.values.proofs.DurationSteps.{duration-empty, duration-signed, duration-unsigned}
+use Rattle.values.proofs.durations.duration_of.Goals as goal
+
+pub returns-then-w-eq0 : goal.returns-then-w-eq0
+returns-then-w-eq0 c = search duration-empty
+
+pub returns-then-w-eq45 : goal.returns-then-w-eq45
+returns-then-w-eq45 c = search duration-signed
+
+pub returns : goal.returns
+returns c = search duration-unsigned

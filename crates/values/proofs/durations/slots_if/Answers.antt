@@ -1,0 +1,10 @@
+-- `values::durations::slots_if` meets its contract. Assumes nothing.
+use borrow.Author.Rules.{rules}
+use Rattle.values.proofs.DurationSteps.{slots-none, slots-are}
+use Rattle.values.proofs.durations.slots_if.Goals as goal
+
+pub returns-then-flag-eq0 : goal.returns-then-flag-eq0
+returns-then-flag-eq0 c = search slots-none
+
+pub returns : goal.returns
+returns c = search slots-are
