@@ -39,8 +39,10 @@ module _ {A : Type 0} (P : Cause → Type 0) where
   -- each fault of the list is so
   pub faults-are : (w : Parse A) → FaultsOf P w → (x : Refusal) → Memᴰ x (faults_in w) → P x.cause
   faults-are (stopped x) (of_stopped h) y (Memᴰ.head e) = rw e h
+  faults-are (stopped x) (of_stopped h) y (Memᴰ.tail m) = elim m [ ]
   faults-are (flawed x w) (of_flawed h l) y (Memᴰ.head e) = rw e h
   faults-are (flawed x w) (of_flawed h l) y (Memᴰ.tail m) = faults-are w l y m
+  faults-are (parsed b p) h y m = elim m [ ]
 
 -- a token that cannot follow, and one that is asked for
 syntax-data : (t : Token) → OfDataText (syntax_cause t)

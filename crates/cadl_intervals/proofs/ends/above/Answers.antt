@@ -1,0 +1,10 @@
+-- `cadl_intervals::ends::above` meets its contract. Assumes nothing.
+use borrow.Author.Rules.{rules}
+use Rattle.cadl_intervals.proofs.IntervalSteps.{above-up, above_open}
+use Rattle.cadl_intervals.proofs.ends.above.Goals as goal
+
+pub returns-then-t-eq-DOTS : goal.returns-then-t-eq-DOTS
+returns-then-t-eq-DOTS c = search above-up
+
+pub returns : goal.returns
+returns c = search above_open

@@ -1,0 +1,13 @@
+-- `cadl_intervals::ends::after` meets its contract. Assumes nothing.
+use borrow.Author.Rules.{rules}
+use Rattle.cadl_intervals.proofs.IntervalSteps.{after-number, after-day}
+use Rattle.cadl_intervals.proofs.ends.after.Goals as goal
+
+pub returns-then-kind-ne-DATE : goal.returns-then-kind-ne-DATE
+returns-then-kind-ne-DATE c = search after-number
+
+pub day_after-requires : goal.day_after-requires
+day_after-requires c = c.requires c.if1.false
+
+pub returns : goal.returns
+returns c = search after-day

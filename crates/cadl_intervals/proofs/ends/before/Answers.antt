@@ -1,0 +1,13 @@
+-- `cadl_intervals::ends::before` meets its contract. Assumes nothing.
+use borrow.Author.Rules.{rules}
+use Rattle.cadl_intervals.proofs.IntervalSteps.{before-day, before-number}
+use Rattle.cadl_intervals.proofs.ends.before.Goals as goal
+
+pub day_before-requires : goal.day_before-requires
+day_before-requires c = c.requires.day c.if1.true
+
+pub returns-then-kind-eq-DATE : goal.returns-then-kind-eq-DATE
+returns-then-kind-eq-DATE c = search before-day
+
+pub returns : goal.returns
+returns c = search before-number

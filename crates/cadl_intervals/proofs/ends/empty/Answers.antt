@@ -1,0 +1,10 @@
+-- `cadl_intervals::ends::empty` meets its contract. Assumes nothing.
+use borrow.Author.Rules.{rules}
+use Rattle.cadl_intervals.proofs.IntervalSteps.{empty-below, empty-shut}
+use Rattle.cadl_intervals.proofs.ends.empty.Goals as goal
+
+pub returns-then-below : goal.returns-then-below
+returns-then-below c = search empty-below
+
+pub returns : goal.returns
+returns c = search empty-shut

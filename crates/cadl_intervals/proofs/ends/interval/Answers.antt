@@ -1,0 +1,13 @@
+-- `cadl_intervals::ends::interval` meets its contract. Assumes nothing.
+use borrow.Author.Rules.{rules}
+use Rattle.cadl_intervals.proofs.IntervalSteps.{interval-faulty, interval-closed, interval-closable}
+use Rattle.cadl_intervals.proofs.ends.interval.Goals as goal
+
+pub returns-in-Faulty : goal.returns-in-Faulty
+returns-in-Faulty c = search interval-faulty
+
+pub close-requires : goal.close-requires
+close-requires c = search interval-closable
+
+pub returns-in-Ends : goal.returns-in-Ends
+returns-in-Ends c = search interval-closed

@@ -1,0 +1,16 @@
+-- `cadl_intervals::ends::spread` meets its contract. Assumes nothing.
+use borrow.Author.Rules.{rules}
+use Rattle.cadl_intervals.proofs.IntervalSteps.{spread-faulty, spread-outside, spread-ends, spread-inside}
+use Rattle.cadl_intervals.proofs.ends.spread.Goals as goal
+
+pub returns-in-Faulty : goal.returns-in-Faulty
+returns-in-Faulty c = search spread-faulty
+
+pub returns-then-not-inside : goal.returns-then-not-inside
+returns-then-not-inside c = search spread-outside
+
+pub around-e-requires : goal.around-e-requires
+around-e-requires c = search spread-inside
+
+pub returns-in-Literal : goal.returns-in-Literal
+returns-in-Literal c = search spread-ends

@@ -1,0 +1,10 @@
+-- `cadl_intervals::ends::up_to` meets its contract. Assumes nothing.
+use borrow.Author.Rules.{rules}
+use Rattle.cadl_intervals.proofs.IntervalSteps.{up-below, up-value}
+use Rattle.cadl_intervals.proofs.ends.up_to.Goals as goal
+
+pub returns-then-t-eq-LESS : goal.returns-then-t-eq-LESS
+returns-then-t-eq-LESS c = search up-below
+
+pub returns : goal.returns
+returns c = search up-value

@@ -1,0 +1,10 @@
+-- `dadl::blocks::finish` meets its contract. Assumes nothing.
+use borrow.Author.Rules.{rules}
+use Rattle.dadl.proofs.BlockSteps.{finish-fits, finish-done}
+use Rattle.dadl.proofs.blocks.finish.Goals as goal
+
+pub put_row-requires : goal.put_row-requires
+put_row-requires c = search finish-fits
+
+pub returns : goal.returns
+returns c = search finish-done

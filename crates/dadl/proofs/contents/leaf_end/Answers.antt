@@ -1,0 +1,10 @@
+-- `dadl::contents::leaf_end` meets its contract. Assumes nothing.
+use borrow.Author.Rules.{rules}
+use Rattle.dadl.proofs.ContentSteps.{leaf-unclosed, leaf-closed}
+use Rattle.dadl.proofs.contents.leaf_end.Goals as goal
+
+pub returns-in-Fault : goal.returns-in-Fault
+returns-in-Fault c = search leaf-unclosed
+
+pub returns-in-Taken : goal.returns-in-Taken
+returns-in-Taken c = search leaf-closed

@@ -1,0 +1,10 @@
+-- `dadl::contents::typed_content` meets its contract. Assumes nothing.
+use borrow.Author.Rules.{rules}
+use Rattle.dadl.proofs.ContentSteps.{typed-faulty, typed-block}
+use Rattle.dadl.proofs.contents.typed_content.Goals as goal
+
+pub returns-in-Shut : goal.returns-in-Shut
+returns-in-Shut c = search typed-faulty
+
+pub returns-in-Opens : goal.returns-in-Opens
+returns-in-Opens c = search typed-block

@@ -1,0 +1,13 @@
+-- `dadl::names::member_start` meets its contract. Assumes nothing.
+use borrow.Author.Rules.{rules}
+use Rattle.dadl.proofs.NameSteps.{member-bad, member-next, member-content}
+use Rattle.dadl.proofs.names.member_start.Goals as goal
+
+pub content_start-requires : goal.content_start-requires
+content_start-requires c = search member-next
+
+pub returns-in-Bad : goal.returns-in-Bad
+returns-in-Bad c = search member-bad
+
+pub returns-in-Spans : goal.returns-in-Spans
+returns-in-Spans c = search member-content

@@ -1,0 +1,10 @@
+-- `dadl::text_end` meets its contract. Assumes nothing.
+use borrow.Author.Rules.{rules}
+use Rattle.dadl.proofs.DataSteps.{end-missing, end-there}
+use Rattle.dadl.proofs.text_end.Goals as goal
+
+pub returns-in-Fault : goal.returns-in-Fault
+returns-in-Fault c = search end-missing
+
+pub returns-in-Taken : goal.returns-in-Taken
+returns-in-Taken c = search end-there

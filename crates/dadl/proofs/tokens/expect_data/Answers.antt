@@ -1,0 +1,7 @@
+-- `dadl::tokens::expect_data` meets its contract. Assumes nothing.
+use borrow.Author.Rules.{rules}
+use Rattle.dadl.proofs.TokenSteps.{expect-is}
+use Rattle.dadl.proofs.tokens.expect_data.Goals as goal
+
+pub returns : goal.returns
+returns c = search expect-is

@@ -1,0 +1,7 @@
+-- `refusals::steps::expect` meets its contract. Assumes nothing.
+use borrow.Author.Rules.{rules}
+use Rattle.refusals.proofs.StepLaws.{expect-is}
+use Rattle.refusals.proofs.steps.expect.Goals as goal
+
+pub returns : goal.returns
+returns c = search expect-is
