@@ -7,7 +7,7 @@ pub returns-then-kind-ne-DATE : goal.returns-then-kind-ne-DATE
 returns-then-kind-ne-DATE c = search after-number
 
 pub day_after-requires : goal.day_after-requires
-day_after-requires c = c.requires c.if1.false
+day_after-requires c = c.requires c.if-kind-ne-DATE.false
 
 pub returns : goal.returns
 returns c = search after-day

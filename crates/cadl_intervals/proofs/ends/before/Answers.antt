@@ -4,7 +4,7 @@ use Rattle.cadl_intervals.proofs.IntervalSteps.{before-day, before-number}
 use Rattle.cadl_intervals.proofs.ends.before.Goals as goal
 
 pub day_before-requires : goal.day_before-requires
-day_before-requires c = c.requires.day c.if1.true
+day_before-requires c = c.requires.day c.if-kind-eq-DATE.true
 
 pub returns-then-kind-eq-DATE : goal.returns-then-kind-eq-DATE
 returns-then-kind-eq-DATE c = search before-day

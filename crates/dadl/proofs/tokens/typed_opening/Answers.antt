@@ -7,7 +7,7 @@ pub returns-in-Bad : goal.returns-in-Bad
 returns-in-Bad c = search typed-bad
 
 pub typed_less-requires : goal.typed_less-requires
-typed_less-requires c = (search typed-next, search typed-order)
+typed_less-requires c = record { from_in_bounds = search typed-next; span_before = search typed-order }
 
 pub returns-in-Spans : goal.returns-in-Spans
 returns-in-Spans c = search typed-on
