@@ -1,61 +1,59 @@
-use Rattle.std.proofs.Common.{rules, ◌≡◌, [], ◌+◌, ◌-◌, length, ℕ, ◌*◌, ◌<◌, ◌≤◌, ◌/◌, ◌%◌, Bool, true, false, nat_eq, nat_lt, List, ◌∷◌, ◌++◌, slice_index_or, slice_set, bit_and, bit_or, Fits, w8, w32, w64, Bor, MutBor}
-use Rattle.refusals.specs.Parsing.{first_in}
-use Rattle.dadl.specs.Data.{members, block_from}
-use Rattle.dadl.specs.Clauses.Answers.{link_of, leaf_row, block_row, Finish, finished_rows, member_wrote, RowsRoom, Earlier, MemberRoom, MemberIs, RowsIs, entries_from}
+-- `dadl::blocks::read_block`, `read_members` and `read_member`, which call each other, meet their contracts: the levels left fall. Assumes nothing.
+use borrow.Author.Rules.{rules}
+use Rattle.dadl.proofs.BlockSteps.{block-deep, block-inner, block-members, member-faulty, leaf-finish, leaf-member, block_room, block_refused, block-count, block-finish, block-member, members-start, members-close, members-fault, member-room, member-earlier, member-less, member-next, member-not}
 use Rattle.dadl.proofs.blocks.+read_block_read_member_read_members.Goals as goal
 
--- src/blocks.rt:95:9
 pub read_block-returns-then-levels-eq0 : goal.read_block-returns-then-levels-eq0
-read_block-returns-then-levels-eq0 t c = ?
+read_block-returns-then-levels-eq0 t c = search block-deep
 
--- src/blocks.rt:100:5
 pub read_block-read_members-requires : goal.read_block-read_members-requires
-read_block-read_members-requires t c = ?
+read_block-read_members-requires t c = (search rules, search block-inner)
 
--- src/blocks.rt:81:1
 pub read_block-returns : goal.read_block-returns
-read_block-returns t c = ?
+read_block-returns t c = search block-members
 
--- src/blocks.rt:164:13
+pub read_member-returns-in-Faulty : goal.read_member-returns-in-Faulty
+read_member-returns-in-Faulty t c = search member-faulty
+
+pub read_member-finish-requires : goal.read_member-finish-requires
+read_member-finish-requires t c = search leaf-finish
+
 pub read_member-returns-in-Leaf : goal.read_member-returns-in-Leaf
-read_member-returns-in-Leaf t c = ?
+read_member-returns-in-Leaf t c = search leaf-member
 
--- src/blocks.rt:171:20
 pub read_member-read_block-requires : goal.read_member-read_block-requires
-read_member-read_block-requires t c = ?
+read_member-read_block-requires t c = (search rules, search block_room)
 
--- src/blocks.rt:173:17
 pub read_member-returns-in-Refused : goal.read_member-returns-in-Refused
-read_member-returns-in-Refused t c = ?
+read_member-returns-in-Refused t c = search block_refused
 
--- src/blocks.rt:180:17
+pub read_member-overflow_sub-rows : goal.read_member-overflow_sub-rows
+read_member-overflow_sub-rows t c = search block-count
+
+pub read_member-finish-requires-in-Read : goal.read_member-finish-requires-in-Read
+read_member-finish-requires-in-Read t c =
+    block-finish _ c.requires.member_room c.member_start.ensures (search rules) c.read_block.ensures (search rules) c.read_block.auto.tape c.block_row-row.ensures
+
 pub read_member-returns-in-Read : goal.read_member-returns-in-Read
-read_member-returns-in-Read t c = ?
+read_member-returns-in-Read t c = search block-member
 
--- src/blocks.rt:118:5
 pub read_members-loop-t-init : goal.read_members-loop-t-init
-read_members-loop-t-init t c = ?
+read_members-loop-t-init t c = search members-start
 
--- src/blocks.rt:120:13
 pub read_members-returns-then-t-eq-GREATER : goal.read_members-returns-then-t-eq-GREATER
-read_members-returns-then-t-eq-GREATER t c = ?
+read_members-returns-then-t-eq-GREATER t c = search members-close
 
--- src/blocks.rt:124:13
 pub read_members-returns-then-t-ne-NAME : goal.read_members-returns-then-t-ne-NAME
-read_members-returns-then-t-ne-NAME t c = ?
+read_members-returns-then-t-ne-NAME t c = search members-fault
 
--- src/blocks.rt:126:15
 pub read_members-read_member-requires : goal.read_members-read_member-requires
-read_members-read_member-requires t c = ?
+read_members-read_member-requires t c = (search rules, (search member-room, search member-earlier))
 
--- src/blocks.rt:118:5
 pub read_members-loop-t-smaller : goal.read_members-loop-t-smaller
-read_members-loop-t-smaller t c = ?
+read_members-loop-t-smaller t c = search member-less
 
--- src/blocks.rt:118:5
 pub read_members-loop-t-preserved : goal.read_members-loop-t-preserved
-read_members-loop-t-preserved t c = ?
+read_members-loop-t-preserved t c = search member-next
 
--- src/blocks.rt:132:17
 pub read_members-returns-in-Not : goal.read_members-returns-in-Not
-read_members-returns-in-Not t c = ?
+read_members-returns-in-Not t c = search member-not

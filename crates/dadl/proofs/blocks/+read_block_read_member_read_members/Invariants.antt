@@ -1,21 +1,21 @@
-use Rattle.std.proofs.Common.{◌-◌, ◌≡◌, [], ◌+◌, length, ℕ, ◌*◌, ◌<◌, ◌≤◌}
-use Rattle.refusals.specs.Parsing.{first_in}
-use Rattle.dadl.specs.Data.{members, block_from}
-use Rattle.dadl.specs.Clauses.Answers.{link_of, leaf_row, block_row, Finish, finished_rows, member_wrote, RowsRoom, Earlier, MemberRoom, MemberIs, RowsIs, entries_from}
+-- The measures of the functions that call each other, and the loop over members. Assumes nothing.
+use Prim.Native.Nat.{◌+◌, ◌*◌, ◌-◌}
+use lib.ListN.{length}
+use Rattle.refusals.specs.Limits.{level_limit}
+use Rattle.dadl.proofs.BlockSteps.{InMembers}
 use Rattle.dadl.proofs.blocks.+read_block_read_member_read_members.Given as goal
 
 abbrev pub decreases-read_block : goal.decreases-read_block
-decreases-read_block l = ?
+decreases-read_block l = 3 * l.levels
 
 abbrev pub decreases-read_member : goal.decreases-read_member
-decreases-read_member l = ?
+decreases-read_member l = 3 * l.levels + 1
 
 abbrev pub decreases-read_members : goal.decreases-read_members
-decreases-read_members l = ?
+decreases-read_members l = 3 * l.levels + 2
 
 abbrev pub invariant-read_members-loop-t : goal.invariant-read_members-loop-t
-invariant-read_members-loop-t l = ?
+invariant-read_members-loop-t l = InMembers l.s l.levels l.from l.n l.initial.tape l.rows l.t l.tape
 
--- proposed from the loop's first test
 abbrev pub decreases-read_members-loop-t : goal.decreases-read_members-loop-t
-decreases-read_members-loop-t l = 19 - l.t.sort
+decreases-read_members-loop-t l = length l.s + level_limit - l.rows

@@ -1,0 +1,22 @@
+-- `table::check::is_framed` meets its contract. Assumes nothing.
+use Rattle.table.proofs.CheckSteps.{check-steps, counts-open}
+use borrow.Author.Rules.{rules}
+use Rattle.table.proofs.check.is_framed.Goals as goal
+
+pub returns-then-table-lt-RECORD_SIZE : goal.returns-then-table-lt-RECORD_SIZE
+returns-then-table-lt-RECORD_SIZE c = search (check-steps, rules)
+
+pub returns-then-not-is_marked : goal.returns-then-not-is_marked
+returns-then-not-is_marked c = search (check-steps, rules)
+
+pub returns-then-not-plain_header : goal.returns-then-not-plain_header
+returns-then-not-plain_header c = search (check-steps, rules)
+
+pub returns-then-not-counts_right : goal.returns-then-not-counts_right
+returns-then-not-counts_right c = search (check-steps, rules)
+
+pub kind_at-requires : goal.kind_at-requires
+kind_at-requires c = counts-open _ _ _ c.read-h.ensures c.counts_right.ensures c.if-not-counts_right.false
+
+pub returns : goal.returns
+returns c = search (check-steps, rules)

@@ -1,0 +1,20 @@
+-- `table::names::name_in` meets its contract. Assumes nothing.
+use Rattle.table.proofs.NameSteps.{name-steps, name-inside}
+use borrow.Author.Rules.{rules}
+use Rattle.table.proofs.names.name_in.Goals as goal
+
+pub frame_of-frame-requires : goal.frame_of-frame-requires
+frame_of-frame-requires c = search (name-steps, rules)
+
+pub kind_at-requires : goal.kind_at-requires
+kind_at-requires c = search (name-steps, rules)
+
+pub returns-then-not-has_name : goal.returns-then-not-has_name
+returns-then-not-has_name c = search (name-steps, rules)
+
+pub name_part-requires : goal.name_part-requires
+name_part-requires c =
+    name-inside _ _ _ _ _ c.kind_at.ensures c.has_name.ensures c.if-not-has_name.false c.requires c.frame_of-frame.ensures
+
+pub returns : goal.returns
+returns c = search (name-steps, rules)

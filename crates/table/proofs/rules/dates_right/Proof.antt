@@ -1,9 +1,0 @@
--- `table::rules::dates_right` meets its contract. Assumes nothing.
-use Rattle.table.proofs.RuleSteps.{rule-steps}
-use borrow.Author.Rules.{rules}
-use Rattle.table.proofs.rules.dates_right.Statement.{statement}
-use Rattle.table.proofs.rules.dates_right.Tie as tie
-
-pub dates-right-spec : {M : Type 1} → statement M
-dates-right-spec =
-    tie.close (tie.spec (λ c κs. search rules) (λ c κs. search rules) (λ c. search (rule-steps, rules)) (λ c. search (rule-steps, rules)) (λ c. search (rule-steps, rules)))

@@ -1,9 +1,0 @@
--- `table::rules::link_right` meets its contract. Assumes nothing.
-use Rattle.table.proofs.RuleSteps.{rule-steps}
-use borrow.Author.Rules.{rules}
-use Rattle.table.proofs.rules.link_right.Statement.{statement}
-use Rattle.table.proofs.rules.link_right.Tie as tie
-
-pub link-right-spec : {M : Type 1} → statement M
-link-right-spec =
-    tie.close (tie.spec (λ c κs. search rules) (λ c κs. search rules) (λ c. search (rule-steps, rules)) (λ c. search (rule-steps, rules)) (λ c. search (rule-steps, rules)))

@@ -1,9 +1,0 @@
--- `table::rules::next_right` meets its contract. Assumes nothing.
-use Rattle.table.proofs.Chains.{chain_steps}
-use Rattle.table.proofs.KindSteps.{kind-steps}
-use borrow.Author.Rules.{rules}
-use Rattle.table.proofs.rules.next_right.Statement.{statement}
-use Rattle.table.proofs.rules.next_right.Tie as tie
-
-pub next-right-spec : {M : Type 1} → statement M
-next-right-spec = tie.close (tie.spec (λ c κs. search rules) (λ c. search (kind-steps, chain_steps, rules)) (λ c. search (kind-steps, chain_steps, rules)) (λ c. search (kind-steps, chain_steps, rules)))

@@ -1,9 +1,0 @@
--- `table::rules::string_right` meets its contract. Assumes nothing.
-use Rattle.table.proofs.Chains.{chain_steps}
-use Rattle.table.proofs.KindSteps.{kind-steps}
-use borrow.Author.Rules.{rules}
-use Rattle.table.proofs.rules.string_right.Statement.{statement}
-use Rattle.table.proofs.rules.string_right.Tie as tie
-
-pub string-right-spec : {M : Type 1} → statement M
-string-right-spec = tie.close (tie.spec (λ c κs. search rules) (λ c κs. search rules) (λ c. search (kind-steps, chain_steps, rules)) (λ c. search (kind-steps, chain_steps, rules)))
