@@ -1,0 +1,16 @@
+-- `cadl_items::ranges::overlaps` meets its contract. Assumes nothing.
+use borrow.Author.Rules.{rules}
+use Rattle.cadl_items.proofs.RangeSteps.{InPairs, pairs_start, pairs-meet, pairs-on, pairs_end}
+use Rattle.cadl_items.proofs.ranges.overlaps.Goals as goal
+
+pub loop-n-init : goal.loop-n-init
+loop-n-init c = search pairs_start
+
+pub returns-then-meet : goal.returns-then-meet
+returns-then-meet c = search pairs-meet
+
+pub loop-n-preserved : goal.loop-n-preserved
+loop-n-preserved c = search pairs-on
+
+pub returns : goal.returns
+returns c = search pairs_end

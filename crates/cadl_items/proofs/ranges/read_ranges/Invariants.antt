@@ -1,0 +1,12 @@
+-- The loops of `cadl_items::ranges::read_ranges`. Assumes nothing.
+use borrow.Author.Rules.{rules}
+use Prim.Native.Nat.{◌-◌}
+use Rattle.refusals.specs.Limits.{item_limit}
+use Rattle.cadl_items.proofs.RangeSteps.{InRanges, ranges-faulty, ranges-last, ranges-start, ranges-room, ranges-less, ranges_more}
+use Rattle.cadl_items.proofs.ranges.read_ranges.Given as goal
+
+abbrev pub invariant-loop-fault : goal.invariant-loop-fault
+invariant-loop-fault l = InRanges l.s l.number l.from l.scratch l.kind l.count l.at
+
+abbrev pub decreases-loop-fault : goal.decreases-loop-fault
+decreases-loop-fault l = item_limit - l.count

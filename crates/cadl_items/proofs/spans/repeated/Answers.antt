@@ -1,0 +1,43 @@
+-- `cadl_items::spans::repeated` meets its contract. Assumes nothing.
+use Prim.Native.Nat.{◌-◌}
+use lib.ListN.{length}
+use borrow.Author.Rules.{rules}
+use Rattle.lexis.proofs.Comparing.{InBytes, bytes-in, bytes-there, bytes_on}
+use Rattle.cadl_items.proofs.SpanSteps.{InNames, names-start, names-end, span-lies, names-less, bytes-begin, bytes-found, longer-next, bytes_next}
+use Rattle.cadl_items.proofs.spans.repeated.Goals as goal
+
+pub names-init : goal.names-init
+names-init c = search names-start
+
+pub span_bytes-other-requires : goal.span_bytes-other-requires
+span_bytes-other-requires c = search span-lies
+
+pub loop-i-init : goal.loop-i-init
+loop-i-init c = search bytes-begin
+
+pub bounds-name-i : goal.bounds-name-i
+bounds-name-i c = search bytes-in
+
+pub bounds-other-i : goal.bounds-other-i
+bounds-other-i c = search bytes-there
+
+pub names-smaller-then-name-i : goal.names-smaller-then-name-i
+names-smaller-then-name-i c = search names-less
+
+pub names-preserved-then-name-i : goal.names-preserved-then-name-i
+names-preserved-then-name-i c = search bytes_next
+
+pub loop-i-preserved : goal.loop-i-preserved
+loop-i-preserved c = search bytes_on
+
+pub names-smaller : goal.names-smaller
+names-smaller c = search names-less
+
+pub names-preserved : goal.names-preserved
+names-preserved c = search longer-next
+
+pub returns-after-names : goal.returns-after-names
+returns-after-names c = search names-end
+
+pub returns-then-i-name : goal.returns-then-i-name
+returns-then-i-name c = search bytes-found

@@ -1,0 +1,13 @@
+-- `cadl_items::strings::keep_string` meets its contract. Assumes nothing.
+use borrow.Author.Rules.{rules}
+use Rattle.cadl_items.proofs.StringSteps.{keep-equal, keep-comma, keep-end}
+use Rattle.cadl_items.proofs.strings.keep_string.Goals as goal
+
+pub returns-then-repeated : goal.returns-then-repeated
+returns-then-repeated c = search keep-equal
+
+pub returns-then-u-eq-COMMA : goal.returns-then-u-eq-COMMA
+returns-then-u-eq-COMMA c = search keep-comma
+
+pub returns : goal.returns
+returns c = search keep-end

@@ -1,0 +1,24 @@
+-- `cadl_items::strings::read_strings` meets its contract. Assumes nothing.
+use borrow.Author.Rules.{rules}
+use Prim.Native.Nat.{◌-◌}
+use Rattle.refusals.specs.Limits.{item_limit}
+use Rattle.cadl_items.proofs.StringSteps.{InStrings, strings-start, strings-room, strings-faulty, strings-last, strings-less, strings-more}
+use Rattle.cadl_items.proofs.strings.read_strings.Goals as goal
+
+pub loop-fault-init : goal.loop-fault-init
+loop-fault-init c = search strings-start
+
+pub string_item-requires : goal.string_item-requires
+string_item-requires c = search strings-room
+
+pub returns-in-Faulty : goal.returns-in-Faulty
+returns-in-Faulty c = search strings-faulty
+
+pub returns-in-Last : goal.returns-in-Last
+returns-in-Last c = search strings-last
+
+pub loop-fault-smaller : goal.loop-fault-smaller
+loop-fault-smaller c = search strings-less
+
+pub loop-fault-preserved : goal.loop-fault-preserved
+loop-fault-preserved c = search strings-more
