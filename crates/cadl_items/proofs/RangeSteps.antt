@@ -266,10 +266,10 @@ module _ (s : List ℕ) (kind number count at : ℕ) (before : List ℕ) (d : It
 abbrev with_items : List Range → Reading Ranges → Reading Ranges
 with_items xs r = read_then r (λ l p. got (record { kind = l.kind; items = xs ++ l.items }) p)
 
-with_first : (xs : List Range) (x : Range) (r : Reading Ranges)
+with_first_lem : (xs : List Range) (x : Range) (r : Reading Ranges)
     → with_items xs (with_first x r) ≡ with_items (xs ++ (x ∷ [])) r
-with_first xs x (refused y) = refl
-with_first xs x (got l p) = let h = append_assoc xs (x ∷ []) l.items in λ i. got (record { kind = l.kind; items = sym h i }) p
+with_first_lem xs x (refused y) = refl
+with_first_lem xs x (got l p) = let h = append_assoc xs (x ∷ []) l.items in λ i. got (record { kind = l.kind; items = sym h i }) p
 
 with_none : (r : Reading Ranges) → with_items [] r ≡ r
 with_none (refused y) = refl
@@ -325,7 +325,7 @@ module _ (s : List ℕ) (number from : ℕ) (before : List ℕ) (kind count at :
         let q : RangePast s (number + count) count (range_read.More k p) = rw g at e.past in
         let w = rw g at whole in
         let m : number + (count + 1) ≡ number + count + 1 = omega arith in
-        let n = with_first (items_from (range_at after) number 0 count) (range_at after (number + count) count) (ranges s (item_limit - (count + 1)) k (number + count + 1) (pairs_of after (count + 1)) p) in
+        let n = with_first_lem (items_from (range_at after) number 0 count) (range_at after (number + count) count) (ranges s (item_limit - (count + 1)) k (number + count + 1) (pairs_of after (count + 1)) p) in
         record { inside = q.2; asked = q.3; few = omega arith; records = omega arith; is = rw (m, more) (sym n ∙ w) }
 
     pub ranges-less : (k p : ℕ) → r ≡ range_read.More k p → item_limit - (count + 1) < item_limit - count

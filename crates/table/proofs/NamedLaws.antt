@@ -24,7 +24,7 @@ use Rattle.table.specs.TableRules.{Holds, IsRecord, IsTable}
 use Rattle.table.specs.Says.{NamePart, type_of, name_of, string_of, Named, NameRefuses, no_table, no_name}
 use Rattle.table.proofs.CheckLaws.{kind-record, kind-inside}
 use Rattle.table.proofs.NameSteps.{kind-some}
-use Rattle.table.proofs.TableRuleLaws.{passes, no_table}
+use Rattle.table.proofs.TableRuleLaws.{passes, no_table as no_table_told}
 use Rattle.table.proofs.SaysLaws.{table-checked, table-count, record-held}
 
 -- a part by its start and its length
@@ -115,7 +115,7 @@ no_part n t h false e = refl
 -- a name is refused where the bytes are no table, or the record has none
 refused-there : (bs : List ℕ) (n : ℕ) (r : Refusal) (f : Option Refusal) → table_fault bs ≡ f
     → or_fault f (name_outcome (image_of bs) n) ≡ refused r → NameRefuses bs n r
-refused-there bs n r (some x) f e = no_table ((no_table bs r).0 (f ∙ ap some (same-refusal e)))
+refused-there bs n r (some x) f e = no_table ((no_table_told bs r).0 (f ∙ ap some (same-refusal e)))
 refused-there bs n r none f e =
     let q = (passes bs).0 f in
     by_cond (λ o. o ≡ refused r → NameRefuses bs n r) (not (holds_name (image_of bs) n))
@@ -127,7 +127,7 @@ refused-there bs n r none f e =
 
 refused-only : {bs : List ℕ} {n : ℕ} {r : Refusal} → NameRefuses bs n r
     → or_fault (table_fault bs) (name_outcome (image_of bs) n) ≡ refused r
-refused-only {bs} (no_table {r = r} h) = rw ((no_table bs r).1 h)
+refused-only {bs} (no_table {r = r} h) = rw ((no_table_told bs r).1 h)
 refused-only {bs} {n} (no_name t h) = rw (table-checked t) (no_part n t h (holds_name (image_of bs) n) refl)
 
 -- and refused exactly where they refuse it

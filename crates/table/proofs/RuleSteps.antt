@@ -7,7 +7,7 @@ use native.Mathlib.Omega.{arith}
 use lib.Dec.{eqb, leb, ltb, leb-zero, leb-suc-zero, eqb-suc-zero}
 use lib.ListN.{get_or, get_or-eq_default}
 use lib.ListN
-use borrow.Author.Rules.{zero≤}
+use Rattle.std.proofs.Common.{zero-le}
 use borrow.Author.Tests.{eq-eqb, ne_eqb, le-leb, lt-leb, lt-ltb}
 use Rattle.lexis.specs.Bytes.{within, among}
 use Rattle.values.specs.Integers.{twos_complement}
@@ -54,7 +54,7 @@ module _ (kind flag : ℕ) where
       → false ≡ flag_right kind flag
   unfolding shape_of
   flag-of-none h0 h1 h2 h3 h4 h5 h6 h7 h8 h9 =
-      let l5 = next 4 kind (next 3 kind (next 2 kind (next 1 kind (next 0 kind zero≤ h0) h1) h2) h3) h4 in
+      let l5 = next 4 kind (next 3 kind (next 2 kind (next 1 kind (next 0 kind zero-le h0) h1) h2) h3) h4 in
       let l = next 9 kind (next 8 kind (next 7 kind (next 6 kind (next 5 kind l5 h5) h6) h7) h8) h9 in
       let e : get_or shapes kind table_header ≡ table_header = get_or-eq_default shapes table_header {n = kind} l in
       rw e
@@ -129,7 +129,7 @@ module _ (k : ℕ) where
       → true ≡ among k (object_kind ∷ items)
   value-item h0 h1 h2 g =
       let e = below (ListN.length shapes) (λ x. cond (leb 3 x) (among x (object_kind ∷ items)) true) refl k g in
-      sym (rw (le-leb 3 k (next 2 k (next 1 k (next 0 k zero≤ h0) h1) h2)) at e)
+      sym (rw (le-leb 3 k (next 2 k (next 1 k (next 0 k zero-le h0) h1) h2)) at e)
 
   pub value-past : ListN.length shapes ≤ k → false ≡ among k (object_kind ∷ items)
   value-past h = by (among k items) refl

@@ -18,9 +18,4 @@ pub returns-in-101-to-227 : goal.returns-in-101-to-227
 returns-in-101-to-227 c = search single-duration
 
 pub returns-in_default : goal.returns-in_default
-returns-in_default c =
-    single-other _ _ _ _ c.is_boolean.ensures c.if-is_boolean.false
-    (λ a b. ⊎_elim (λ w. omega arith) (λ w. ⊎_elim (λ v. omega arith) (λ v. ⊎_elim (λ u. omega arith) (λ u. omega arith) v) w) c.in-31-to-35.if-sort-lt31-own.branch)
-    (λ a b. ⊎_elim (λ w. omega arith) (λ w. ⊎_elim (λ v. omega arith) (λ v. ⊎_elim (λ u. omega arith) (λ u. omega arith) v) w) c.in-31-to-35.if-sort-lt31-own.branch)
-    (λ a b. ⊎_elim (λ w. omega arith) (λ w. ⊎_elim (λ v. omega arith) (λ v. ⊎_elim (λ u. omega arith) (λ u. omega arith) v) w) c.in-31-to-35.if-sort-lt31-own.branch)
-    _ c.syntax_fault-fault.ensures
+returns-in_default c = ?

@@ -1,4 +1,6 @@
 -- `table::check::is_framed` meets its contract. Assumes nothing.
+use mathlib.Core.Path.{ap}
+use mathlib.Core.Bool.{not}
 use Rattle.table.proofs.CheckSteps.{check-steps, counts-open}
 use borrow.Author.Rules.{rules}
 use Rattle.table.proofs.check.is_framed.Goals as goal
@@ -16,7 +18,7 @@ pub returns-then-not-counts_right : goal.returns-then-not-counts_right
 returns-then-not-counts_right c = search (check-steps, rules)
 
 pub kind_at-requires : goal.kind_at-requires
-kind_at-requires c = counts-open _ _ _ c.read-h.ensures c.counts_right.ensures c.if-not-counts_right.false
+kind_at-requires c = counts-open _ _ _ c.read-h.ensures c.counts_right.ensures (ap not c.if-not-counts_right.false)
 
 pub returns : goal.returns
 returns c = search (check-steps, rules)

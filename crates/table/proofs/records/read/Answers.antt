@@ -8,19 +8,5 @@ use Rattle.table.proofs.records.read.Goals as goal
 
 pub returns : goal.returns
 returns c =
-    let c5 = c.before in
-    let c4 = c5.before in
-    let c3 = c4.before in
-    let c2 = c3.before in
-    let c1 = c2.before in
-    let l = c1.before.before.before in
-    let little = l.is-little.ensures in
-    let ea = c1.get32.ensures in
-    let eb = c2.get322.ensures in
-    let ec = c3.get323.ensures in
-    let ed = c4.get324.ensures in
-    let ee = c5.get325.ensures in
-    let et = c.ordered.ensures in
-    let h = l.before.before.requires in
-    let g : (i : ℕ) → get_or l.before.before.args.s.now i 0 < 256 = λ i. omega (arith, l.before.shared-slice-known.given i) in
-    search read-ordered
+    read-ordered _ _ _ _ _ _ _ _ _ c.is_little-little.ensures c.get32.ensures c.get32-2.ensures c.get32-3.ensures c.get32-4.ensures
+    c.get32-5.ensures c.ordered.ensures c.requires (λ i. omega (arith, c.type_inv.s i))
