@@ -1,0 +1,10 @@
+-- `judge_admission::integer_in` meets its contract. Assumes nothing.
+use borrow.Author.Rules.{rules}
+use Rattle.judge_admission.proofs.ItemSteps.{alone-steps}
+use Rattle.judge_admission.proofs.integer_in.Goals as goal
+
+pub returns-in-Value : goal.returns-in-Value
+returns-in-Value c = search alone-steps
+
+pub returns-in-Nothing : goal.returns-in-Nothing
+returns-in-Nothing c = search alone-steps

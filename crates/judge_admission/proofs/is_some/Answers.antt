@@ -1,0 +1,25 @@
+-- `judge_admission::is_some` meets its contract. Assumes nothing.
+use borrow.Author.Rules.{rules}
+use Rattle.judge_admission.proofs.ItemSteps.{InTexts, left, items-start, items-lies, texts-end, texts-found, texts-next, texts-less, text-inside}
+use Rattle.judge_admission.proofs.is_some.Goals as goal
+
+pub loop-n-init : goal.loop-n-init
+loop-n-init c = search items-start
+
+pub entry_at-text-requires : goal.entry_at-text-requires
+entry_at-text-requires c = search items-lies
+
+pub name_of-requires : goal.name_of-requires
+name_of-requires c = search text-inside
+
+pub returns-then-same_bytes : goal.returns-then-same_bytes
+returns-then-same_bytes c = search texts-found
+
+pub loop-n-smaller : goal.loop-n-smaller
+loop-n-smaller c = search texts-less
+
+pub loop-n-preserved : goal.loop-n-preserved
+loop-n-preserved c = search texts-next
+
+pub returns : goal.returns
+returns c = search texts-end

@@ -1,0 +1,12 @@
+-- The loops of `table_merge::copying::copy_records`. Assumes nothing.
+use Prim.Native.Nat.{◌-◌}
+use borrow.Author.Rules.{rules}
+use Rattle.table_merge.specs.Clauses.Answers.{shifts}
+use Rattle.table_merge.proofs.CopySteps.{InCopy, copy-steps}
+use Rattle.table_merge.proofs.copying.copy_records.Given as goal
+
+abbrev pub invariant-loop-n : goal.invariant-loop-n
+invariant-loop-n l = InCopy l.table l.count (shifts l.records.0 l.pool.0) l.little l.initial.out l.n l.out
+
+abbrev pub decreases-loop-n : goal.decreases-loop-n
+decreases-loop-n l = l.count - l.n

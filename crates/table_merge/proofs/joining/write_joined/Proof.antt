@@ -1,9 +1,0 @@
--- `table_merge::joining::write_joined` meets its contract. Assumes nothing.
-use borrow.Author.Rules.{rules}
-use Rattle.table_merge.proofs.JoinSteps.{join-steps}
-use Rattle.table_merge.proofs.joining.write_joined.Statement.{statement}
-use Rattle.table_merge.proofs.joining.write_joined.Tie as tie
-
-pub write-joined-spec : {M : Type 1} → statement M
-write-joined-spec =
-    tie.close (tie.spec (λ c κs. search rules) (λ c κs. search rules) (λ c. search rules) (λ c. search (join-steps, rules)))
