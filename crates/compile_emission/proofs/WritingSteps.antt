@@ -122,11 +122,11 @@ unfolding items_from
 items-length f number i zero = refl
 items-length f number i (suc n) = ap suc (items-length f (number + 1) (i + 1) n)
 
-first_range : (scratch : List ℕ) (m i k end : ℕ) → end ≡ m + k
+first_range_lem : (scratch : List ℕ) (m i k end : ℕ) → end ≡ m + k
     → first_range (items_from (range_at scratch) m i k) ≡ link_below m end
 unfolding items_from
-first_range scratch m i zero end e = pick-none m end m (omega arith)
-first_range scratch m i (suc k) end e = pick-there m end m m (omega arith) refl
+first_range_lem scratch m i zero end e = pick-none m end m (omega arith)
+first_range_lem scratch m i (suc k) end e = pick-there m end m m (omega arith) refl
 
 first-text : (s scratch : List ℕ) (m i k end : ℕ) → end ≡ m + k
     → first_text (items_from (text_at s scratch) m i k) ≡ link_below m end
@@ -200,7 +200,7 @@ module _ {little : Bool} {p : Spot} {sort : RangeSort} {scratch : List ℕ} {cou
       let a : count - i ≡ suc k = omega arith in
       let b : p.next + (i + 1) ≡ p.next + i + 1 = omega arith in
       let j = inv.ends in
-      let f = first_range scratch (p.next + i + 1) (i + 1) k end (omega arith) in
+      let f = first_range_lem scratch (p.next + i + 1) (i + 1) k end (omega arith) in
       let w = rw (a, f) at inv.is in
       let row = make (range_row sort).kind 0 ((range_row sort).end (first_of scratch i) ∷ (range_row sort).end (second_of scratch i) ∷ 0 ∷ 0 ∷ link_below (p.next + i + 1) end ∷ []) in
       record { room = inv.room; ends = inv.ends; most = omega arith; is = rw (e, b) (front little row (range_records sort (items_from (range_at scratch) (p.next + i + 1) (i + 1) k)) (p.next + i) rs refl ∙ w) }

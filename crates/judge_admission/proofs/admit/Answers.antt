@@ -5,7 +5,7 @@ use Rattle.judge_admission.proofs.ItemSteps.{kind-steps, chained-integers, chain
 use Rattle.judge_admission.proofs.admit.Goals as goal
 
 pub is_some-requires : goal.is_some-requires
-is_some-requires c = (search chained-strings, search rules)
+is_some-requires c = record { chained = search chained-strings; spelled = search rules }
 
 pub returns-in-5 : goal.returns-in-5
 returns-in-5 c = search (kind-steps, arith)

@@ -1,0 +1,7 @@
+-- `compile_emission::heads::first_link` meets its contract. Assumes nothing.
+use borrow.Author.Rules.{rules}
+use Rattle.compile_emission.proofs.HeadWriting.{first-there}
+use Rattle.compile_emission.proofs.heads.first_link.Goals as goal
+
+pub returns : goal.returns
+returns c = search first-there

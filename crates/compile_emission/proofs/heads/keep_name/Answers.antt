@@ -1,0 +1,7 @@
+-- `compile_emission::heads::keep_name` meets its contract. Assumes nothing.
+use borrow.Author.Rules.{rules}
+use Rattle.compile_emission.proofs.HeadWriting.{name-kept}
+use Rattle.compile_emission.proofs.heads.keep_name.Goals as goal
+
+pub returns : goal.returns
+returns c = search name-kept

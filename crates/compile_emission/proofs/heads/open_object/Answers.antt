@@ -1,0 +1,10 @@
+-- `compile_emission::heads::open_object` meets its contract. Assumes nothing.
+use borrow.Author.Rules.{rules}
+use Rattle.compile_emission.proofs.HeadWriting.{code_fits, object-put}
+use Rattle.compile_emission.proofs.heads.open_object.Goals as goal
+
+pub put_part-pool-requires : goal.put_part-pool-requires
+put_part-pool-requires c = search code_fits
+
+pub returns : goal.returns
+returns c = search object-put

@@ -1,0 +1,7 @@
+-- `compile_emission::heads::put_attribute` meets its contract. Assumes nothing.
+use borrow.Author.Rules.{rules}
+use Rattle.compile_emission.proofs.HeadWriting.{attribute-put}
+use Rattle.compile_emission.proofs.heads.put_attribute.Goals as goal
+
+pub returns : goal.returns
+returns c = search attribute-put

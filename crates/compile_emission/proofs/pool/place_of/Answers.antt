@@ -1,0 +1,10 @@
+-- `compile_emission::pool::place_of` meets its contract. Assumes nothing.
+use borrow.Author.Rules.{rules}
+use Rattle.compile_emission.proofs.WritingSteps.{pick-there, pick-none}
+use Rattle.compile_emission.proofs.pool.place_of.Goals as goal
+
+pub returns-then-start-end : goal.returns-then-start-end
+returns-then-start-end c = search pick-there
+
+pub returns : goal.returns
+returns c = search pick-none

@@ -1,0 +1,10 @@
+-- `compile_emission::rows::end_of` meets its contract. Assumes nothing.
+use borrow.Author.Rules.{rules}
+use Rattle.compile_emission.proofs.WritingSteps.{end-integer, end-date}
+use Rattle.compile_emission.proofs.rows.end_of.Goals as goal
+
+pub returns-in-Integers : goal.returns-in-Integers
+returns-in-Integers c = search end-integer
+
+pub returns-in-Dates : goal.returns-in-Dates
+returns-in-Dates c = search end-date

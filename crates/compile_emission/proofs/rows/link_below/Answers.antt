@@ -1,0 +1,10 @@
+-- `compile_emission::rows::link_below` meets its contract. Assumes nothing.
+use borrow.Author.Rules.{rules}
+use Rattle.compile_emission.proofs.WritingSteps.{pick-there, pick-none}
+use Rattle.compile_emission.proofs.rows.link_below.Goals as goal
+
+pub returns-then-n-end : goal.returns-then-n-end
+returns-then-n-end c = search pick-there
+
+pub returns : goal.returns
+returns c = search pick-none

@@ -1,0 +1,25 @@
+-- `judge_attributes::judge_value` meets its contract. Assumes nothing.
+use borrow.Author.Rules.{rules}
+use Rattle.judge_attributes.proofs.AttributeSteps.{value-any, value-lies, value-some, value-nested, value-leaf, value-block, value-items, value_row, value-judged}
+use Rattle.judge_attributes.proofs.judge_value.Goals as goal
+
+pub kind_of-kind-requires : goal.kind_of-kind-requires
+kind_of-kind-requires c = search value-lies
+
+pub judge_leaf-requires : goal.judge_leaf-requires
+judge_leaf-requires c = (search rules, (search value-items, (search value-some, (search value_row, search rules))))
+
+pub returns-then-value-eq0 : goal.returns-then-value-eq0
+returns-then-value-eq0 c = (search rules, search (value-any, value-nested, value-leaf, value-block, value-judged))
+
+pub returns-then-holds-eq0 : goal.returns-then-holds-eq0
+returns-then-holds-eq0 c = (search rules, search (value-any, value-nested, value-leaf, value-block, value-judged))
+
+pub returns-else-holds-eq0 : goal.returns-else-holds-eq0
+returns-else-holds-eq0 c = (search rules, search (value-any, value-nested, value-leaf, value-block, value-judged))
+
+pub returns-then-holds-eq0-2 : goal.returns-then-holds-eq0-2
+returns-then-holds-eq0-2 c = (search rules, search (value-any, value-nested, value-leaf, value-block, value-judged))
+
+pub returns-else-holds-eq0-2 : goal.returns-else-holds-eq0-2
+returns-else-holds-eq0-2 c = (search rules, search (value-any, value-nested, value-leaf, value-block, value-judged))

@@ -1,0 +1,13 @@
+-- `judge_tape::memo::is_admitted` meets its contract. Assumes nothing.
+use borrow.Author.Rules.{rules}
+use Rattle.judge_tape.proofs.MemoSteps.{none_left, visit-again, visit-first}
+use Rattle.judge_tape.proofs.memo.is_admitted.Goals as goal
+
+pub returns-then-n-eq0 : goal.returns-then-n-eq0
+returns-then-n-eq0 c = search none_left
+
+pub returns-then-visit : goal.returns-then-visit
+returns-then-visit c = search visit-again
+
+pub returns : goal.returns
+returns c = search visit-first

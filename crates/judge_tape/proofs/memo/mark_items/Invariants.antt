@@ -1,0 +1,10 @@
+-- The loops of `judge_tape::memo::mark_items`. Assumes nothing.
+use borrow.Author.Rules.{rules}
+use Rattle.judge_tape.proofs.ListSteps.{InListing, listing_start, listing-few, listing-next, listing-end}
+use Rattle.judge_tape.proofs.memo.mark_items.Given as goal
+
+abbrev pub invariant-loop-n : goal.invariant-loop-n
+invariant-loop-n l = InListing l.records l.pool l.initial.memo l.base l.is_string l.value l.memo l.n
+
+abbrev pub decreases-loop-n : goal.decreases-loop-n
+decreases-loop-n l = l.n
