@@ -8,19 +8,19 @@ pub name_of-requires : goal.name_of-requires
 name_of-requires c = search attribute-name
 
 pub number-requires : goal.number-requires
-number-requires c = (search (row_lies, member-row), search rules)
+number-requires c = record { row_size_in_bounds = search (row_lies, member-row); i_lt_row_size = search rules }
 
 pub judge_value-requires : goal.judge_value-requires
-judge_value-requires c = (search rules, (search attribute-link, (search member-row, search rules)))
+judge_value-requires c = record { walk = search rules; value_link = search attribute-link; row_lt_rows = search member-row; memo_good = search rules }
 
 pub returns-then-flag-eq-REQUIRED : goal.returns-then-flag-eq-REQUIRED
-returns-then-flag-eq-REQUIRED c = (search rules, search (member-missing, member-absent, member-present, member-judged))
+returns-then-flag-eq-REQUIRED c = record { memo_good_2 = search rules; attribute_answer_is = search (member-missing, member-absent, member-present, member-judged) }
 
 pub returns-else-flag-eq-REQUIRED : goal.returns-else-flag-eq-REQUIRED
-returns-else-flag-eq-REQUIRED c = (search rules, search (member-missing, member-absent, member-present, member-judged))
+returns-else-flag-eq-REQUIRED c = record { memo_good_2 = search rules; attribute_answer_is = search (member-missing, member-absent, member-present, member-judged) }
 
 pub returns-then-flag-eq-PROHIBITED : goal.returns-then-flag-eq-PROHIBITED
-returns-then-flag-eq-PROHIBITED c = (search rules, search (member-missing, member-absent, member-present, member-judged))
+returns-then-flag-eq-PROHIBITED c = record { memo_good_2 = search rules; attribute_answer_is = search (member-missing, member-absent, member-present, member-judged) }
 
 pub returns-else-flag-eq-PROHIBITED : goal.returns-else-flag-eq-PROHIBITED
-returns-else-flag-eq-PROHIBITED c = (search rules, search (member-missing, member-absent, member-present, member-judged))
+returns-else-flag-eq-PROHIBITED c = record { memo_good_2 = search rules; attribute_answer_is = search (member-missing, member-absent, member-present, member-judged) }

@@ -4,10 +4,10 @@ use Rattle.judge_attributes.proofs.AttributeSteps.{first-lies, value-known}
 use Rattle.judge_attributes.proofs.judge_leaf.Goals as goal
 
 pub is_known-requires : goal.is_known-requires
-is_known-requires c = (search rules, (search rules, (search first-lies, search rules)))
+is_known-requires c = record { walk = search rules; leaf_row = search rules; le_first = search first-lies; memo_good = search rules }
 
 pub returns-then-is_known : goal.returns-then-is_known
-returns-then-is_known c = (search rules, search value-known)
+returns-then-is_known c = record { memo_good_2 = search rules; result_value = search value-known }
 
 pub returns : goal.returns
-returns c = (search rules, search rules)
+returns c = record { memo_good_2 = search rules; result_value = search rules }

@@ -7,19 +7,19 @@ pub kind_of-kind-requires : goal.kind_of-kind-requires
 kind_of-kind-requires c = search value-lies
 
 pub judge_leaf-requires : goal.judge_leaf-requires
-judge_leaf-requires c = (search rules, (search value-items, (search value-some, (search value_row, search rules))))
+judge_leaf-requires c = record { walk = search rules; items_good = search value-items; le_first = search value-some; leaf_row = search value_row; memo_good = search rules }
 
 pub returns-then-value-eq0 : goal.returns-then-value-eq0
-returns-then-value-eq0 c = (search rules, search (value-any, value-nested, value-leaf, value-block, value-judged))
+returns-then-value-eq0 c = record { memo_good_2 = search rules; value_is = search (value-any, value-nested, value-leaf, value-block, value-judged) }
 
 pub returns-then-holds-eq0 : goal.returns-then-holds-eq0
-returns-then-holds-eq0 c = (search rules, search (value-any, value-nested, value-leaf, value-block, value-judged))
+returns-then-holds-eq0 c = record { memo_good_2 = search rules; value_is = search (value-any, value-nested, value-leaf, value-block, value-judged) }
 
 pub returns-else-holds-eq0 : goal.returns-else-holds-eq0
-returns-else-holds-eq0 c = (search rules, search (value-any, value-nested, value-leaf, value-block, value-judged))
+returns-else-holds-eq0 c = record { memo_good_2 = search rules; value_is = search (value-any, value-nested, value-leaf, value-block, value-judged) }
 
 pub returns-then-holds-eq0-2 : goal.returns-then-holds-eq0-2
-returns-then-holds-eq0-2 c = (search rules, search (value-any, value-nested, value-leaf, value-block, value-judged))
+returns-then-holds-eq0-2 c = record { memo_good_2 = search rules; value_is = search (value-any, value-nested, value-leaf, value-block, value-judged) }
 
 pub returns-else-holds-eq0-2 : goal.returns-else-holds-eq0-2
-returns-else-holds-eq0-2 c = (search rules, search (value-any, value-nested, value-leaf, value-block, value-judged))
+returns-else-holds-eq0-2 c = record { memo_good_2 = search rules; value_is = search (value-any, value-nested, value-leaf, value-block, value-judged) }
