@@ -1,0 +1,10 @@
+-- `judge::answer` meets its contract. Assumes nothing.
+use borrow.Author.Rules.{rules}
+use Rattle.judge.proofs.JudgeSteps.{answer-by}
+use Rattle.judge.proofs.answer.Goals as goal
+
+pub returns-in-Valid : goal.returns-in-Valid
+returns-in-Valid c = search answer-by
+
+pub returns-in-Fails : goal.returns-in-Fails
+returns-in-Fails c = search answer-by

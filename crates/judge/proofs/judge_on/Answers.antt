@@ -1,0 +1,14 @@
+-- `judge::judge_on` meets its contract. Assumes nothing.
+use borrow.Author.Rules.{rules}
+use Rattle.judge.proofs.JudgeSteps.{text-refused, text-under, text-judged}
+use Rattle.judge_tape.proofs.MemoLaws.{memo-zeros}
+use Rattle.judge.proofs.judge_on.Goals as goal
+
+pub returns-in-Refused : goal.returns-in-Refused
+returns-in-Refused c = search text-refused
+
+pub judge_block-v-requires : goal.judge_block-v-requires
+judge_block-v-requires c = (search text-under, memo-zeros _ _ _ _ _ 0)
+
+pub returns-in-Read : goal.returns-in-Read
+returns-in-Read c = search text-judged

@@ -1,0 +1,10 @@
+-- `judge::walk::type_suits` meets its contract. Assumes nothing.
+use borrow.Author.Rules.{rules}
+use Rattle.judge.proofs.WalkSteps.{type-none, type-same}
+use Rattle.judge.proofs.walk.type_suits.Goals as goal
+
+pub returns-then-end-eq0 : goal.returns-then-end-eq0
+returns-then-end-eq0 c = search type-none
+
+pub returns : goal.returns
+returns c = search type-same
