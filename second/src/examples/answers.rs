@@ -9,12 +9,12 @@ use crate::api::{CompileAnswer, JudgeAnswer, MeaningAnswer, MergeAnswer};
 use crate::generator::{self, Maker, Table};
 use crate::{compile, judge, meaning, merge};
 
-const PATH: &str = "mathlib.Core.Path.{_≡_, refl}";
+const PATH: &str = "mathlib.Core.Path.{◌≡◌, refl}";
 const BOOL: &str = "mathlib.Core.Bool.{true, false}";
-const LIST: &str = "mathlib.Core.List.{List, [], _∷_}";
-const TEXT: &str = "Rattle·lexis.specs.Text.{bytes}";
-const WRONG: &str = "Rattle·lexis.proofs.Tables.{wrong}";
-const VERDICTS: &str = "Rattle·meaning.specs.Verdicts.{valid, fails}";
+const LIST: &str = "mathlib.Core.List.{List, [], ◌∷◌}";
+const TEXT: &str = "Rattle.lexis.specs.Text.{bytes}";
+const WRONG: &str = "Rattle.lexis.proofs.Tables.{wrong}";
+const VERDICTS: &str = "Rattle.meaning.specs.Verdicts.{valid, fails}";
 
 const JUDGES: &[&str] = &[
     PATH,
@@ -22,9 +22,9 @@ const JUDGES: &[&str] = &[
     TEXT,
     WRONG,
     VERDICTS,
-    "Rattle·table.proofs.Hex.{hex}",
-    "Rattle·judge·proofs.proofs.Computes.{judgeComputes}",
-    "Rattle·judge·proofs.proofs.Examples.{Case, judges, refuses, right}",
+    "Rattle.table.proofs.Hex.{hex}",
+    "Rattle.judge.proofs.Computes.{judge_computes}",
+    "Rattle.judge.proofs.Examples.{Case, judges, refuses, right}",
 ];
 
 const DEMANDS: &[&str] = &[
@@ -34,13 +34,13 @@ const DEMANDS: &[&str] = &[
     TEXT,
     WRONG,
     VERDICTS,
-    "Rattle·table.proofs.Hex.{hex, filling}",
-    "Rattle·table_merge.proofs.Computes.{mergeComputes}",
-    "Rattle·table_merge.proofs.Examples.{step}",
-    "Rattle·compile.proofs.Computes.{compileComputes}",
-    "Rattle·judge.proofs.Computes.{judgeComputes}",
-    "Rattle·demands·specs.specs.Demands.{meaningOf}",
-    "Rattle·demands·proofs.proofs.Examples.{Case, judges, refuses, right}",
+    "Rattle.table.proofs.Hex.{hex, filling}",
+    "Rattle.table_merge.proofs.Computes.{merge_computes}",
+    "Rattle.table_merge.proofs.Examples.{step}",
+    "Rattle.compile.proofs.Computes.{compile_computes}",
+    "Rattle.judge.proofs.Computes.{judge_computes}",
+    "Rattle.demands.specs.Demands.{meaning_of}",
+    "Rattle.demands.proofs.Examples.{Case, judges, refuses, right}",
 ];
 
 pub fn tables() -> Vec<layout::Table> {
@@ -51,7 +51,7 @@ pub fn tables() -> Vec<layout::Table> {
         uses: JUDGES,
         case: "Case",
         right: "right",
-        unfolding: "judgeComputes",
+        unfolding: "judge_computes",
         groups,
     };
     vec![
@@ -65,7 +65,7 @@ pub fn tables() -> Vec<layout::Table> {
             uses: DEMANDS,
             case: "Case",
             right: "right",
-            unfolding: "meaningOf mergeComputes compileComputes judgeComputes",
+            unfolding: "meaning_of merge_computes compile_computes judge_computes",
             groups: vec![list_group()],
         },
     ]

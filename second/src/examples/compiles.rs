@@ -8,14 +8,14 @@ use crate::compile;
 use crate::generator::{self, Maker};
 
 const USES: &[&str] = &[
-    "mathlib.Core.Path.{_≡_, refl}",
+    "mathlib.Core.Path.{◌≡◌, refl}",
     "mathlib.Core.Bool.{true, false}",
-    "mathlib.Core.List.{List, [], _∷_}",
-    "Rattle·lexis.specs.Text.{bytes}",
-    "Rattle·lexis.proofs.Tables.{wrong}",
-    "Rattle·table.proofs.Hex.{hex, filling}",
-    "Rattle·compile·proofs.proofs.Computes.{compileComputes}",
-    "Rattle·compile·proofs.proofs.Examples.{Case, compiles, refuses, right}",
+    "mathlib.Core.List.{List, [], ◌∷◌}",
+    "Rattle.lexis.specs.Text.{bytes}",
+    "Rattle.lexis.proofs.Tables.{wrong}",
+    "Rattle.table.proofs.Hex.{hex, filling}",
+    "Rattle.compile.proofs.Computes.{compile_computes}",
+    "Rattle.compile.proofs.Examples.{Case, compiles, refuses, right}",
 ];
 
 pub fn tables() -> Vec<Table> {
@@ -26,7 +26,7 @@ pub fn tables() -> Vec<Table> {
         uses: USES,
         case: "Case",
         right: "right",
-        unfolding: "compileComputes",
+        unfolding: "compile_computes",
         groups,
     };
     vec![

@@ -8,15 +8,15 @@ use crate::constraint::{self, Value};
 use crate::faults::Fault;
 
 const USES: &[&str] = &[
-    "mathlib.Core.Path.{_≡_, refl}",
-    "mathlib.Core.List.{List, [], _∷_}",
+    "mathlib.Core.Path.{◌≡◌, refl}",
+    "mathlib.Core.List.{List, [], ◌∷◌}",
     "lib.ListN.{replicate}",
-    "Rattle·lexis.specs.Text.{bytes}",
-    "Rattle·lexis.proofs.Tables.{wrong}",
-    "Rattle·meaning.specs.Constraints.{noMore, any, nested, leaf, single, ranges, texts, booleans, integers, datePattern, dates, timePattern, durationPattern}",
-    "Rattle·meaning.proofs.Trees.{range, item, objectWith, attributeWith, objectList}",
-    "Rattle·cadl_objects·proofs.proofs.Computes.{constraintComputes}",
-    "Rattle·cadl_objects·proofs.proofs.Examples.{Case, accepts, refuses, acceptsFrom, refusesFrom, right}",
+    "Rattle.lexis.specs.Text.{bytes}",
+    "Rattle.lexis.proofs.Tables.{wrong}",
+    "Rattle.meaning.specs.Constraints.{no_more, any, nested, leaf, single, ranges, texts, booleans, integers, date_pattern, dates, time_pattern, duration_pattern}",
+    "Rattle.meaning.proofs.Trees.{range, item, object_with, attribute_with, object_list}",
+    "Rattle.cadl_objects.proofs.Computes.{constraint_computes}",
+    "Rattle.cadl_objects.proofs.Examples.{Case, accepts, refuses, accepts_from, refuses_from, right}",
 ];
 
 fn table(module: &'static str, about: &'static str, all: &[Inputs]) -> Table {
@@ -27,7 +27,7 @@ fn table(module: &'static str, about: &'static str, all: &[Inputs]) -> Table {
         uses: USES,
         case: "Case",
         right: "right",
-        unfolding: "objectList constraintComputes",
+        unfolding: "object_list constraint_computes",
         groups: groups(all, case),
     }
 }
@@ -94,10 +94,10 @@ fn counted_case(text: &[u8], number: u32) -> String {
     let own = |fault: Fault| Fault { place: fault.place - front.len() as u64, ..fault };
     match constraint::read(&whole).map_err(own) {
         Ok(tree) => match tree.objects[0].attributes.last().map(|last| &last.value) {
-            Some(Value::Object(index)) => format!("acceptsFrom {start} {}", term::object(&tree, *index, term::bytes)),
+            Some(Value::Object(index)) => format!("accepts_from {start} {}", term::object(&tree, *index, term::bytes)),
             _ => panic!("no object in {}", term::bytes(text)),
         },
-        Err(fault) => format!("refusesFrom {start} {}", term::fault(fault)),
+        Err(fault) => format!("refuses_from {start} {}", term::fault(fault)),
     }
 }
 

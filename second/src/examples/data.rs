@@ -5,16 +5,16 @@ use super::{made, term};
 use crate::data;
 
 const USES: &[&str] = &[
-    "mathlib.Core.Path.{_≡_, refl}",
+    "mathlib.Core.Path.{◌≡◌, refl}",
     "mathlib.Core.Option.{none, some}",
-    "mathlib.Core.List.{List, [], _∷_}",
+    "mathlib.Core.List.{List, [], ◌∷◌}",
     "lib.ListN.{replicate}",
-    "Rattle·lexis.specs.Text.{bytes}",
-    "Rattle·lexis.proofs.Tables.{wrong}",
-    "Rattle·meaning.specs.Data.{datum, noMore, member, string, word, block}",
-    "Rattle·meaning.proofs.Trees.{datumList}",
-    "Rattle·dadl·proofs.proofs.Computes.{dataComputes}",
-    "Rattle·dadl·proofs.proofs.Examples.{Case, accepts, refuses, right}",
+    "Rattle.lexis.specs.Text.{bytes}",
+    "Rattle.lexis.proofs.Tables.{wrong}",
+    "Rattle.meaning.specs.Data.{datum, no_more, member, string, word, block}",
+    "Rattle.meaning.proofs.Trees.{datum_list}",
+    "Rattle.dadl.proofs.Computes.{data_computes}",
+    "Rattle.dadl.proofs.Examples.{Case, accepts, refuses, right}",
 ];
 
 fn table(module: &'static str, about: &'static str, all: &[Inputs]) -> Table {
@@ -25,7 +25,7 @@ fn table(module: &'static str, about: &'static str, all: &[Inputs]) -> Table {
         uses: USES,
         case: "Case",
         right: "right",
-        unfolding: "datumList dataComputes",
+        unfolding: "datum_list data_computes",
         groups: groups(all, case),
     }
 }

@@ -10,32 +10,25 @@ use crate::table as rules;
 use crate::table::RecordNumber;
 use crate::{check, limits, name};
 
-const PATH: &str = "mathlib.Core.Path.{_≡_, refl}";
+const PATH: &str = "mathlib.Core.Path.{◌≡◌, refl}";
 const BOOL: &str = "mathlib.Core.Bool.{true, false}";
-const LIST: &str = "mathlib.Core.List.{List, [], _∷_}";
-const TEXT: &str = "Rattle·lexis.specs.Text.{bytes}";
-const WRONG: &str = "Rattle·lexis.proofs.Tables.{wrong}";
-const COMPUTE: &str = "Rattle·table·proofs.proofs.Computes.{tableComputes}";
-const HEX: &str = "Rattle·table·proofs.proofs.Hex.{hex}";
+const LIST: &str = "mathlib.Core.List.{List, [], ◌∷◌}";
+const TEXT: &str = "Rattle.lexis.specs.Text.{bytes}";
+const WRONG: &str = "Rattle.lexis.proofs.Tables.{wrong}";
+const COMPUTE: &str = "Rattle.table.proofs.Computes.{table_computes}";
+const HEX: &str = "Rattle.table.proofs.Hex.{hex}";
 const CHECKS: &[&str] = &[
     PATH,
     BOOL,
-    "mathlib.Core.List.{List, [], _∷_, _++_}",
+    "mathlib.Core.List.{List, [], ◌∷◌, ◌++◌}",
     "lib.ListN.{replicate}",
     WRONG,
     COMPUTE,
     HEX,
-    "Rattle·table·proofs.proofs.Examples.{CheckCase, passes, refuses, rewrites, checkRight}",
+    "Rattle.table.proofs.Examples.{CheckCase, passes, refuses, rewrites, check_right}",
 ];
-const NAMES: &[&str] = &[
-    PATH,
-    LIST,
-    TEXT,
-    WRONG,
-    COMPUTE,
-    HEX,
-    "Rattle·table·proofs.proofs.Examples.{NameCase, names, noName, nameRight}",
-];
+const NAMES: &[&str] =
+    &[PATH, LIST, TEXT, WRONG, COMPUTE, HEX, "Rattle.table.proofs.Examples.{NameCase, names, no_name, name_right}"];
 const TREES: &[&str] = &[
     PATH,
     LIST,
@@ -43,9 +36,9 @@ const TREES: &[&str] = &[
     WRONG,
     COMPUTE,
     HEX,
-    "Rattle·meaning.specs.Constraints.{noMore, any, nested, leaf, single, ranges, texts, booleans, integers, datePattern, dates, timePattern, durationPattern}",
-    "Rattle·meaning.proofs.Trees.{range, item, objectWith, attributeWith, objectList}",
-    "Rattle·table·proofs.proofs.Examples.{TreeCase, tree, noTree, treeRight}",
+    "Rattle.meaning.specs.Constraints.{no_more, any, nested, leaf, single, ranges, texts, booleans, integers, date_pattern, dates, time_pattern, duration_pattern}",
+    "Rattle.meaning.proofs.Trees.{range, item, object_with, attribute_with, object_list}",
+    "Rattle.table.proofs.Examples.{TreeCase, tree, no_tree, tree_right}",
 ];
 
 pub fn tables() -> Vec<layout::Table> {
@@ -60,7 +53,7 @@ pub fn tables() -> Vec<layout::Table> {
         groups,
     };
     let checks =
-        |module, about, groups| part(module, about, CHECKS, "CheckCase", "checkRight", "tableComputes", groups);
+        |module, about, groups| part(module, about, CHECKS, "CheckCase", "check_right", "table_computes", groups);
     vec![
         part(
             "OrderTable",
@@ -72,11 +65,11 @@ pub fn tables() -> Vec<layout::Table> {
                 WRONG,
                 COMPUTE,
                 HEX,
-                "Rattle·table·proofs.proofs.Examples.{NumberCase, spelled, numberRight}",
+                "Rattle.table.proofs.Examples.{NumberCase, spelled, number_right}",
             ],
             "NumberCase",
-            "numberRight",
-            "tableComputes",
+            "number_right",
+            "table_computes",
             vec![numbers()],
         ),
         part(
@@ -89,11 +82,11 @@ pub fn tables() -> Vec<layout::Table> {
                 WRONG,
                 COMPUTE,
                 HEX,
-                "Rattle·table·proofs.proofs.Examples.{RecordCase, holds, marked, recordRight}",
+                "Rattle.table.proofs.Examples.{RecordCase, holds, marked, record_right}",
             ],
             "RecordCase",
-            "recordRight",
-            "tableComputes",
+            "record_right",
+            "table_computes",
             vec![records(), marks()],
         ),
         checks(
@@ -102,14 +95,14 @@ pub fn tables() -> Vec<layout::Table> {
             vec![passing(), rewritten(), lengths(), headers(), limit_headers(), roots(), before()],
         ),
         checks("FaultTable", "Each rule of a record kept at its edge and broken.", broken::groups()),
-        part("NameTable", "Names by record number.", NAMES, "NameCase", "nameRight", "tableComputes", name_groups()),
+        part("NameTable", "Names by record number.", NAMES, "NameCase", "name_right", "table_computes", name_groups()),
         part(
             "TreeTable",
             "Tables with the trees of their objects.",
             TREES,
             "TreeCase",
-            "treeRight",
-            "objectList tableComputes",
+            "tree_right",
+            "object_list table_computes",
             tree_groups(),
         ),
         checks("MadeTable", "Short tables from a generator with a fixed seed, sound and broken.", vec![made()]),
@@ -415,7 +408,7 @@ fn name_case(bytes: &[u8], number: u32) -> String {
             format!("names {} {} {start} {length} {}", hex(bytes), term::number(u64::from(number)), term::bytes(part))
         }
         NameAnswer::Refused { number: cause, place } => {
-            format!("noName {} {} {cause} {}", hex(bytes), term::number(u64::from(number)), term::number(place))
+            format!("no_name {} {} {cause} {}", hex(bytes), term::number(u64::from(number)), term::number(place))
         }
     }
 }
@@ -474,16 +467,16 @@ impl Trees<'_> {
             return None;
         };
         let (type_name, code) = (term::bytes(self.0.part(type_name)), term::bytes(self.0.part(code)));
-        Some(format!("(objectWith {} {type_name} {code} {})", number.0, self.attributes(first)))
+        Some(format!("(object_with {} {type_name} {code} {})", number.0, self.attributes(first)))
     }
 
     fn attributes(&self, number: RecordNumber) -> String {
         match self.0.record(number) {
             Some(rules::Record::Attribute { existence, name, value, next }) => {
                 let (name, value) = (term::bytes(self.0.part(name)), self.value(value));
-                format!("(attributeWith {} {existence} {name} {value} {})", number.0, self.attributes(next))
+                format!("(attribute_with {} {existence} {name} {value} {})", number.0, self.attributes(next))
             }
-            _ => String::from("noMore"),
+            _ => String::from("no_more"),
         }
     }
 
@@ -494,9 +487,9 @@ impl Trees<'_> {
                 return format!("(nested {})", self.object(number).unwrap_or_default())
             }
             Some(rules::Record::Boolean { flag }) => format!("(single booleans {n} {flag})"),
-            Some(rules::Record::DatePattern { flag }) => format!("(single datePattern {n} {flag})"),
-            Some(rules::Record::TimePattern { flag }) => format!("(single timePattern {n} {flag})"),
-            Some(rules::Record::DurationPattern { flag }) => format!("(single durationPattern {n} {flag})"),
+            Some(rules::Record::DatePattern { flag }) => format!("(single date_pattern {n} {flag})"),
+            Some(rules::Record::TimePattern { flag }) => format!("(single time_pattern {n} {flag})"),
+            Some(rules::Record::DurationPattern { flag }) => format!("(single duration_pattern {n} {flag})"),
             Some(rules::Record::Integer { .. }) => format!("(ranges integers {})", self.items(number)),
             Some(rules::Record::Text { .. }) => format!("(texts {})", self.items(number)),
             Some(rules::Record::DateInterval { .. }) => format!("(ranges dates {})", self.items(number)),
@@ -536,7 +529,7 @@ fn tree_case(bytes: &[u8], number: u32) -> String {
     };
     match Trees(table).object(RecordNumber(number)) {
         Some(object) => format!("tree {} {number} {object}", hex(bytes)),
-        None => format!("noTree {} {}", hex(bytes), term::number(u64::from(number))),
+        None => format!("no_tree {} {}", hex(bytes), term::number(u64::from(number))),
     }
 }
 

@@ -8,16 +8,16 @@ use crate::api::{CheckAnswer, CompileAnswer, JudgeAnswer, MergeAnswer, NameAnswe
 use crate::{check, compile, judge, merge, name};
 
 const USES: &[&str] = &[
-    "mathlib.Core.Path.{_≡_, refl}",
+    "mathlib.Core.Path.{◌≡◌, refl}",
     "mathlib.Core.Bool.{true, false}",
-    "mathlib.Core.List.{List, [], _∷_}",
-    "Rattle·lexis.specs.Text.{bytes}",
-    "Rattle·lexis.proofs.Tables.{wrong}",
-    "Rattle·table.proofs.Hex.{hex, filling}",
-    "Rattle·table_merge.proofs.Computes.{mergeComputes}",
-    "Rattle·compile.proofs.Computes.{compileComputes}",
-    "Rattle·judge.proofs.Computes.{judgeComputes}",
-    "Rattle·gateway·proofs.proofs.Examples.{Case, compiles, checks, merges, judges, names, right}",
+    "mathlib.Core.List.{List, [], ◌∷◌}",
+    "Rattle.lexis.specs.Text.{bytes}",
+    "Rattle.lexis.proofs.Tables.{wrong}",
+    "Rattle.table.proofs.Hex.{hex, filling}",
+    "Rattle.table_merge.proofs.Computes.{merge_computes}",
+    "Rattle.compile.proofs.Computes.{compile_computes}",
+    "Rattle.judge.proofs.Computes.{judge_computes}",
+    "Rattle.gateway.proofs.Examples.{Case, compiles, checks, merges, judges, names, right}",
 ];
 
 /// How an output is filled before a job.
@@ -31,7 +31,7 @@ pub fn tables() -> Vec<layout::Table> {
         uses: USES,
         case: "Case",
         right: "right",
-        unfolding: "mergeComputes compileComputes judgeComputes",
+        unfolding: "merge_computes compile_computes judge_computes",
         groups: vec![
             Group { about: "a text, an order, an output: what is returned, and the place", cases: compile_cases() },
             Group { about: "a table: what is returned, and the place", cases: check_cases() },

@@ -8,14 +8,14 @@ use crate::faults::Fault;
 use crate::tokens::{token_at, value_token_at, Kind};
 
 const USES: &[&str] = &[
-    "mathlib.Core.Path.{_≡_, refl}",
-    "mathlib.Core.List.{List, [], _∷_}",
-    "Rattle·lexis.specs.Text.{bytes}",
-    "Rattle·lexis.proofs.Tables.{wrong}",
-    "Rattle·meaning.specs.Constraints.{single, ranges, texts, booleans, integers, datePattern, dates, timePattern, durationPattern}",
-    "Rattle·meaning.proofs.Trees.{range, item}",
-    "Rattle·cadl_items·proofs.proofs.Computes.{itemsCompute}",
-    "Rattle·cadl_items·proofs.proofs.Examples.{Case, reads, refuses, right}",
+    "mathlib.Core.Path.{◌≡◌, refl}",
+    "mathlib.Core.List.{List, [], ◌∷◌}",
+    "Rattle.lexis.specs.Text.{bytes}",
+    "Rattle.lexis.proofs.Tables.{wrong}",
+    "Rattle.meaning.specs.Constraints.{single, ranges, texts, booleans, integers, date_pattern, dates, time_pattern, duration_pattern}",
+    "Rattle.meaning.proofs.Trees.{range, item}",
+    "Rattle.cadl_items.proofs.Computes.{items_compute}",
+    "Rattle.cadl_items.proofs.Examples.{Case, reads, refuses, right}",
 ];
 
 pub fn tables() -> Vec<Table> {
@@ -29,7 +29,7 @@ pub fn tables() -> Vec<Table> {
         uses: USES,
         case: "Case",
         right: "right",
-        unfolding: "itemsCompute",
+        unfolding: "items_compute",
         groups: lists,
     }]
 }

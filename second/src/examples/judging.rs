@@ -10,18 +10,18 @@ use crate::generator::{data_text, Maker, Random};
 use crate::meaning;
 
 const USES: &[&str] = &[
-    "mathlib.Core.Path.{_≡_, refl}",
+    "mathlib.Core.Path.{◌≡◌, refl}",
     "mathlib.Core.Option.{none, some}",
-    "mathlib.Core.List.{List, [], _∷_}",
-    "Rattle·lexis.specs.Text.{bytes}",
-    "Rattle·lexis.proofs.Tables.{wrong}",
-    "Rattle·meaning·specs.specs.Constraints.{noMore, any, nested, leaf, single, ranges, texts, booleans, integers, datePattern, dates, timePattern, durationPattern}",
-    "Rattle·meaning·specs.specs.Data.{datum, member, string, word, block}",
-    "Rattle·meaning·specs.specs.Data",
-    "Rattle·meaning·specs.specs.Verdicts.{valid, fails}",
-    "Rattle·meaning·proofs.proofs.Computes.{meaningComputes}",
-    "Rattle·meaning·proofs.proofs.Trees.{range, item, objectWith, attributeWith}",
-    "Rattle·meaning·proofs.proofs.Examples.{Case, judges, under, right}",
+    "mathlib.Core.List.{List, [], ◌∷◌}",
+    "Rattle.lexis.specs.Text.{bytes}",
+    "Rattle.lexis.proofs.Tables.{wrong}",
+    "Rattle.meaning.specs.Constraints.{no_more, any, nested, leaf, single, ranges, texts, booleans, integers, date_pattern, dates, time_pattern, duration_pattern}",
+    "Rattle.meaning.specs.Data.{datum, member, string, word, block}",
+    "Rattle.meaning.specs.Data",
+    "Rattle.meaning.specs.Verdicts.{valid, fails}",
+    "Rattle.meaning.proofs.Computes.{meaning_computes}",
+    "Rattle.meaning.proofs.Trees.{range, item, object_with, attribute_with}",
+    "Rattle.meaning.proofs.Examples.{Case, judges, under, right}",
 ];
 
 fn table(module: &'static str, about: &'static str, groups: Vec<Group>) -> Table {
@@ -32,7 +32,7 @@ fn table(module: &'static str, about: &'static str, groups: Vec<Group>) -> Table
         uses: USES,
         case: "Case",
         right: "right",
-        unfolding: "meaningComputes",
+        unfolding: "meaning_computes",
         groups,
     }
 }
@@ -65,7 +65,7 @@ fn judges(text: &[u8], data: &[u8]) -> String {
         panic!("refused");
     };
     // Both trees end in a constructor of this name; the second's is told by its module.
-    let datum = term::datum(&datum, 0).replace(" noMore)", " Data.noMore)");
+    let datum = term::datum(&datum, 0).replace(" no_more)", " Data.no_more)");
     format!("judges {} {datum} {answer}", term::object(&tree, 0, term::bytes))
 }
 

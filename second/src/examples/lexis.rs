@@ -6,22 +6,22 @@ use crate::bytes::{is_blank, is_identifier, is_name, is_run, is_string, is_type,
 use crate::durations;
 use crate::tokens::{token_at, value_token_at, Kind};
 
-const PATH: &str = "mathlib.Core.Path.{_≡_, refl}";
+const PATH: &str = "mathlib.Core.Path.{◌≡◌, refl}";
 const BOOL: &str = "mathlib.Core.Bool.{true, false}";
-const LIST: &str = "mathlib.Core.List.{List, [], _∷_}";
-const NUMBERS: &str = "Prim.Native.Nat.{_+_}";
-const TEXT: &str = "Rattle·lexis·specs.specs.Text.{bytes}";
-const SORTS: &str = "Rattle·lexis·specs.specs.Bytes.{blank, digit, small, capital, mark, other}";
+const LIST: &str = "mathlib.Core.List.{List, [], ◌∷◌}";
+const NUMBERS: &str = "Prim.Native.Nat.{◌+◌}";
+const TEXT: &str = "Rattle.lexis.specs.Text.{bytes}";
+const SORTS: &str = "Rattle.lexis.specs.Bytes.{blank, digit, small, capital, mark, other}";
 const SPELLING: &str =
-    "Rattle·lexis·specs.specs.Spelling.{matches, existence, trueWord, falseWord, openBrace, closeBrace, comma, star, bar, dots, less, greater, atMost, atLeast, plusMinus, datePattern, timePattern}";
+    "Rattle.lexis.specs.Spelling.{matches, existence, true_word, false_word, open_brace, close_brace, comma, star, bar, dots, less, greater, at_most, at_least, plus_minus, date_pattern, time_pattern}";
 const TOKENS: &str =
-    "Rattle·lexis·specs.specs.Tokens.{token, textEnd, unreadable, typeName, name, code, integer, date, string}";
-const DATA_SPELLING: &str = "Rattle·lexis·specs.specs.Spelling.{less, greater}";
-const DATA_TOKENS: &str = "Rattle·lexis·specs.specs.Tokens.{token, textEnd, unreadable, typeName, name, string}";
-const ROUNDS: &str = "Rattle·lexis·specs.specs.DataTokens.{equals, openRound, closeRound, wordRun}";
-const DURATIONS: &str = "Rattle·lexis·specs.specs.Durations.{durationPattern}";
-const WRONG: &str = "Rattle·lexis·proofs.proofs.Tables.{wrong}";
-const COMPUTES: &str = "Rattle·lexis·proofs.proofs.Computes.{lexisComputes}";
+    "Rattle.lexis.specs.Tokens.{token, text_end, unreadable, type_name, name, code, integer, date, string}";
+const DATA_SPELLING: &str = "Rattle.lexis.specs.Spelling.{less, greater}";
+const DATA_TOKENS: &str = "Rattle.lexis.specs.Tokens.{token, text_end, unreadable, type_name, name, string}";
+const ROUNDS: &str = "Rattle.lexis.specs.DataTokens.{equals, open_round, close_round, word_run}";
+const DURATIONS: &str = "Rattle.lexis.specs.Durations.{duration_pattern}";
+const WRONG: &str = "Rattle.lexis.proofs.Tables.{wrong}";
+const COMPUTES: &str = "Rattle.lexis.proofs.Computes.{lexis_computes}";
 
 pub fn tables() -> Vec<Table> {
     vec![
@@ -29,40 +29,40 @@ pub fn tables() -> Vec<Table> {
             holder: "lexis",
             module: "ByteTable",
             about: "All bytes: the sort of each, and whether it goes on in a word, in a string and in a run of data text, and ends a line.",
-            uses: &[PATH, BOOL, LIST, SORTS, WRONG, COMPUTES, "Rattle·lexis·proofs.proofs.Examples.{ByteCase, byteIs, byteRight}"],
+            uses: &[PATH, BOOL, LIST, SORTS, WRONG, COMPUTES, "Rattle.lexis.proofs.Examples.{ByteCase, byte_is, byte_right}"],
             case: "ByteCase",
-            right: "byteRight",
-            unfolding: "lexisComputes",
+            right: "byte_right",
+            unfolding: "lexis_computes",
             groups: vec![Group { about: "0 to 255", cases: (0..=255).map(byte_case).collect() }],
         },
         Table {
             holder: "lexis",
             module: "BlankTable",
             about: "Blanks and comments: where a token may start, from each place of a text on.",
-            uses: &[PATH, LIST, TEXT, WRONG, COMPUTES, "Rattle·lexis·proofs.proofs.Examples.{BlankCase, starts, blankRight}"],
+            uses: &[PATH, LIST, TEXT, WRONG, COMPUTES, "Rattle.lexis.proofs.Examples.{BlankCase, starts, blank_right}"],
             case: "BlankCase",
-            right: "blankRight",
-            unfolding: "lexisComputes",
+            right: "blank_right",
+            unfolding: "lexis_computes",
             groups: blank_groups(),
         },
         Table {
             holder: "lexis",
             module: "RunTable",
             about: "Runs of bytes that are the same as another or stand in a list, and others; strings and codes with their bytes.",
-            uses: &[PATH, BOOL, LIST, TEXT, WRONG, COMPUTES, "Rattle·lexis·proofs.proofs.Examples.{RunCase, sameIs, listedIs, partsAre, runRight}"],
+            uses: &[PATH, BOOL, LIST, TEXT, WRONG, COMPUTES, "Rattle.lexis.proofs.Examples.{RunCase, same_is, listed_is, parts_are, run_right}"],
             case: "RunCase",
-            right: "runRight",
-            unfolding: "lexisComputes",
+            right: "run_right",
+            unfolding: "lexis_computes",
             groups: run_groups(),
         },
         Table {
             holder: "lexis",
             module: "TokenTable",
             about: "Constraint texts and their tokens, up to the text's end or to the first that is unreadable.",
-            uses: &[PATH, LIST, NUMBERS, TEXT, SPELLING, TOKENS, WRONG, COMPUTES, "Rattle·lexis·proofs.proofs.Examples.{TokenCase, reads, tokensFrom, tokenRight}"],
+            uses: &[PATH, LIST, NUMBERS, TEXT, SPELLING, TOKENS, WRONG, COMPUTES, "Rattle.lexis.proofs.Examples.{TokenCase, reads, tokens_from, token_right}"],
             case: "TokenCase",
-            right: "tokenRight",
-            unfolding: "tokensFrom lexisComputes",
+            right: "token_right",
+            unfolding: "tokens_from lexis_computes",
             groups: groups(&token_texts(), token_case),
         },
         Table {
@@ -70,21 +70,21 @@ pub fn tables() -> Vec<Table> {
             module: "DataTokenTable",
             about: "Data texts and their tokens, up to the text's end or to the first that is unreadable, and first tokens behind `(`.",
             uses: &[
-                PATH, LIST, TEXT, DATA_SPELLING, DATA_TOKENS, ROUNDS, WRONG, COMPUTES, "Rattle·lexis·proofs.proofs.Examples.{DataTokenCase, dataReads, typeReads, tokensFrom, dataTokenRight}",
+                PATH, LIST, TEXT, DATA_SPELLING, DATA_TOKENS, ROUNDS, WRONG, COMPUTES, "Rattle.lexis.proofs.Examples.{DataTokenCase, data_reads, type_reads, tokens_from, data_token_right}",
             ],
             case: "DataTokenCase",
-            right: "dataTokenRight",
-            unfolding: "tokensFrom lexisComputes",
+            right: "data_token_right",
+            unfolding: "tokens_from lexis_computes",
             groups: data_groups(),
         },
         Table {
             holder: "lexis",
             module: "DurationTable",
             about: "Words of capital and small letters with the flag of the Duration pattern that each is, 0 for none.",
-            uses: &[PATH, LIST, TEXT, WRONG, COMPUTES, "Rattle·lexis·proofs.proofs.Examples.{DurationCase, patternIs, durationRight}"],
+            uses: &[PATH, LIST, TEXT, WRONG, COMPUTES, "Rattle.lexis.proofs.Examples.{DurationCase, pattern_is, duration_right}"],
             case: "DurationCase",
-            right: "durationRight",
-            unfolding: "lexisComputes",
+            right: "duration_right",
+            unfolding: "lexis_computes",
             groups: groups(&duration_texts(), duration_case),
         },
         Table {
@@ -92,11 +92,11 @@ pub fn tables() -> Vec<Table> {
             module: "ContentTokenTable",
             about: "Constraint texts and the token where a value may stand, from a place on.",
             uses: &[
-                PATH, LIST, NUMBERS, TEXT, SPELLING, TOKENS, DURATIONS, WRONG, COMPUTES, "Rattle·lexis·proofs.proofs.Examples.{ContentCase, contentReads, contentRight}",
+                PATH, LIST, NUMBERS, TEXT, SPELLING, TOKENS, DURATIONS, WRONG, COMPUTES, "Rattle.lexis.proofs.Examples.{ContentCase, content_reads, content_right}",
             ],
             case: "ContentCase",
-            right: "contentRight",
-            unfolding: "lexisComputes",
+            right: "content_right",
+            unfolding: "lexis_computes",
             groups: content_groups(),
         },
     ]
@@ -121,7 +121,7 @@ fn ends_line(byte: u8) -> bool {
 
 fn byte_case(byte: u8) -> String {
     let flags = [is_identifier(byte), is_string(byte), is_run(byte), ends_line(byte)].map(term::truth);
-    format!("byteIs {byte} {} {}", sort(byte), flags.join(" "))
+    format!("byte_is {byte} {} {}", sort(byte), flags.join(" "))
 }
 
 fn blank_groups() -> Vec<Group> {
@@ -153,12 +153,12 @@ fn run_groups() -> Vec<Group> {
     let lists: [&[&[u8]]; 6] = [&[], &[b"a"], &[b"ab"], &[b"b", b"a"], &[b"abc", b"ab", b"b"], &[b"", b"aB"]];
     let parts: [&[u8]; 6] = [b"\"\"", b"\"a\"", b" \"abc\" x", b"[at1]", b"--\n[at1.23]]", b"\"ab\"\"cd\""];
     let same = |one: &&[u8]| {
-        runs.map(|other| format!("sameIs {} {} {}", term::bytes(one), term::bytes(other), term::truth(*one == other)))
+        runs.map(|other| format!("same_is {} {} {}", term::bytes(one), term::bytes(other), term::truth(*one == other)))
     };
     let listed = |run: &&[u8]| {
         lists.map(|list| {
             let terms: Vec<String> = list.iter().map(|each| term::bytes(each)).collect();
-            format!("listedIs {} {} {}", term::bytes(run), term::list(&terms), term::truth(list.contains(run)))
+            format!("listed_is {} {} {}", term::bytes(run), term::list(&terms), term::truth(list.contains(run)))
         })
     };
     vec![
@@ -176,38 +176,38 @@ fn run_groups() -> Vec<Group> {
 
 fn parts_case(text: &[u8]) -> String {
     let token = token_at(text, 0);
-    format!("partsAre {} {} {}", term::bytes(text), term::bytes(token.spelling(text)), term::bytes(token.inner(text)))
+    format!("parts_are {} {} {}", term::bytes(text), term::bytes(token.spelling(text)), term::bytes(token.inner(text)))
 }
 
 /// How a definition names the sort of a token.
 pub fn token_sort(kind: Kind) -> String {
     let name = match kind {
-        Kind::OpenBrace => "openBrace",
-        Kind::CloseBrace => "closeBrace",
+        Kind::OpenBrace => "open_brace",
+        Kind::CloseBrace => "close_brace",
         Kind::Comma => "comma",
         Kind::Star => "star",
         Kind::Bar => "bar",
         Kind::Ellipsis => "dots",
         Kind::Less => "less",
         Kind::Greater => "greater",
-        Kind::LessEqual => "atMost",
-        Kind::GreaterEqual => "atLeast",
-        Kind::PlusMinus => "plusMinus",
-        Kind::Type => "typeName",
+        Kind::LessEqual => "at_most",
+        Kind::GreaterEqual => "at_least",
+        Kind::PlusMinus => "plus_minus",
+        Kind::Type => "type_name",
         Kind::Name => "name",
         Kind::Matches => "matches",
         Kind::Existence => "existence",
-        Kind::Boolean(true) => "trueWord",
-        Kind::Boolean(false) => "falseWord",
+        Kind::Boolean(true) => "true_word",
+        Kind::Boolean(false) => "false_word",
         Kind::Code => "code",
         Kind::Integer => "integer",
         Kind::Date => "date",
         Kind::String => "string",
-        Kind::End => "textEnd",
+        Kind::End => "text_end",
         Kind::Unreadable => "unreadable",
-        Kind::DatePattern(flag) => return format!("(datePattern + {flag})"),
-        Kind::TimePattern(flag) => return format!("(timePattern + {flag})"),
-        Kind::DurationPattern(flag) => return format!("(durationPattern + {flag})"),
+        Kind::DatePattern(flag) => return format!("(date_pattern + {flag})"),
+        Kind::TimePattern(flag) => return format!("(time_pattern + {flag})"),
+        Kind::DurationPattern(flag) => return format!("(duration_pattern + {flag})"),
     };
     String::from(name)
 }
@@ -327,7 +327,7 @@ fn token_texts() -> Vec<Inputs> {
 }
 
 fn duration_case(word: &[u8]) -> String {
-    format!("patternIs {} {}", term::bytes(word), durations::pattern(word).unwrap_or(0))
+    format!("pattern_is {} {}", term::bytes(word), durations::pattern(word).unwrap_or(0))
 }
 
 /// The spelling of the pattern of a flag, its rule written out a second time.
@@ -399,7 +399,7 @@ fn duration_texts() -> Vec<Inputs> {
 fn content_case(text: &[u8], from: usize) -> String {
     let token = value_token_at(text, from);
     let term = token_term(&token_sort(token.kind), token.start, token.end);
-    format!("contentReads {} {from} ({term})", term::bytes(text))
+    format!("content_reads {} {from} ({term})", term::bytes(text))
 }
 
 fn content_groups() -> Vec<Group> {
@@ -452,17 +452,17 @@ fn data_token(text: &[u8], place: usize, behind_round: bool) -> (&'static str, u
     let rest = text.get(start..).unwrap_or(&[]);
     let run = rest.iter().take_while(|byte| is_run(**byte)).count();
     let (sort, length) = match rest.first() {
-        None => ("textEnd", 0),
+        None => ("text_end", 0),
         Some(b'<') => ("less", 1),
         Some(b'>') => ("greater", 1),
         Some(b'=') => ("equals", 1),
-        Some(b'(') => ("openRound", 1),
-        Some(b')') => ("closeRound", 1),
+        Some(b'(') => ("open_round", 1),
+        Some(b')') => ("close_round", 1),
         Some(b'"') => string_length(rest).map_or(("unreadable", 1), |length| ("string", length)),
         Some(_) if run == 0 => ("unreadable", 1),
-        Some(_) if behind_round && is_type(&rest[..run]) => ("typeName", run),
+        Some(_) if behind_round && is_type(&rest[..run]) => ("type_name", run),
         Some(_) if behind_round => ("unreadable", run),
-        Some(byte) if !byte.is_ascii_lowercase() => ("wordRun", run),
+        Some(byte) if !byte.is_ascii_lowercase() => ("word_run", run),
         Some(_) if is_name(&rest[..run]) => ("name", run),
         Some(_) => ("unreadable", run),
     };
@@ -475,8 +475,8 @@ fn data_case(text: &[u8]) -> String {
     loop {
         let (sort, start, end) = data_token(text, place, false);
         terms.push(token_term(sort, start, end));
-        if sort == "textEnd" || sort == "unreadable" {
-            return format!("dataReads {} {}", term::bytes(text), term::list(&terms));
+        if sort == "text_end" || sort == "unreadable" {
+            return format!("data_reads {} {}", term::bytes(text), term::list(&terms));
         }
         place = end;
     }
@@ -484,7 +484,7 @@ fn data_case(text: &[u8]) -> String {
 
 fn type_case(text: &[u8]) -> String {
     let (sort, start, end) = data_token(text, 0, true);
-    format!("typeReads {} ({})", term::bytes(text), token_term(sort, start, end))
+    format!("type_reads {} ({})", term::bytes(text), token_term(sort, start, end))
 }
 
 fn data_groups() -> Vec<Group> {

@@ -32,11 +32,11 @@ pub fn file() -> File {
     );
     out.push_str("-- This file is written by `example_tables write` of second/. Assumes nothing.\n");
     for line in [
-        "mathlib.Core.Path.{_≡_, refl}",
-        "mathlib.Core.List.{List, [], _∷_}",
-        "Rattle·meaning·specs.specs.Constraints.{prohibited, optional, required, Object, noMore, any, nested, leaf, single, ranges, texts, booleans, integers, datePattern, dates, timePattern, durationPattern}",
-        "Rattle·meaning·specs.specs.Counting.{objectRecords, objectPool, objectNumbers}",
-        "Rattle·meaning·proofs.proofs.Trees.{range, item, objectWith, attributeWith, each}",
+        "mathlib.Core.Path.{◌≡◌, refl}",
+        "mathlib.Core.List.{List, [], ◌∷◌}",
+        "Rattle.meaning.specs.Constraints.{prohibited, optional, required, Object, no_more, any, nested, leaf, single, ranges, texts, booleans, integers, date_pattern, dates, time_pattern, duration_pattern}",
+        "Rattle.meaning.specs.Counting.{object_records, object_pool, object_numbers}",
+        "Rattle.meaning.proofs.Trees.{range, item, object_with, attribute_with, each}",
     ] {
         let _ = writeln!(out, "use {line}");
     }
@@ -50,9 +50,9 @@ pub fn file() -> File {
     }
     let _ = write!(out, "\npub trees : List Object\ntrees =\n    {}\n    ∷ []\n", trees.join("\n    ∷ "));
     let parts = [
-        ("-- how many records each has, its header left out", "records-counted", "objectRecords", records),
-        ("-- the bytes of each pool", "pools-filled", "objectPool", pools),
-        ("-- the numbers of the records, in text order", "numbers-in-order", "objectNumbers", numbers),
+        ("-- how many records each has, its header left out", "records-counted", "object_records", records),
+        ("-- the bytes of each pool", "pools-filled", "object_pool", pools),
+        ("-- the numbers of the records, in text order", "numbers-in-order", "object_numbers", numbers),
     ];
     for (about, name, count, expected) in parts {
         let _ = write!(out, "\n{about}\npub {name} : each {count} trees ≡ {}\n", term::list(&expected));

@@ -8,21 +8,14 @@ use crate::api::MergeAnswer;
 use crate::generator::{self, Maker, Table};
 use crate::merge;
 
-const PATH: &str = "mathlib.Core.Path.{_≡_, refl}";
+const PATH: &str = "mathlib.Core.Path.{◌≡◌, refl}";
 const BOOL: &str = "mathlib.Core.Bool.{true, false}";
-const LIST: &str = "mathlib.Core.List.{List, [], _∷_}";
-const WRONG: &str = "Rattle·lexis.proofs.Tables.{wrong}";
-const COMPUTE: &str = "Rattle·table_merge·proofs.proofs.Computes.{mergeComputes}";
-const HEX: &str = "Rattle·table.proofs.Hex.{hex, filling}";
-const MERGES: &[&str] = &[
-    PATH,
-    BOOL,
-    LIST,
-    WRONG,
-    HEX,
-    COMPUTE,
-    "Rattle·table_merge·proofs.proofs.Examples.{Case, merges, refuses, right}",
-];
+const LIST: &str = "mathlib.Core.List.{List, [], ◌∷◌}";
+const WRONG: &str = "Rattle.lexis.proofs.Tables.{wrong}";
+const COMPUTE: &str = "Rattle.table_merge.proofs.Computes.{merge_computes}";
+const HEX: &str = "Rattle.table.proofs.Hex.{hex, filling}";
+const MERGES: &[&str] =
+    &[PATH, BOOL, LIST, WRONG, HEX, COMPUTE, "Rattle.table_merge.proofs.Examples.{Case, merges, refuses, right}"];
 const STEPS: &[&str] = &[
     PATH,
     BOOL,
@@ -30,10 +23,10 @@ const STEPS: &[&str] = &[
     WRONG,
     HEX,
     COMPUTE,
-    "Rattle·table_merge·proofs.proofs.Examples.{StepCase, carries, step, stepsRight}",
+    "Rattle.table_merge.proofs.Examples.{StepCase, carries, step, steps_right}",
 ];
 const LIMITS: &[&str] =
-    &[PATH, BOOL, LIST, WRONG, COMPUTE, "Rattle·table_merge·proofs.proofs.Examples.{JoinCase, joinRefuses, joinRight}"];
+    &[PATH, BOOL, LIST, WRONG, COMPUTE, "Rattle.table_merge.proofs.Examples.{JoinCase, join_refuses, join_right}"];
 
 pub fn tables() -> Vec<layout::Table> {
     let part = |module, about, uses, case, right, groups| layout::Table {
@@ -43,7 +36,7 @@ pub fn tables() -> Vec<layout::Table> {
         uses,
         case,
         right,
-        unfolding: "mergeComputes",
+        unfolding: "merge_computes",
         groups,
     };
     vec![
@@ -69,7 +62,7 @@ pub fn tables() -> Vec<layout::Table> {
             "Tables joined up to the limits of a table and above them.",
             LIMITS,
             "JoinCase",
-            "joinRight",
+            "join_right",
             vec![limits()],
         ),
         part(
@@ -77,7 +70,7 @@ pub fn tables() -> Vec<layout::Table> {
             "Lists of merges, with the table carried and the sum of the shifts.",
             STEPS,
             "StepCase",
-            "stepsRight",
+            "steps_right",
             vec![steps()],
         ),
     ]
@@ -242,7 +235,7 @@ fn limit_case(sizes: [usize; 4], little: bool, room: usize) -> String {
     match merge(&objects(records, pool).bytes(), &objects(more_records, more_pool).bytes(), little, &mut out) {
         MergeAnswer::Refused { number, place, table: 0 } => {
             let sizes = sizes.map(|size| term::number(size as u64)).join(" ");
-            format!("joinRefuses {sizes} {} {room} {number} {}", term::truth(little), term::number(place))
+            format!("join_refuses {sizes} {} {room} {number} {}", term::truth(little), term::number(place))
         }
         answer => panic!("{answer:?}"),
     }

@@ -6,18 +6,18 @@ use crate::limits;
 use crate::tokens::{token_at, Kind};
 
 const USES: &[&str] = &[
-    "mathlib.Core.Path.{_≡_, refl}",
-    "mathlib.Core.List.{List, [], _∷_}",
-    "Rattle·lexis.specs.Text.{bytes}",
-    "Rattle·lexis.specs.Spelling.{matches, openBrace, star}",
-    "Rattle·lexis.specs.Tokens.{textEnd, typeName, name, integer}",
-    "Rattle·lexis.proofs.Tables.{wrong}",
-    "Rattle·lexis.proofs.Computes.{lexisComputes}",
-    "Rattle·refusals·specs.specs.declared.Cause.the-variants.{TextTooLong, Unreadable, CannotFollow, EndsEarly, TooDeep, TooLong, Impossible, OutOfRange, BadWord, EmptyInterval, TooManyItems, TooManyRecords, Overlap, RepeatedName, PoolTooLarge, OutputTooShort, NotATable, BrokenRecord, NotAnObject, NoName}",
-    "Rattle·refusals·specs.specs.Limits.{textLimit, levelLimit, itemLimit, recordLimit, poolLimit, nameLimit, codeLimit, stringLimit}",
-    "Rattle·refusals·specs.specs.Refusals.{numberOf}",
-    "Rattle·refusals·specs.specs.Expecting.{expect}",
-    "Rattle·refusals·proofs.proofs.Examples.{Case, numbered, limitIs, takes, faults, right, which}",
+    "mathlib.Core.Path.{◌≡◌, refl}",
+    "mathlib.Core.List.{List, [], ◌∷◌}",
+    "Rattle.lexis.specs.Text.{bytes}",
+    "Rattle.lexis.specs.Spelling.{matches, open_brace, star}",
+    "Rattle.lexis.specs.Tokens.{text_end, type_name, name, integer}",
+    "Rattle.lexis.proofs.Tables.{wrong}",
+    "Rattle.lexis.proofs.Computes.{lexis_computes}",
+    "Rattle.refusals.specs.declared.Cause.TheVariants.{TextTooLong, Unreadable, CannotFollow, EndsEarly, TooDeep, TooLong, Impossible, OutOfRange, BadWord, EmptyInterval, TooManyItems, TooManyRecords, Overlap, RepeatedName, PoolTooLarge, OutputTooShort, NotATable, BrokenRecord, NotAnObject, NoName}",
+    "Rattle.refusals.specs.Limits.{text_limit, level_limit, item_limit, record_limit, pool_limit, name_limit, code_limit, string_limit}",
+    "Rattle.refusals.specs.Refusals.{number_of}",
+    "Rattle.refusals.specs.Expecting.{expect}",
+    "Rattle.refusals.proofs.Examples.{Case, numbered, limit_is, takes, faults, right, which}",
 ];
 
 pub fn tables() -> Vec<Table> {
@@ -28,7 +28,7 @@ pub fn tables() -> Vec<Table> {
         uses: USES,
         case: "Case",
         right: "right",
-        unfolding: "which numberOf expect lexisComputes",
+        unfolding: "which number_of expect lexis_computes",
         groups: vec![
             Group {
                 about: "document 01's number of each cause",
@@ -69,16 +69,16 @@ const CAUSES: [(&str, u32); 20] = [
 
 fn limit_cases() -> Vec<String> {
     let all = [
-        ("textLimit", limits::TEXT),
-        ("levelLimit", limits::LEVELS),
-        ("itemLimit", limits::ITEMS),
-        ("recordLimit", limits::RECORDS),
-        ("poolLimit", limits::POOL),
-        ("nameLimit", limits::NAME),
-        ("codeLimit", limits::CODE),
-        ("stringLimit", limits::STRING),
+        ("text_limit", limits::TEXT),
+        ("level_limit", limits::LEVELS),
+        ("item_limit", limits::ITEMS),
+        ("record_limit", limits::RECORDS),
+        ("pool_limit", limits::POOL),
+        ("name_limit", limits::NAME),
+        ("code_limit", limits::CODE),
+        ("string_limit", limits::STRING),
     ];
-    all.iter().map(|(name, limit)| format!("limitIs {name} {}", term::number(*limit as u64))).collect()
+    all.iter().map(|(name, limit)| format!("limit_is {name} {}", term::number(*limit as u64))).collect()
 }
 
 fn step_cases() -> Vec<String> {

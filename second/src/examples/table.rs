@@ -75,12 +75,12 @@ const BESIDE: [(&str, &str); 10] = [
 
 impl Table {
     pub fn file(&self) -> File {
-        let (path, text) = if BESIDE.contains(&(self.holder, self.module)) {
-            (format!("crates/{}/proofs/{}.antt", self.holder, self.module), self.text())
+        let path = if BESIDE.contains(&(self.holder, self.module)) {
+            format!("crates/{}/proofs/{}.antt", self.holder, self.module)
         } else {
-            (format!("crates/examples/proofs/{}.antt", self.outside_name()), from_outside(self.holder, &self.text()))
+            format!("crates/examples/proofs/{}.antt", self.outside_name())
         };
-        File { path, text, cases: self.groups.iter().map(|group| group.cases.len()).sum() }
+        File { path, text: self.text(), cases: self.groups.iter().map(|group| group.cases.len()).sum() }
     }
 
     /// The module's name among the tables of all crates: it begins with the crate's.
@@ -121,10 +121,4 @@ fn capitalized(name: &str) -> String {
         first.to_uppercase() + rest
     };
     name.split('_').map(word).collect()
-}
-
-/// A file of a crate as another crate writes it: what the crate's own files name as their own is named by the crate.
-fn from_outside(holder: &str, text: &str) -> String {
-    text.replace(&format!("{holder}·proofs.proofs."), &format!("{holder}.proofs."))
-        .replace(&format!("{holder}·specs.specs."), &format!("{holder}.specs."))
 }

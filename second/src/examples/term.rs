@@ -80,7 +80,7 @@ pub fn numbers(all: impl Iterator<Item = u32>) -> String {
 /// The object of that index with what it holds.
 pub fn object(tree: &constraint::Tree, index: usize, spell: Spell) -> String {
     let object = &tree.objects[index];
-    let mut attributes = String::from("noMore");
+    let mut attributes = String::from("no_more");
     for attribute in object.attributes.iter().rev() {
         let existence = match attribute.existence {
             Existence::Forbidden => 0,
@@ -93,9 +93,9 @@ pub fn object(tree: &constraint::Tree, index: usize, spell: Spell) -> String {
             Value::Leaf(inner) => format!("(leaf {})", leaf(inner, inner.number, spell)),
         };
         let name = spell(attribute.name);
-        attributes = format!("(attributeWith {} {existence} {name} {value} {attributes})", attribute.number);
+        attributes = format!("(attribute_with {} {existence} {name} {value} {attributes})", attribute.number);
     }
-    format!("(objectWith {} {} {} {attributes})", object.number, spell(object.type_name), spell(object.code))
+    format!("(object_with {} {} {} {attributes})", object.number, spell(object.type_name), spell(object.code))
 }
 
 /// A leaf whose first record has that number.
@@ -104,9 +104,9 @@ pub fn leaf(leaf: &Leaf, first: u32, spell: Spell) -> String {
         LeafBody::Boolean { admits_true, admits_false } => {
             format!("(single booleans {first} {})", u32::from(*admits_true) + 2 * u32::from(*admits_false))
         }
-        LeafBody::DatePattern(flag) => format!("(single datePattern {first} {flag})"),
-        LeafBody::TimePattern(flag) => format!("(single timePattern {first} {flag})"),
-        LeafBody::DurationPattern(flag) => format!("(single durationPattern {first} {flag})"),
+        LeafBody::DatePattern(flag) => format!("(single date_pattern {first} {flag})"),
+        LeafBody::TimePattern(flag) => format!("(single time_pattern {first} {flag})"),
+        LeafBody::DurationPattern(flag) => format!("(single duration_pattern {first} {flag})"),
         LeafBody::Items(items) => {
             let kind = match items.first() {
                 Some(Item::Integer(_)) => "ranges integers",
@@ -134,7 +134,7 @@ fn item(item: &Item, record: u32, spell: Spell) -> String {
 /// The block of that index with what it holds.
 pub fn datum(tree: &data::Tree, index: usize) -> String {
     let block = &tree.blocks[index];
-    let mut members = String::from("noMore");
+    let mut members = String::from("no_more");
     for member in block.members.iter().rev() {
         let content = match &member.value {
             Datum::Block(inner) => format!("(block {})", datum(tree, *inner)),

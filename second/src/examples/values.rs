@@ -8,15 +8,15 @@ use crate::numbers;
 use crate::patterns::{admits_date, admits_time};
 use crate::words::{self, PartialDate, PartialTime};
 
-const PATH: &str = "mathlib.Core.Path.{_≡_, refl}";
+const PATH: &str = "mathlib.Core.Path.{◌≡◌, refl}";
 const BOOL: &str = "mathlib.Core.Bool.{true, false}";
 const OPTION: &str = "mathlib.Core.Option.{none, some}";
-const LIST: &str = "mathlib.Core.List.{List, [], _∷_}";
-const TEXT: &str = "Rattle·lexis.specs.Text.{bytes}";
-const PAIR: &str = "Rattle·values·specs.specs.Integers.{pair, nought, greatest}";
-const DAYS: &str = "Rattle·values·specs.specs.Calendar.{firstDay, lastDay}";
-const WRONG: &str = "Rattle·lexis.proofs.Tables.{wrong}";
-const COMPUTE: &str = "Rattle·values·proofs.proofs.Computes.{valuesCompute}";
+const LIST: &str = "mathlib.Core.List.{List, [], ◌∷◌}";
+const TEXT: &str = "Rattle.lexis.specs.Text.{bytes}";
+const PAIR: &str = "Rattle.values.specs.Integers.{pair, nought, greatest}";
+const DAYS: &str = "Rattle.values.specs.Calendar.{first_day, last_day}";
+const WRONG: &str = "Rattle.lexis.proofs.Tables.{wrong}";
+const COMPUTE: &str = "Rattle.values.proofs.Computes.{values_compute}";
 
 pub fn tables() -> Vec<Table> {
     vec![
@@ -24,10 +24,10 @@ pub fn tables() -> Vec<Table> {
             holder: "values",
             module: "WordTable",
             about: "Words, what each reads as, a Boolean, an integer, a date, a time, a duration, and whether it is good.",
-            uses: &[PATH, BOOL, OPTION, LIST, TEXT, WRONG, COMPUTE, "Rattle·values·proofs.proofs.Examples.{WordCase, reads, date, wordRight}"],
+            uses: &[PATH, BOOL, OPTION, LIST, TEXT, WRONG, COMPUTE, "Rattle.values.proofs.Examples.{WordCase, reads, date, word_right}"],
             case: "WordCase",
-            right: "wordRight",
-            unfolding: "valuesCompute",
+            right: "word_right",
+            unfolding: "values_compute",
             groups: groups(&word_texts(), word_case),
         },
         Table {
@@ -43,21 +43,21 @@ pub fn tables() -> Vec<Table> {
                 DAYS,
                 WRONG,
                 COMPUTE,
-                "Rattle·values·proofs.proofs.Examples.{NumberCase, leapIs, daysAre, realIs, follows, precedes, spreads, bitsAre, endIs, numberRight}",
+                "Rattle.values.proofs.Examples.{NumberCase, leap_is, days_are, real_is, follows, precedes, spreads, bits_are, end_is, number_right}",
             ],
             case: "NumberCase",
-            right: "numberRight",
-            unfolding: "valuesCompute",
+            right: "number_right",
+            unfolding: "values_compute",
             groups: number_groups(),
         },
         Table {
             holder: "values",
             module: "PatternTable",
             about: "Each pattern against words.",
-            uses: &[PATH, BOOL, LIST, TEXT, WRONG, COMPUTE, "Rattle·values·proofs.proofs.Examples.{PatternCase, dateFits, timeFits, durationFits, patternRight}"],
+            uses: &[PATH, BOOL, LIST, TEXT, WRONG, COMPUTE, "Rattle.values.proofs.Examples.{PatternCase, date_fits, time_fits, duration_fits, pattern_right}"],
             case: "PatternCase",
-            right: "patternRight",
-            unfolding: "valuesCompute",
+            right: "pattern_right",
+            unfolding: "values_compute",
             groups: pattern_groups(),
         },
     ]
@@ -209,10 +209,10 @@ fn number_groups() -> Vec<Group> {
         0, 1, 2, 3, 4, 96, 100, 200, 300, 400, 500, 800, 1600, 1700, 1899, 1900, 1904, 1996, 1999, 2000, 2001, 2002,
         2003, 2004, 2100, 2200, 2300, 2400, 4000, 9996, 9999,
     ];
-    let leaps = years.iter().map(|year| format!("leapIs {year} {}", term::truth(is_leap(*year)))).collect();
+    let leaps = years.iter().map(|year| format!("leap_is {year} {}", term::truth(is_leap(*year)))).collect();
     let months = [2003, 2004, 1900, 2000].iter().flat_map(|year| (0..=13).map(move |month| (*year, month)));
     let lengths =
-        months.map(|(year, month)| format!("daysAre {year} {month} {}", days_in_month(year, month))).collect();
+        months.map(|(year, month)| format!("days_are {year} {month} {}", days_in_month(year, month))).collect();
     let numbers = [
         0, 1, 31, 100, 101, 131, 132, 228, 229, 230, 1231, 1232, 1301, 9_999, 10_000, 10_101, 19_000_228, 19_000_229,
         19_000_301, 20_000_229, 20_030_229, 20_040_100, 20_040_101, 20_040_131, 20_040_132, 20_040_229, 20_040_230,
@@ -222,7 +222,11 @@ fn number_groups() -> Vec<Group> {
     let reals = numbers
         .iter()
         .map(|packed| {
-            format!("realIs {} {}", term::number(u64::from(*packed)), term::truth(Date::from_packed(*packed).is_some()))
+            format!(
+                "real_is {} {}",
+                term::number(u64::from(*packed)),
+                term::truth(Date::from_packed(*packed).is_some())
+            )
         })
         .collect();
     vec![
@@ -247,12 +251,12 @@ fn number_groups() -> Vec<Group> {
 
 fn end_cases() -> Vec<String> {
     let ends = [
-        ("firstDay", term::number(u64::from(Date::FIRST.packed()))),
-        ("lastDay", term::number(u64::from(Date::LAST.packed()))),
+        ("first_day", term::number(u64::from(Date::FIRST.packed()))),
+        ("last_day", term::number(u64::from(Date::LAST.packed()))),
         ("nought", term::distance(0)),
         ("greatest", term::distance(i32::MAX)),
     ];
-    ends.iter().map(|(name, value)| format!("endIs {name} {value}")).collect()
+    ends.iter().map(|(name, value)| format!("end_is {name} {value}")).collect()
 }
 
 fn day_cases() -> Vec<String> {
@@ -318,7 +322,7 @@ fn spread_case(middle: i32, distance: i32) -> String {
 }
 
 fn bits_case(value: &i32) -> String {
-    format!("bitsAre {} {}", term::distance(*value), term::number(u64::from(*value as u32)))
+    format!("bits_are {} {}", term::distance(*value), term::number(u64::from(*value as u32)))
 }
 
 /// Words that fill no slot as a duration does.
@@ -379,7 +383,7 @@ fn duration_cases(flag: u8) -> Vec<String> {
     all.push(NO_DURATIONS[usize::from(flag) % NO_DURATIONS.len()].to_vec());
     let case = |word: &Vec<u8>| {
         let fits = durations::word(word).is_some_and(|filled| durations::admits(flag, filled));
-        format!("durationFits {flag} {} {}", term::bytes(word), term::truth(fits))
+        format!("duration_fits {flag} {} {}", term::bytes(word), term::truth(fits))
     };
     all.iter().map(case).collect()
 }
@@ -393,7 +397,7 @@ fn pattern_groups() -> Vec<Group> {
     let date = |flag: u8| {
         dates.map(|word| {
             format!(
-                "dateFits {flag} {} {}",
+                "date_fits {flag} {} {}",
                 term::bytes(word),
                 term::truth(words::date(word).is_some_and(|date| admits_date(flag, date)))
             )
@@ -402,7 +406,7 @@ fn pattern_groups() -> Vec<Group> {
     let time = |flag: u8| {
         times.map(|word| {
             format!(
-                "timeFits {flag} {} {}",
+                "time_fits {flag} {} {}",
                 term::bytes(word),
                 term::truth(words::time(word).is_some_and(|time| admits_time(flag, time)))
             )
