@@ -1,5 +1,5 @@
 -- The numbers of refusal as one table: document 01, 'Numbers of refusal'. A row for each cause, with its number and what its place is. Number 10 has no row for a text, where it is never told;
--- 20 to 24 are failures and no refusals, and stand in crates/demands/specs/Told.antt. Proved one with numberOf. Assumes nothing.
+-- 20 to 24 are failures and no refusals, and stand in crates/demands/specs/Told.antt. Proved one with number_of. Assumes nothing.
 use Rattle.std.specs.Prelude.{ℕ}
 use Rattle.refusals.specs.declared.Cause.{Cause}
 use Rattle.refusals.specs.declared.Cause.TheVariants.{TextTooLong, Unreadable, CannotFollow, EndsEarly, TooDeep, TooLong, Impossible, OutOfRange, BadWord, EmptyInterval, TooManyItems, TooManyRecords, Overlap, RepeatedName, PoolTooLarge, OutputTooShort, NotATable, BrokenRecord, NotAnObject, NoName}
