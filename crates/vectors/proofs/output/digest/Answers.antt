@@ -1,0 +1,15 @@
+-- `vectors::output::digest` meets its contract. Assumes nothing.
+use Prim.Native.Nat.{◌-◌}
+use lib.ListN.{length}
+use borrow.Author.Rules.{rules}
+use Rattle.vectors.proofs.DigestSteps.{InDigest, digest-first, digest-on, digest-end}
+use Rattle.vectors.proofs.output.digest.Goals as goal
+
+pub loop-i-init : goal.loop-i-init
+loop-i-init c = search digest-first
+
+pub loop-i-preserved : goal.loop-i-preserved
+loop-i-preserved c = search digest-on
+
+pub returns : goal.returns
+returns c = search digest-end

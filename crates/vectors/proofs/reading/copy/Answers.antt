@@ -1,0 +1,18 @@
+-- `vectors::reading::copy` meets its contract. Assumes nothing.
+use Prim.Native.Nat.{◌-◌}
+use lib.ListN.{length}
+use borrow.Author.Rules.{rules}
+use Rattle.vectors.proofs.CopySteps.{InCopy, copy-steps}
+use Rattle.vectors.proofs.reading.copy.Goals as goal
+
+pub loop-i-init : goal.loop-i-init
+loop-i-init c = search copy-steps
+
+pub returns-then-from-i : goal.returns-then-from-i
+returns-then-from-i c = search copy-steps
+
+pub loop-i-preserved : goal.loop-i-preserved
+loop-i-preserved c = search copy-steps
+
+pub returns : goal.returns
+returns c = search copy-steps

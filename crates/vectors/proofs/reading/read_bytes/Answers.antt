@@ -1,0 +1,10 @@
+-- `vectors::reading::read_bytes` meets its contract. Assumes nothing.
+use Prim.Native.Nat.{◌-◌}
+use lib.ListN.{length}
+use borrow.Author.Rules.{rules}
+use Rattle.vectors.specs.Reading.{Grown}
+use Rattle.vectors.proofs.Counting.{counts-read}
+use Rattle.vectors.proofs.reading.read_bytes.Goals as goal
+
+pub returns-then-next-at : goal.returns-then-next-at
+returns-then-next-at c = search counts-read

@@ -1,0 +1,11 @@
+-- The loops of `vectors::run_all`. Assumes nothing.
+use mathlib.Core.Path.{◌≡◌, refl}
+use lib.ListN
+use borrow.Author.Rules.{rules}
+use Rattle.vectors.proofs.run_all.Given as goal
+
+abbrev pub invariant-loop-turns : goal.invariant-loop-turns
+invariant-loop-turns l = ListN.length l.table ≡ ListN.length l.initial.table
+
+abbrev pub decreases-loop-turns : goal.decreases-loop-turns
+decreases-loop-turns l = l.turns
