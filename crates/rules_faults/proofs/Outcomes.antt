@@ -48,8 +48,10 @@ module _ {A : Type 0} (s : List ℕ) (P : Bool → ℕ → A → ℕ → Type 0)
       → FaultFrom s low y
   unfolding Ordered
   each sound low (stopped x) h y (Memᴰ.head e) = rw e h
+  each sound low (stopped x) h y (Memᴰ.tail m) = elim m [ ]
   each sound low (flawed x w) h y (Memᴰ.head e) = rw e h.0
   each sound low (flawed x w) h y (Memᴰ.tail m) = fault-lower s (rank_of x) low y h.0.behind (each false (rank_of x) w h.1 y m)
+  each sound low (parsed a p) h y m = elim m [ ]
 
   -- what reading tells is the least
   outcome : (sound : Bool) (low : ℕ) (w : Parse A) → Ordered s P sound low w → Outcome (first_in w) (faults_in w)

@@ -542,43 +542,44 @@ by-got : (s : List ℕ) (levels : ℕ) (c from p q : ℕ) (t b : Token) (k : Lis
     → object_from s (suc levels) c from ≡ got (object (record { number = c; type = spelling s t; code = k }) xs) q
 by-got s levels c from p q t b k xs n f d o h = rw (object-is s levels c from, type-got s levels c from t n f, code_got d o, opening-got o, h)
 
-mutual
-  unfolding object_levels attribute_names
+module _ (s : List ℕ) where
+  mutual
+    unfolding object_levels attribute_names
 
-  object-got : (o : Object) (s : List ℕ) (c from p : ℕ) → DerivesObject s c from o p → (levels : ℕ)
-      → object_levels o ≤ levels → from ≤ length s → object_from s levels c from ≡ got o p
-  object-got (object m xs) s c from p d zero l h = absurd (omega arith)
-  object-got (object m xs) s c from p (an_object {p = q} {t = t} {b = b} {k = k} n f d o y u) (suc levels) l h =
-      let g = open-found o (code-found d (next-found n h).inside) in
-      by-got s levels c from q p t b k xs n f d o
-      (body-got s levels (c + 1) b.end xs p y (λ r z ds w. attributes-got xs s (c + 1) b.end r ds levels (length s + 1) [] z w u (omega arith) g.1 (omega arith)))
+    object-got : (o : Object) (c from p : ℕ) → DerivesObject s c from o p → (levels : ℕ)
+        → object_levels o ≤ levels → from ≤ length s → object_from s levels c from ≡ got o p
+    object-got (object m xs) c from p d zero l h = absurd (omega arith)
+    object-got (object m xs) c from p (an_object {p = q} {t = t} {b = b} {k = k} n f d o y u) (suc levels) l h =
+        let g = open-found o (code-found d (next-found n h).inside) in
+        by-got s levels c from q p t b k xs n f d o
+        (body-got s levels (c + 1) b.end xs p y (λ r z ds w. attributes-got xs (c + 1) b.end r ds levels (length s + 1) [] z w u (omega arith) g.1 (omega arith)))
 
-  attributes-got : (xs : Attributes) (s : List ℕ) (c from p : ℕ) → DerivesAttributes s c from xs p
-      → (levels fuel : ℕ) (seen : List (List ℕ)) (z : Token)
-      → NextToken s p close_brace z
-      → Distinct seen (attribute_names xs)
-      → attribute_levels xs ≤ levels
-      → from ≤ length s
-      → length s < from + fuel
-      → attributes s levels fuel seen c from ≡ got xs z.end
-  attributes-got no_more s c from p d levels fuel seen z n u l h k = absurd (no-attribute d)
-  attributes-got (attribute b v more) s c from p d levels zero seen z n u l h k = absurd (omega arith)
-  attributes-got (attribute b v more) s c from p (last_one d) levels (suc fuel) seen z n u l h k =
-      let a = attribute-got s levels seen c from b v p d (head-new u) h (λ x f q g y j i. value-got v s x f q y levels g j (omega arith) i) in
-      last-got s levels fuel seen c from b v p z a n
-  attributes-got (attribute b v more) s c from p (one_more {p = q} d ds) levels (suc fuel) seen z n u l h k =
-      let a = attribute-got s levels seen c from b v q d (head-new u) h (λ x f r g y j i. value-got v s x f r y levels g j (omega arith) i) in
-      more-got s levels fuel seen c from b v q z.end more a (starts-name ds)
-      (attributes-got more s (behind_attribute c v) q p ds levels fuel (b.name ∷ seen) z n (tail-new u) (omega arith) a.high (omega (arith, a.low)))
+    attributes-got : (xs : Attributes) (c from p : ℕ) → DerivesAttributes s c from xs p
+        → (levels fuel : ℕ) (seen : List (List ℕ)) (z : Token)
+        → NextToken s p close_brace z
+        → Distinct seen (attribute_names xs)
+        → attribute_levels xs ≤ levels
+        → from ≤ length s
+        → length s < from + fuel
+        → attributes s levels fuel seen c from ≡ got xs z.end
+    attributes-got no_more c from p d levels fuel seen z n u l h k = absurd (no-attribute d)
+    attributes-got (attribute b v more) c from p d levels zero seen z n u l h k = absurd (omega arith)
+    attributes-got (attribute b v more) c from p (last_one d) levels (suc fuel) seen z n u l h k =
+        let a = attribute-got s levels seen c from b v p d (head-new u) h (λ x f q g y j i. value-got v x f q y levels g j (omega arith) i) in
+        last-got s levels fuel seen c from b v p z a n
+    attributes-got (attribute b v more) c from p (one_more {p = q} d ds) levels (suc fuel) seen z n u l h k =
+        let a = attribute-got s levels seen c from b v q d (head-new u) h (λ x f r g y j i. value-got v x f r y levels g j (omega arith) i) in
+        more-got s levels fuel seen c from b v q z.end more a (starts-name ds)
+        (attributes-got more (behind_attribute c v) q p ds levels fuel (b.name ∷ seen) z n (tail-new u) (omega arith) a.high (omega (arith, a.low)))
 
-  value-got : (v : Value) (s : List ℕ) (c from p : ℕ) → DerivesValue s c from v p → (levels : ℕ) (z : Token)
-      → NextToken s p close_brace z → value_levels v ≤ levels → from ≤ length s → ValueGot s levels c from v p
-  value-got any s c from p (anything {t = t} n) levels z w l h = star-value s levels c from t n h
-  value-got (nested o) s c from p (one_object d) levels z w l h = nested-value s levels c from o p (object-starts d) (object-got o s c from p d levels l h) h
-  value-got (leaf x) s c from p (one_leaf d) levels z w l h = leaf-value s levels c from x p (leaf-got s c from x p z d w) h
+    value-got : (v : Value) (c from p : ℕ) → DerivesValue s c from v p → (levels : ℕ) (z : Token)
+        → NextToken s p close_brace z → value_levels v ≤ levels → from ≤ length s → ValueGot s levels c from v p
+    value-got any c from p (anything {t = t} n) levels z w l h = star-value s levels c from t n h
+    value-got (nested o) c from p (one_object d) levels z w l h = nested-value s levels c from o p (object-starts d) (object-got o c from p d levels l h) h
+    value-got (leaf x) c from p (one_leaf d) levels z w l h = leaf-value s levels c from x p (leaf-got s c from x p z d w) h
 
 text-got : (s : List ℕ) (o : Object) → DerivesConstraint s o → (p : ℕ) × (constraint_of s ≡ got o p)
-text-got s o (whole_text {p = p} {e = e} l d n k) = (e.end, rw (constraint-is s, le-ltb text_limit (length s) l, object-got o s 1 0 p d level_limit k (omega arith), expect-got n))
+text-got s o (whole_text {p = p} {e = e} l d n k) = (e.end, rw (constraint-is s, le-ltb text_limit (length s) l, object-got s o 1 0 p d level_limit k (omega arith), expect-got n))
 
 -- a constraint text is read to a tree exactly where the grammar derives it
 pub read-derives : (s : List ℕ) (o : Object) → ((p : ℕ) × (constraint_of s ≡ got o p)) ↔ DerivesConstraint s o

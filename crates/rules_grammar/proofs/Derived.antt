@@ -44,6 +44,7 @@ listed-mem w (x ∷ xs) h = or_cases (same w x) (listed w xs) h (λ e. Memᴰ.he
 
 mem-listed : (w : List ℕ) (ws : List (List ℕ)) → Memᴰ w ws → listed w ws ≡ true
 unfolding listed
+mem-listed w [] m = elim m [ ]
 mem-listed w (x ∷ xs) (Memᴰ.head e) = or_left (same w x) (listed w xs) (eq-same w x e)
 mem-listed w (x ∷ xs) (Memᴰ.tail m) = or_right (same w x) (listed w xs) (mem-listed w xs m)
 
@@ -178,7 +179,7 @@ no-more : {s : List ℕ} {levels from : ℕ} {seen : List (List ℕ)} {g : Token
 unfolding names_of member_levels
 no-more n = members_given no_member n no_name (omega arith)
 
-one_more : {s : List ℕ} {levels from p q r : ℕ} {seen : List (List ℕ)} {t : Token} {w : Span} {c : PlacedContent}
+one_more_lem : {s : List ℕ} {levels from p q r : ℕ} {seen : List (List ℕ)} {t : Token} {w : Span} {c : PlacedContent}
     {ms : Entries}
     → NextDataToken s from name t
     → NameGiven s seen t w p
@@ -186,7 +187,7 @@ one_more : {s : List ℕ} {levels from p q r : ℕ} {seen : List (List ℕ)} {t 
     → MembersGiven s levels (spelling s t ∷ seen) q ms r
     → MembersGiven s levels seen from (entry w c ms) r
 unfolding names_of member_levels
-one_more n (name_given l m e) (content_given d k) (members_given ds g a b) = members_given (one_more n l e d ds) g (new_name m a) (omega arith)
+one_more_lem n (name_given l m e) (content_given d k) (members_given ds g a b) = members_given (one_more n l e d ds) g (new_name m a) (omega arith)
 
 module _ (s : List ℕ) (levels : ℕ)
     (below : (place : ℕ) (type : Option Span) (from : ℕ)
@@ -242,7 +243,7 @@ module _ (s : List ℕ) (levels : ℕ)
       (λ g. then-yields P (NameGiven s seen t) (name_from s seen t) _ (name-gives s seen t) (λ w p a.
       then-yields P (ContentGiven s levels p) (content_from s (block_from s levels) p) _ (content-gives p) (λ x q b.
       then-yields P (MembersGiven s levels (spelling s t ∷ seen) q) (members s (block_from s levels) fuel (spelling s t ∷ seen) q) _ (members-gives fuel (spelling s t ∷ seen) q) (λ ms r c.
-      parsed-yields P (entry w x ms) r (one_more (next-data (eqb-true _ _ g)) a b c)))))
+      parsed-yields P (entry w x ms) r (one_more_lem (next-data (eqb-true _ _ g)) a b c)))))
       (λ g. stopped-yields P _))
 
 block-gives : (s : List ℕ) (levels place : ℕ) (type : Option Span) (from : ℕ)

@@ -9,7 +9,7 @@ use Rattle.lexis.specs.Tokens.{integer, date}
 use Rattle.lexis.proofs.Cases.{by_cond}
 use Rattle.values.specs.Integers.{pair, nought, greatest, magnitude, inside, around}
 use Rattle.values.specs.Calendar.{month_days, year_of, month_of, day_of, packed, real, last_day, day_after, day_before}
-use Rattle.values.specs.Days.{MonthHas, january, december, IsDay, is_day, packed_day}
+use Rattle.values.specs.Days.{MonthHas, january, IsDay, is_day, packed_day}
 use Rattle.values.proofs.Common.{by_order, le_left, le_right}
 use Rattle.values.proofs.CalendarLaws.{month-long, year-packed, month-packed, day-packed, real-is, real-packed, real-first, real-last, after-follows, before-follows, before-after, after-before, after_last}
 use Rattle.values.proofs.IntegerLaws.{around-ends}

@@ -121,10 +121,12 @@ module _ (Such : ℕ → Type 0) where
 
     attributes-place : (xs : Attributes) {p : ℕ} {ms : Members} {r k q : ℕ} → AttributesFail xs p ms r k q → Such p
         → MemberPlaces Such ms → Such q
+    attributes-place Constraints.no_more f x ms = elim f [ ]
     attributes-place (Constraints.attribute a v more) (FirstFailure.now f) x ms = attribute-place (λ c r k q g y. value-place v g y) f x ms
     attributes-place (Constraints.attribute a v more) (FirstFailure.later y f) x ms = attributes-place more f x ms
 
     value-place : (v : Value) {c : Content} {r k q : ℕ} → ValueFails v c r k q → ContentPlaces Such c → Such q
+    value-place Constraints.any f ms = elim f [ ]
     value-place (Constraints.nested o) FirstFailure.string_for_block (in_string x) = x
     value-place (Constraints.nested o) FirstFailure.word_for_block (in_word x) = x
     value-place (Constraints.nested o) (FirstFailure.block_fails f) (in_block ms) = failure-place o f ms

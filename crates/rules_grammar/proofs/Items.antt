@@ -110,6 +110,7 @@ no-overlap : (x : Pair) (ys : List Pair) → overlaps x ys ≡ false → (y : Pa
 no-overlap x ys h y m k = false-true (sym h ∙ meets ys m)
   where
     meets : (zs : List Pair) → Memᴰ y zs → overlaps x zs ≡ true
+    meets [] n = elim n [ ]
     meets (z ∷ zs) (Memᴰ.head e) =
         or_left (meet x z) (overlaps x zs) (subst (λ (w : Pair). meet x w ≡ true) e (and_both (leb x.low y.high) (leb y.low x.high) (le-leb _ _ k.low) (le-leb _ _ k.high)))
     meets (z ∷ zs) (Memᴰ.tail n) = or_right (meet x z) (overlaps x zs) (meets zs n)

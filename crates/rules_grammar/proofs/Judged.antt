@@ -34,7 +34,7 @@ looked-up w (Data.member u x more) c e =
     (λ h g. Admits.behind (same-ne w u h) (looked-up w more c g))
     e
 
-found : {w : List ℕ} {ms : Members} {c : Content} → MemberOf w c ms → member_of w ms ≡ some c
+found : {w : List ℕ} {c : Content} {ms : Members} → MemberOf w c ms → member_of w ms ≡ some c
 unfolding member_of
 found {w = w} Admits.here = rw (same_self w)
 found {w = w} (Admits.behind {u = u} h m) = rw (ne_same w u h) (found m)
@@ -179,7 +179,7 @@ one-finding l c admitted admitted a b = refl
 
 -- a leaf is no block
 no_block : (l : Leaf) (d : Datum) → ¬ Readable l (Data.block d)
-no_block l d = elim [ ]
+no_block l d r = elim r [ ]
 
 leaf-finding : (l : Leaf) (c : Content) (f : Finding) → Stands l c f
     → judge_leaf l c ≡ verdict_of (leaf_number l) (place_of c) f
@@ -210,6 +210,28 @@ no-attribute = elim [ ]
 no-failure : {c : Content} {r k q : ℕ} → ¬ ValueFails Constraints.any c r k q
 no-failure = elim [ ]
 
+-- a value, given its object's verdict
+any-judged : (c : Content) (x : Verdict) → ValueTold Constraints.any c x → judge_value Constraints.any c ≡ x
+unfolding judge
+any-judged c valid h = refl
+any-judged c (fails r k q) h = absurd (no-failure h)
+
+nested-judged : (o : Object) (c : Content) (x : Verdict)
+    → ((d : Datum) (y : Verdict) → Told o d y → judge o d ≡ y)
+    → ValueTold (Constraints.nested o) c x
+    → judge_value (Constraints.nested o) c ≡ x
+unfolding judge
+nested-judged o c valid f (block_of {d = d} h) = f d valid h
+nested-judged o c (fails r k q) f FirstFailure.string_for_block = refl
+nested-judged o c (fails r k q) f FirstFailure.word_for_block = refl
+nested-judged o c (fails r k q) f (FirstFailure.block_fails {d = d} h) = f d (fails r k q) h
+
+leaf-judged : (l : Leaf) (c : Content) (x : Verdict) → ValueTold (Constraints.leaf l) c x
+    → judge_value (Constraints.leaf l) c ≡ x
+unfolding judge
+leaf-judged l c valid (leaf_of h) = leaf-finding l c admitted h
+leaf-judged l c (fails r k q) (FirstFailure.leaf_fails h) = leaf-failed l c r h
+
 mutual
   unfolding judge
 
@@ -230,14 +252,9 @@ mutual
       rw (member-judged a v p ms valid (λ c y t. value-judged v c y t) s) (attributes-judged more p ms (fails r k q) t)
 
   value-judged : (v : Value) (c : Content) (x : Verdict) → ValueTold v c x → judge_value v c ≡ x
-  value-judged Constraints.any c valid h = refl
-  value-judged Constraints.any c (fails r k q) h = absurd (no-failure h)
-  value-judged (Constraints.nested o) c valid (block_of {d = d} h) = judged o d valid h
-  value-judged (Constraints.nested o) c (fails r k q) FirstFailure.string_for_block = refl
-  value-judged (Constraints.nested o) c (fails r k q) FirstFailure.word_for_block = refl
-  value-judged (Constraints.nested o) c (fails r k q) (FirstFailure.block_fails {d = d} h) = judged o d (fails r k q) h
-  value-judged (Constraints.leaf l) c valid (leaf_of h) = leaf-finding l c admitted h
-  value-judged (Constraints.leaf l) c (fails r k q) (FirstFailure.leaf_fails h) = leaf-failed l c r h
+  value-judged Constraints.any c x h = any-judged c x h
+  value-judged (Constraints.nested o) c x h = nested-judged o c x (λ d y t. judged o d y t) h
+  value-judged (Constraints.leaf l) c x h = leaf-judged l c x h
 
 -- judging is valid exactly where the object admits the datum
 pub valid-admits : (o : Object) (d : Datum) → (judge o d ≡ valid) ↔ Admits o d

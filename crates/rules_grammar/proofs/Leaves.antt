@@ -17,7 +17,7 @@ use Rattle.values.specs.Times.{time_of}
 use Rattle.values.specs.Durations.{duration_of}
 use Rattle.values.specs.Words.{boolean_of}
 use Rattle.values.specs.Patterns.{Part, must, may, must_not, suits, fits, fits_date, fits_time, fits_duration, date_patterns, time_patterns}
-use Rattle.meaning.specs.Constraints.{Range, Text, Leaf, single, ranges, texts, booleans, date_pattern, time_pattern, duration_pattern, integers, dates}
+use Rattle.meaning.specs.Constraints.{Range, Text, Leaf, SingleSort, RangeSort, single, ranges, texts, booleans, date_pattern, time_pattern, duration_pattern, integers, dates}
 use Rattle.meaning.specs.Data.{Content}
 use Rattle.meaning.specs.Data
 use Rattle.meaning.specs.Findings.{Finding, unsuited, refuted, admitted, try}
@@ -35,19 +35,20 @@ use Rattle.values.proofs.DurationLaws.{fits-is}
 use Rattle.values.proofs.WordLaws.{boolean-word, integer-word}
 
 -- items
-in_item : (v : ℕ) (l : List Range) → in_some v l ≡ true → InItem v l
+in_item_lem : (v : ℕ) (l : List Range) → in_some v l ≡ true → InItem v l
 unfolding in_some
-in_item v [] h = absurd (false-true h)
-in_item v (x ∷ xs) h =
+in_item_lem v [] h = absurd (false-true h)
+in_item_lem v (x ∷ xs) h =
     or_cases (in_range v x) (in_some v xs) h
     (λ e. in_item x (Memᴰ.head refl) (leb-true x.low v (and_left (leb x.low v) (leb v x.high) e)) (leb-true v x.high (and_right (leb x.low v) (leb v x.high) e)))
-    (λ e. more (in_item v xs e))
+    (λ e. more (in_item_lem v xs e))
   where
     more : InItem v xs → InItem v (x ∷ xs)
     more (in_item y m a b) = in_item y (Memᴰ.tail m) a b
 
 item_in : (v : ℕ) (x : Range) (l : List Range) → Memᴰ x l → x.low ≤ v → v ≤ x.high → in_some v l ≡ true
 unfolding in_some
+item_in v x [] m a b = elim m [ ]
 item_in v x (y ∷ ys) (Memᴰ.head e) a b =
     or_left (in_range v y) (in_some v ys) (and_both _ _ (le-leb _ _ (rw e at a)) (le-leb _ _ (rw e at b)))
 item_in v x (y ∷ ys) (Memᴰ.tail m) a b = or_right (in_range v y) (in_some v ys) (item_in v x ys m a b)
@@ -68,6 +69,7 @@ is-item w (x ∷ xs) h =
 
 item-is : (w : List ℕ) (x : Text) (l : List Text) → Memᴰ x l → w ≡ x.text → is_some w l ≡ true
 unfolding is_some
+item-is w x [] m h = elim m [ ]
 item-is w x (y ∷ ys) (Memᴰ.head e) h = or_left (same w y.text) (is_some w ys) (eq-same w y.text (h ∙ ap (λ (z : Text). z.text) e))
 item-is w x (y ∷ ys) (Memᴰ.tail m) h = or_right (same w y.text) (is_some w ys) (item-is w x ys m h)
 
@@ -242,7 +244,7 @@ word_stands (ranges integers l) p w =
     tried (IsInteger w) (ranges integers l) (Data.word p w) (integer_of w) (λ v. in_some v l) (integer-word w)
     (λ v e. Readable.integer e)
     integer-read
-    (λ v e h. LeafAdmits.integer e (in_item v l h))
+    (λ v e h. LeafAdmits.integer e (in_item_lem v l h))
     integer-in
 word_stands (texts l) p w = elim [ ]
 word_stands (single date_pattern n f) p w =
@@ -255,7 +257,7 @@ word_stands (ranges dates l) p w =
     tried (IsDate w) (ranges dates l) (Data.word p w) (date_of w) (λ d. eqb d.parts 3 && in_some d.day l) (date-word w)
     (λ d e. Readable.interval_date e)
     date-read
-    (λ d e h. LeafAdmits.full_date e (eqb-true d.parts 3 (and_left (eqb d.parts 3) (in_some d.day l) h)) (in_item d.day l (and_right (eqb d.parts 3) (in_some d.day l) h)))
+    (λ d e h. LeafAdmits.full_date e (eqb-true d.parts 3 (and_left (eqb d.parts 3) (in_some d.day l) h)) (in_item_lem d.day l (and_right (eqb d.parts 3) (in_some d.day l) h)))
     date-in
 word_stands (single time_pattern n f) p w =
     tried (IsTime w) (single time_pattern n f) (Data.word p w) (time_of w) (fits_time f) (time-word w)
@@ -271,10 +273,16 @@ word_stands (single duration_pattern n f) p w =
     duration-in
 
 -- a string is read under strings alone
+no_single : (sort : SingleSort) (n f p : ℕ) (w : List ℕ) → ¬ Readable (single sort n f) (Data.string p w)
+no_single sort n f p w r = elim r [ ]
+
+no_ranges : (sort : RangeSort) (l : List Range) (p : ℕ) (w : List ℕ) → ¬ Readable (ranges sort l) (Data.string p w)
+no_ranges sort l p w r = elim r [ ]
+
 pub string-stands : (l : Leaf) (p : ℕ) (w : List ℕ) → Stands l (Data.string p w) (string_under l w)
 unfolding string_under
-string-stands (single sort n f) p w = elim [ ]
-string-stands (ranges sort l) p w = elim [ ]
+string-stands (single sort n f) p w = no_single sort n f p w
+string-stands (ranges sort l) p w = no_ranges sort l p w
 string-stands (texts l) p w =
     by_cond (Stands (texts l) (Data.string p w)) (is_some w l)
     (λ e. LeafAdmits.string (is-item w l e))
