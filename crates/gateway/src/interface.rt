@@ -25,8 +25,7 @@ fn told(refusal: Refusal, place: &mut u64) -> u32
 }
 
 // Compiles a constraint text; on 0, `*place` is the table's length.
-#[unsafe(no_mangle)]
-pub extern "C" fn dk_compile(text: &[u8], little: bool, out: &mut [u8], place: &mut u64) -> u32
+pub fn dk_compile(text: &[u8], little: bool, out: &mut [u8], place: &mut u64) -> u32
     ensures { AnswerIs compile_told (compile_answer text.now little out.old)
         (placed result place.new) out.new }
 {
@@ -42,8 +41,7 @@ pub extern "C" fn dk_compile(text: &[u8], little: bool, out: &mut [u8], place: &
 }
 
 // Checks a table.
-#[unsafe(no_mangle)]
-pub extern "C" fn dk_check(table: &[u8], place: &mut u64) -> u32
+pub fn dk_check(table: &[u8], place: &mut u64) -> u32
     ensures { placed result place.new ≡ check_told (table_fault table.now) }
 {
     match table::check::check(table) {
@@ -58,8 +56,7 @@ pub extern "C" fn dk_check(table: &[u8], place: &mut u64) -> u32
 }
 
 // Merges two tables; on 0, `*place` is the table's length; `*which` is 1 or 2 for 12 and 13.
-#[unsafe(no_mangle)]
-pub extern "C" fn dk_merge(
+pub fn dk_merge(
     first: &[u8],
     second: &[u8],
     little: bool,
@@ -97,8 +94,7 @@ pub extern "C" fn dk_merge(
 }
 
 // Judges a data text by a table at a root; 0 is valid; `*record` is 0 unless a verdict names one.
-#[unsafe(no_mangle)]
-pub extern "C" fn dk_judge(
+pub fn dk_judge(
     table: &[u8],
     root: u32,
     data: &[u8],
@@ -131,8 +127,7 @@ pub extern "C" fn dk_judge(
 }
 
 // Asks for the name of a record: the part's place in the table's bytes and its length; with a refusal `*start` is its place.
-#[unsafe(no_mangle)]
-pub extern "C" fn dk_name(table: &[u8], record: u32, start: &mut u64, len: &mut u64) -> u32
+pub fn dk_name(table: &[u8], record: u32, start: &mut u64, len: &mut u64) -> u32
     ensures { name_said (placed result start.new) len.new
         ≡ name_told (name_answer table.now «record») }
 {

@@ -3,7 +3,7 @@
 // demands over these definitions.
 #![tactic(auto)]
 
-mod interface;
+pub mod interface;
 
 ghost use Rattle.std.specs.Prelude.{◌≡◌};
 ghost use Rattle.refusals.specs.Outcomes.{answered};

@@ -23,13 +23,13 @@ pub slice_bounds-pool-start : goal.slice_bounds-pool-start
 slice_bounds-pool-start c = search records-end
 
 pub judge_short-requires : goal.judge_short-requires
-judge_short-requires c = (search parts-good, (search parts-kind, search rules))
+judge_short-requires c = record { table_good = search parts-good; root_value = search parts-kind; text_len_bound = search rules }
 
 pub returns-then-text-le-SHORT_TEXT : goal.returns-then-text-le-SHORT_TEXT
 returns-then-text-le-SHORT_TEXT c = search parts-judged
 
 pub judge_long-requires : goal.judge_long-requires
-judge_long-requires c = (search parts-good, search parts-kind)
+judge_long-requires c = record { table_good = search parts-good; root_value = search parts-kind }
 
 pub returns : goal.returns
 returns c = search parts-judged

@@ -8,7 +8,7 @@ pub returns-in-Refused : goal.returns-in-Refused
 returns-in-Refused c = search text-refused
 
 pub judge_block-v-requires : goal.judge_block-v-requires
-judge_block-v-requires c = (search text-under, memo-zeros _ _ _ _ _ 0)
+judge_block-v-requires c = record { under = search text-under; memo_good = memo-zeros _ _ _ _ _ 0 }
 
 pub returns-in-Read : goal.returns-in-Read
 returns-in-Read c = search text-judged

@@ -1,111 +1,95 @@
-use Rattle.std.proofs.Common.{rules, ◌≡◌, ◌+◌, ◌≤◌, length, ℕ, ◌-◌, ◌*◌, ◌<◌, ◌/◌, ◌%◌, Bool, true, false, nat_eq, nat_lt, List, [], ◌∷◌, ◌++◌, slice_index_or, slice_set, bit_and, bit_or, Fits, w8, w32, w64, Bor, MutBor}
-use Rattle.meaning.specs.Judging.{type_suits}
-use Rattle.table.specs.Clauses.Answers.{record_of}
-use Rattle.judge_admission.specs.Clauses.Items.{name_of, image_from}
-use Rattle.judge_attributes.specs.Clauses.Answers.{verdict_in}
-use Rattle.judge_tape.specs.Clauses.Rows.{type_on, BlockGood}
-use Rattle.judge.specs.Clauses.Walk.{Under}
-use Rattle.judge_attributes.specs.Clauses.Attributes.{block_under}
-use Rattle.judge_tape.specs.Clauses.Memo.{MemoGood}
+-- `judge::walk::judge_block`, which calls itself, and `judge_with_memo`, which it is given up for, meet their contracts: the levels left fall, or a memo is there. Assumes nothing.
+use mathlib.Core.Path.{sym, ap, ◌∙◌}
+use mathlib.Core.Bool.{not}
+use Prim.Native.Nat.{ℕ}
+use lib.Dec.{lit<}
+use lib.ListN.{length-replicate}
+use borrow.Author.Rules.{rules}
+use Rattle.judge.proofs.WalkSteps.{memo-effort, object-lies, object-name, visit-small, type-differs, attributes-start, visit-near, attributes-end, attributes-chain, attributes-known, attribute-lies, attribute-at, attribute-less, told-valid, told-fails, levels-some, levels-fall, memo-fall, nested-under, nested-valid, nested-fails}
+use Rattle.judge_tape.proofs.MemoLaws.{memo-zeros}
 use Rattle.judge.proofs.walk.+judge_block_judge_with_memo.Goals as goal
 
--- src/walk.rt:67:9
 pub judge_block-entry_at-e-requires : goal.judge_block-entry_at-e-requires
-judge_block-entry_at-e-requires t c = ?
+judge_block-entry_at-e-requires t c = search object-lies
 
--- src/walk.rt:68:9
-pub judge_block-type_suits-requires-clause-b_in_bounds :
-    goal.judge_block-type_suits-requires-clause-b_in_bounds
-judge_block-type_suits-requires-clause-b_in_bounds t c = ?
+pub judge_block-type_suits-requires-clause-b_in_bounds : goal.judge_block-type_suits-requires-clause-b_in_bounds
+judge_block-type_suits-requires-clause-b_in_bounds t c = search object-name
 
--- src/walk.rt:69:9
-pub judge_block-returns-then-not-type_suits-clause-result_value :
-    goal.judge_block-returns-then-not-type_suits-clause-result_value
-judge_block-returns-then-not-type_suits-clause-result_value t c = ?
+pub judge_block-returns-then-not-type_suits-clause-result_value : goal.judge_block-returns-then-not-type_suits-clause-result_value
+judge_block-returns-then-not-type_suits-clause-result_value t c = search type-differs
 
--- src/walk.rt:71:9
 pub judge_block-enter-visit-requires : goal.judge_block-enter-visit-requires
-judge_block-enter-visit-requires t c = ?
+judge_block-enter-visit-requires t c = search visit-small
 
--- src/walk.rt:73:5
 pub judge_block-loop-object-init : goal.judge_block-loop-object-init
-judge_block-loop-object-init t c = ?
+judge_block-loop-object-init t c = search attributes-start
 
--- src/walk.rt:75:13
+pub judge_block-is_admitted-requires : goal.judge_block-is_admitted-requires
+judge_block-is_admitted-requires t c = search visit-near
+
 pub judge_block-judge_with_memo-requires : goal.judge_block-judge_with_memo-requires
-judge_block-judge_with_memo-requires t c = ?
+judge_block-judge_with_memo-requires t c =
+    (memo-fall _ _ _ _ _ _ _ _ _ _ _ _ _ c.loop-object.invariant _ _ c.may_visit.ensures.value (ap not c.if-not-may_visit.true) _ t c.enter-visit.auto.memo c.decreases, c.loop-object.invariant.under)
 
--- src/walk.rt:75:13
-pub judge_block-returns-then-not-may_visit-clause-memo_good_2 :
-    goal.judge_block-returns-then-not-may_visit-clause-memo_good_2
-judge_block-returns-then-not-may_visit-clause-memo_good_2 t c = ?
+pub judge_block-returns-then-not-may_visit-clause-memo_good_2 : goal.judge_block-returns-then-not-may_visit-clause-memo_good_2
+judge_block-returns-then-not-may_visit-clause-memo_good_2 t c = c.loop-object.invariant.known
 
--- src/walk.rt:77:13
 pub judge_block-entry_at-a-requires : goal.judge_block-entry_at-a-requires
-judge_block-entry_at-a-requires t c = ?
+judge_block-entry_at-a-requires t c =
+    attribute-lies _ _ _ _ _ _ _ _ _ _ _ _ _ c.loop-object.invariant _ c.is_admitted.ensures (ap not c.loop-object-test.true)
 
--- src/walk.rt:78:15
-pub judge_block-judge_attribute-requires-clause-attribute_at :
-    goal.judge_block-judge_attribute-requires-clause-attribute_at
-judge_block-judge_attribute-requires-clause-attribute_at t c = ?
+pub judge_block-judge_attribute-requires-clause-attribute_at : goal.judge_block-judge_attribute-requires-clause-attribute_at
+judge_block-judge_attribute-requires-clause-attribute_at t c =
+    attribute-at _ _ _ _ _ _ _ _ _ _ _ _ _ c.loop-object.invariant _ c.is_admitted.ensures (ap not c.loop-object-test.true) _ c.entry_at-a.ensures
 
--- src/walk.rt:78:15
-pub judge_block-judge_attribute-requires-clause-memo_good :
-    goal.judge_block-judge_attribute-requires-clause-memo_good
-judge_block-judge_attribute-requires-clause-memo_good t c = ?
+pub judge_block-judge_attribute-requires-clause-memo_good : goal.judge_block-judge_attribute-requires-clause-memo_good
+judge_block-judge_attribute-requires-clause-memo_good t c = c.loop-object.invariant.known
 
--- src/walk.rt:73:5
 pub judge_block-loop-object-smaller-in-Valid : goal.judge_block-loop-object-smaller-in-Valid
-judge_block-loop-object-smaller-in-Valid t c = ?
+judge_block-loop-object-smaller-in-Valid t c =
+    attribute-less _ _ _ _ _ _ _ _ _ _ _ _ _ c.loop-object.invariant _ c.is_admitted.ensures (ap not c.loop-object-test.true) _ c.entry_at-a.ensures
 
--- src/walk.rt:73:5
 pub judge_block-loop-object-preserved-in-Valid : goal.judge_block-loop-object-preserved-in-Valid
-judge_block-loop-object-preserved-in-Valid t c = ?
+judge_block-loop-object-preserved-in-Valid t c =
+    told-valid _ _ _ _ _ _ _ _ _ _ _ _ _ c.loop-object.invariant _ c.is_admitted.ensures (ap not c.loop-object-test.true) _ c.entry_at-a.ensures _ c.judge_attribute.ensures.attribute_answer_is _ c.judge_attribute.ensures.memo_good_2 c.judge_attribute.auto.memo _ c.in-Told.is c.in-Valid.is
 
--- src/walk.rt:94:21
-pub judge_block-returns-in-Fails-clause-result_value :
-    goal.judge_block-returns-in-Fails-clause-result_value
-judge_block-returns-in-Fails-clause-result_value t c = ?
+pub judge_block-returns-in-Fails-clause-result_value : goal.judge_block-returns-in-Fails-clause-result_value
+judge_block-returns-in-Fails-clause-result_value t c =
+    told-fails _ _ _ _ _ _ _ _ _ _ _ _ _ c.loop-object.invariant _ c.is_admitted.ensures (ap not c.loop-object-test.true) _ c.entry_at-a.ensures _ c.judge_attribute.ensures.attribute_answer_is _ c.judge_attribute.ensures.memo_good_2 c.judge_attribute.auto.memo _ _ c.in-Told.is c.in-Fails.is
 
--- src/walk.rt:108:17
 pub judge_block-overflow_sub-levels : goal.judge_block-overflow_sub-levels
-judge_block-overflow_sub-levels t c = ?
+judge_block-overflow_sub-levels t c = levels-some _ _ _ _ _ _ _ _ _ _ _ _ _ c.loop-object.invariant
 
--- src/walk.rt:100:24
 pub judge_block-judge_block-requires : goal.judge_block-judge_block-requires
-judge_block-judge_block-requires t c = ?
+judge_block-judge_block-requires t c =
+    (levels-fall _ _ _ _ _ _ _ _ _ _ _ _ _ c.loop-object.invariant _ _ t c.decreases, (nested-under _ _ _ _ _ _ _ _ _ _ _ _ _ c.loop-object.invariant _ c.is_admitted.ensures (ap not c.loop-object-test.true) _ c.entry_at-a.ensures _ c.judge_attribute.ensures.attribute_answer_is _ c.judge_attribute.ensures.memo_good_2 c.judge_attribute.auto.memo _ _ c.in-Nested.is, c.judge_attribute.ensures.memo_good_2))
 
--- src/walk.rt:73:5
 pub judge_block-loop-object-smaller : goal.judge_block-loop-object-smaller
-judge_block-loop-object-smaller t c = ?
+judge_block-loop-object-smaller t c =
+    attribute-less _ _ _ _ _ _ _ _ _ _ _ _ _ c.loop-object.invariant _ c.is_admitted.ensures (ap not c.loop-object-test.true) _ c.entry_at-a.ensures
 
--- src/walk.rt:73:5
 pub judge_block-loop-object-preserved : goal.judge_block-loop-object-preserved
-judge_block-loop-object-preserved t c = ?
+judge_block-loop-object-preserved t c =
+    nested-valid _ _ _ _ _ _ _ _ _ _ _ _ _ c.loop-object.invariant _ c.is_admitted.ensures (ap not c.loop-object-test.true) _ c.entry_at-a.ensures _ c.judge_attribute.ensures.attribute_answer_is _ c.judge_attribute.ensures.memo_good_2 c.judge_attribute.auto.memo _ _ c.in-Nested.is _ c.judge_block.ensures.result_value c.in-Valid-judge_block.is _ c.judge_block.ensures.memo_good_2 c.judge_block.auto.memo
 
--- src/walk.rt:116:21
-pub judge_block-returns-in-Fails-judge_block-clause-result_value :
-    goal.judge_block-returns-in-Fails-judge_block-clause-result_value
-judge_block-returns-in-Fails-judge_block-clause-result_value t c = ?
+pub judge_block-returns-in-Fails-judge_block-clause-result_value : goal.judge_block-returns-in-Fails-judge_block-clause-result_value
+judge_block-returns-in-Fails-judge_block-clause-result_value t c =
+    nested-fails _ _ _ _ _ _ _ _ _ _ _ _ _ c.loop-object.invariant _ c.is_admitted.ensures (ap not c.loop-object-test.true) _ c.entry_at-a.ensures _ c.judge_attribute.ensures.attribute_answer_is _ c.judge_attribute.ensures.memo_good_2 c.judge_attribute.auto.memo _ _ c.in-Nested.is _ c.judge_block.ensures.result_value _ c.in-Fails-judge_block.is
 
--- src/walk.rt:121:5
-pub judge_block-mark_chain-requires-clause-chain_good :
-    goal.judge_block-mark_chain-requires-clause-chain_good
-judge_block-mark_chain-requires-clause-chain_good t c = ?
+pub judge_block-mark_chain-requires-clause-chain_good : goal.judge_block-mark_chain-requires-clause-chain_good
+judge_block-mark_chain-requires-clause-chain_good t c = search attributes-chain
 
--- src/walk.rt:46:1
 pub judge_block-returns-clause-result_value : goal.judge_block-returns-clause-result_value
-judge_block-returns-clause-result_value t c = ?
+judge_block-returns-clause-result_value t c =
+    attributes-end _ _ _ _ _ _ _ _ _ _ _ _ _ c.loop-object.invariant _ c.is_admitted.ensures (ap not c.loop-object-test.false)
 
--- src/walk.rt:46:1
 pub judge_block-returns-clause-memo_good_2 : goal.judge_block-returns-clause-memo_good_2
-judge_block-returns-clause-memo_good_2 t c = ?
+judge_block-returns-clause-memo_good_2 t c =
+    attributes-known _ _ _ _ _ _ _ _ _ _ _ _ _ c.loop-object.invariant _ c.is_admitted.ensures (ap not c.loop-object-test.false) _ c.mark_chain.ensures.chain_marked
 
--- src/walk.rt:150:9
-pub judge_with_memo-slice_bounds-judge_block-end :
-    goal.judge_with_memo-slice_bounds-judge_block-end
-judge_with_memo-slice_bounds-judge_block-end t c = ?
+pub judge_with_memo-slice_bounds-judge_block-end : goal.judge_with_memo-slice_bounds-judge_block-end
+judge_with_memo-slice_bounds-judge_block-end t c = sym (length-replicate {0} {A = ℕ} 1_048_832 0)
 
--- src/walk.rt:144:5
 pub judge_with_memo-judge_block-requires : goal.judge_with_memo-judge_block-requires
-judge_with_memo-judge_block-requires t c = ?
+judge_with_memo-judge_block-requires t c =
+    (memo-effort _ 1_048_832 t (lit< tt) c.decreases, (c.requires, memo-zeros _ _ _ _ _ 1_048_832))

@@ -1,22 +1,18 @@
-use Rattle.std.proofs.Common.{◌≡◌, ◌+◌, ◌≤◌, length, ℕ, ◌-◌, ◌*◌, ◌<◌}
-use Rattle.meaning.specs.Judging.{type_suits}
-use Rattle.table.specs.Clauses.Answers.{record_of}
-use Rattle.judge_admission.specs.Clauses.Items.{name_of, image_from}
-use Rattle.judge_attributes.specs.Clauses.Answers.{verdict_in}
-use Rattle.judge_tape.specs.Clauses.Rows.{type_on, BlockGood}
-use Rattle.judge.specs.Clauses.Walk.{Under}
-use Rattle.judge_attributes.specs.Clauses.Attributes.{block_under}
-use Rattle.judge_tape.specs.Clauses.Memo.{MemoGood}
+-- The measures of the functions that call each other, and the loop over attributes. Assumes nothing.
+use lib.ListN.{length}
+use Rattle.judge.proofs.WalkSteps.{InAttributes, effort, effort_of_memo}
+use Rattle.judge_admission.proofs.ItemSteps.{left}
 use Rattle.judge.proofs.walk.+judge_block_judge_with_memo.Given as goal
 
 abbrev pub decreases-judge_block : goal.decreases-judge_block
-decreases-judge_block l = ?
+decreases-judge_block l = effort l.levels (length l.memo.now)
 
 abbrev pub decreases-judge_with_memo : goal.decreases-judge_with_memo
-decreases-judge_with_memo l = ?
+decreases-judge_with_memo l = effort_of_memo l.levels
 
 abbrev pub invariant-judge_block-loop-object : goal.invariant-judge_block-loop-object
-invariant-judge_block-loop-object l = ?
+invariant-judge_block-loop-object l =
+    InAttributes l.records l.pool l.s l.tape l.rows l.levels l.object.0 l.block l.visit l.initial.memo l.memo l.initial.n l.n
 
 abbrev pub decreases-judge_block-loop-object : goal.decreases-judge_block-loop-object
-decreases-judge_block-loop-object l = ?
+decreases-judge_block-loop-object l = left l.records l.n

@@ -1,0 +1,10 @@
+-- `compile::objects::close_object` meets its contract. Assumes nothing.
+use borrow.Author.Rules.{rules}
+use Rattle.compile.proofs.ObjectSteps.{end-fault, end-taken}
+use Rattle.compile.proofs.objects.close_object.Goals as goal
+
+pub returns-in-Fault : goal.returns-in-Fault
+returns-in-Fault c = search end-fault
+
+pub returns-in-Taken : goal.returns-in-Taken
+returns-in-Taken c = search end-taken

@@ -1,0 +1,7 @@
+-- `compile::output::header_entry` meets its contract. Assumes nothing.
+use borrow.Author.Rules.{rules}
+use Rattle.compile.proofs.TableSteps.{header-entry-is}
+use Rattle.compile.proofs.output.header_entry.Goals as goal
+
+pub returns : goal.returns
+returns c = search header-entry-is
