@@ -1,4 +1,4 @@
-//! Links the archive that `rt staticlib gateway` writes.
+//! Links the archive that `tests/archive` writes.
 
 use std::path::Path;
 
@@ -7,7 +7,7 @@ fn main() {
     let archive = folder.join("libgateway.a");
     println!("cargo:rerun-if-changed={}", archive.display());
     if !archive.is_file() {
-        eprintln!("{} is not there: run `rt staticlib gateway` first", archive.display());
+        eprintln!("{} is not there: run `tests/archive` first", archive.display());
         std::process::exit(1);
     }
     println!("cargo:rustc-link-search=native={}", folder.display());

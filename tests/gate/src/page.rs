@@ -18,11 +18,10 @@ has fewer than two edits without a reason in `LAWS.md`.
 
 A row names a public function. It says what the function is, in the words of the comment before it, and which definitions its promise cites: the contract, in the
 source, is over these definitions, and where it cites none over numbers and lists alone. Behind it stand wrong programs, each with the edit that makes it, by
-its path below `crates/NAME/must-fail/`, without `.edit`; \"of\" names the private function that is edited, where it is one that serves the public one.
+its name in `crates/NAME/must-fail/`, without `.edit`; \"of\" names the private function that is edited, where it is one that serves the public one.
 
-`tests/edits` sees of an edit in a folder that just the function named is not proved, since a fact has no proof; of one in the folder `laws`, which is of a definition
-or a relation, that the law is refused that it names. The edits without a folder change a definition, a contract, a constant or the whole body, and `rt ci` sees that the crate
-is refused (D16).
+`rt ci` sees of each edit that the prover refuses the crate that it makes. Each names the function or the file of the law that it breaks, but for those that change what several
+share; `tests/edits` tells of which the refusal was first told elsewhere (D16).
 
 What holds the definitions themselves, and what the contracts leave open, is in `LAWS.md`.
 ";
@@ -192,7 +191,7 @@ mod tests {
     use crate::sources::tests::sample;
 
     fn carry(name: &str) -> Edit {
-        edit(name, "# `|` is added\nfunction: carry\nfile: src/lib.rt\nold: a + b\nnew: a\n")
+        edit(name, "# `|` is added\n# function: carry\nfile: src/lib.rt\nold: a + b\nnew: a\n")
     }
 
     fn made(edits: &[Edit], text: &str) -> Result<String, String> {
@@ -203,21 +202,21 @@ mod tests {
 
     #[test]
     fn edits_of_private_functions_stand_with_the_public_one() {
-        let page = made(&[carry("lib/one"), carry("lib/two")], WHY).expect("all is there");
-        assert!(page.contains("| `add` | Adds two numbers. | `answerOf`, `sumOf` | `\\|` is added | `lib/one`, of `carry` |\n| | | | `\\|` is added | `lib/two`, of `carry` |\n"));
+        let page = made(&[carry("one"), carry("two")], WHY).expect("all is there");
+        assert!(page.contains("| `add` | Adds two numbers. | `answer_of`, `sum_of` | `\\|` is added | `one`, of `carry` |\n| | | | `\\|` is added | `two`, of `carry` |\n"));
         assert!(page.contains("| Why fewer: none can be had. |  |"));
     }
 
     #[test]
     fn a_function_with_fewer_edits_needs_a_reason() {
-        let why = made(&[carry("lib/one")], WHY).expect_err("add has one edit");
+        let why = made(&[carry("one")], WHY).expect_err("add has one edit");
         assert_eq!(why, "small::add has 1 of 2 edits, and no reason is written");
     }
 
     #[test]
     fn a_reason_that_does_not_hold_is_told() {
         let spare = WHY.replace("`small::Place::start`", "`small::Place::start`, `small::add`, `small::gone`");
-        let why = made(&[carry("lib/one"), carry("lib/two")], &spare).expect_err("two reasons do not hold");
+        let why = made(&[carry("one"), carry("two")], &spare).expect_err("two reasons do not hold");
         assert!(
             why.contains("small::gone, and there is no such")
                 && why.contains("small::add has 2 of 2 edits, and a reason")
@@ -226,9 +225,7 @@ mod tests {
 
     #[test]
     fn an_edit_of_no_function_is_told() {
-        let lost = edit("lib/x", "# x\nfunction: gone\nfile: src/lib.rt\nold: a + b\nnew: a\n");
-        assert!(made(&[carry("lib/one"), carry("lib/two"), lost], WHY)
-            .expect_err("gone is gone")
-            .contains("no such function"));
+        let lost = edit("x", "# x\n# function: gone\nfile: src/lib.rt\nold: a + b\nnew: a\n");
+        assert!(made(&[carry("one"), carry("two"), lost], WHY).expect_err("gone is gone").contains("no such function"));
     }
 }

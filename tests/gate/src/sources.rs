@@ -3,7 +3,7 @@
 use std::collections::{BTreeMap, BTreeSet};
 use std::fs;
 use std::io;
-use std::ops::Range;
+use std::ops::{Range, RangeInclusive};
 use std::path::Path;
 
 /// A function of a crate.
@@ -20,18 +20,20 @@ pub struct Function {
     pub cited: Vec<String>,
     /// Where its body stands in the file, from the opening brace up to the closing one.
     pub body: Range<usize>,
+    /// Its lines in the file, counted from 1: from the first up to the closing brace.
+    pub lines: RangeInclusive<usize>,
+    /// The name of its line `#[cycle(NAME)]`, under which it is proved together with functions that it calls and that call it.
+    pub cycle: Option<String>,
     /// The names in its body.
     names: BTreeSet<String>,
 }
 
-/// The functions of a crate, and which of them call which.
+/// The functions of a crate.
 #[derive(Debug, Default)]
 pub struct Sources {
     pub functions: Vec<Function>,
     /// The text of each file, by its name from the crate's folder on.
     pub files: BTreeMap<String, String>,
-    /// The functions that each reaches by calls, directly or through others.
-    reached: Vec<BTreeSet<usize>>,
 }
 
 impl Sources {
@@ -44,28 +46,17 @@ impl Sources {
 
     /// The functions of some files, each by its name from the crate's folder on.
     pub fn of(files: BTreeMap<String, String>) -> Sources {
-        let functions: Vec<Function> = files.iter().flat_map(|(file, text)| functions_of(file, text)).collect();
-        let reached = reached(&functions);
-        Sources { functions, files, reached }
+        let functions = files.iter().flat_map(|(file, text)| functions_of(file, text)).collect();
+        Sources { functions, files }
     }
 
     pub fn find(&self, path: &str) -> Option<usize> {
         self.functions.iter().position(|function| function.path == path)
     }
 
-    /// How many functions a function reaches by calls.
-    pub fn reach(&self, function: usize) -> usize {
-        self.reached[function].len()
-    }
-
-    /// Whether the first function reaches the second by calls, directly or through others.
-    pub fn reaches(&self, first: usize, second: usize) -> bool {
-        self.reached[first].contains(&second)
-    }
-
-    /// Whether the check of one of the functions may rest on the other: they are one, or one reaches the other.
-    pub fn related(&self, first: usize, second: usize) -> bool {
-        first == second || self.reaches(first, second) || self.reaches(second, first)
+    /// The functions that have a line of a file, from their first line to the last.
+    pub fn at(&self, file: &str, line: usize) -> Option<&Function> {
+        self.functions.iter().find(|function| function.file == file && function.lines.contains(&line))
     }
 
     /// The public functions that a function serves: itself where it is public, else those that reach it through private functions of its file alone.
@@ -139,7 +130,9 @@ fn functions_of(file: &str, text: &str) -> Vec<Function> {
             file: file.to_string(),
             cited: cited_in(&text[lines[index].0..body.start], &definitions),
             names: names_of(&text[body.clone()]),
+            lines: index + 1..=index + text[lines[index].0..body.end].lines().count(),
             body,
+            cycle: cycle_before(&lines[..index]),
         });
     }
     functions
@@ -190,17 +183,23 @@ fn comment_before(lines: &[(usize, &str)]) -> String {
     said.join(" ")
 }
 
+/// The cycle that an attribute before a function names.
+fn cycle_before(lines: &[(usize, &str)]) -> Option<String> {
+    let attributes = lines.iter().rev().map(|(_, line)| line.trim()).take_while(|line| line.starts_with("#["));
+    attributes.filter_map(|line| line.strip_prefix("#[cycle(")?.strip_suffix(")]")).map(str::to_string).next()
+}
+
 /// What a file takes from the specs of the crates.
 struct Definitions<'a> {
-    /// The names of its lines `ghost use Rattle·..{A, B};`.
+    /// The names of its lines `ghost use Rattle.CRATE.specs..{A, B};`.
     names: BTreeSet<&'a str>,
-    /// The names of whole files, of its lines `ghost use Rattle·.. as A;`.
+    /// The names of whole files, of its lines `ghost use Rattle.CRATE.specs.. as A;`.
     files: BTreeSet<&'a str>,
 }
 
 impl<'a> Definitions<'a> {
     fn used(text: &'a str) -> Definitions<'a> {
-        let uses = || text.lines().filter_map(|line| line.strip_prefix("ghost use Rattle·")?.strip_suffix(';'));
+        let uses = || text.lines().filter_map(of_specs);
         let names =
             uses().filter_map(|line| line.strip_suffix('}')?.split_once('{')).flat_map(|(_, names)| names.split(", "));
         let files = uses().filter_map(|line| Some(line.split_once(" as ")?.1));
@@ -216,13 +215,21 @@ impl<'a> Definitions<'a> {
     }
 }
 
+/// What a line takes from the specs of a crate, whether this one's or another's; std's own words are no definitions of the crates.
+fn of_specs(line: &str) -> Option<&str> {
+    let path = line.strip_prefix("ghost use Rattle.")?.strip_suffix(';')?;
+    let (name, rest) = path.split_once('.')?;
+    (name != "std" && rest.starts_with("specs.")).then_some(path)
+}
+
 /// The definitions that the clauses `ensures` of a function's head name, each once, in their order.
 fn cited_in(head: &str, definitions: &Definitions) -> Vec<String> {
     let mut cited: Vec<String> = Vec::new();
     let mut promises = false;
     for line in head.lines().map(str::trim) {
         promises = line.starts_with("ensures") || (promises && !line.starts_with("requires"));
-        let words = line.split(|c: char| c.is_whitespace() || "(){}⌜⌝,".contains(c)).filter(|_| promises);
+        let said = behind_name(line);
+        let words = said.split(|c: char| c.is_whitespace() || "(){},".contains(c)).filter(|_| promises);
         for name in words.filter_map(|word| definitions.named(word)) {
             if !cited.iter().any(|known| known == name) {
                 cited.push(name.to_string());
@@ -230,6 +237,12 @@ fn cited_in(head: &str, definitions: &Definitions) -> Vec<String> {
         }
     }
     cited
+}
+
+/// A clause's line without the name that the clause may have, which names no definition.
+fn behind_name(line: &str) -> &str {
+    let clause = line.strip_prefix("ensures ").or_else(|| line.strip_prefix("requires "));
+    clause.and_then(|rest| Some(rest.split_once('{')?.1)).unwrap_or(line)
 }
 
 fn is_name(c: char) -> bool {
@@ -246,47 +259,21 @@ fn names_of(code: &str) -> BTreeSet<String> {
         .collect()
 }
 
-/// The functions that each function reaches by calls. A name in a body counts as a call of each function of that name: what is taken for a call and
-/// is none only keeps two edits apart.
-fn reached(functions: &[Function]) -> Vec<BTreeSet<usize>> {
-    let mut named: BTreeMap<&str, Vec<usize>> = BTreeMap::new();
-    for (index, function) in functions.iter().enumerate() {
-        named.entry(bare(&function.path)).or_default().push(index);
-    }
-    let called: Vec<Vec<usize>> = functions
-        .iter()
-        .map(|function| {
-            function.names.iter().flat_map(|name| named.get(name.as_str()).into_iter().flatten().copied()).collect()
-        })
-        .collect();
-    (0..functions.len())
-        .map(|start| {
-            let (mut seen, mut open) = (BTreeSet::new(), called[start].clone());
-            while let Some(at) = open.pop() {
-                if seen.insert(at) {
-                    open.extend(&called[at]);
-                }
-            }
-            seen
-        })
-        .collect()
-}
-
 #[cfg(test)]
 pub(crate) mod tests {
     use super::*;
 
-    const LIB: &str = r#"// A crate.
-ghost use mathlib.Core.Path.{_≡_};
-ghost use Rattle·small.specs.Sums.{sumOf, Bound};
-ghost use Rattle·small.specs.Answers as answers;
+    pub(crate) const LIB: &str = r#"// A crate.
+ghost use Rattle.std.specs.Prelude.{◌≡◌, length};
+ghost use Rattle.small.specs.Sums.{sum_of, Bound};
+ghost use Rattle.low.specs.Clauses.Answers as answers;
 
 pub struct Place(pub u32);
 
 impl Place {
     // Where it lies.
     pub fn start(self) -> usize
-        ensures { λ r. ⌜ r ≡ sumOf self ⌝ }
+        ensures { result ≡ sum_of self }
     {
         add(self.0, 1)
     }
@@ -294,11 +281,13 @@ impl Place {
 
 // Adds two
 // numbers.
-#[no_mangle]
+#[unsafe(no_mangle)]
+#[cycle(add_carry)]
 pub extern "C" fn add(a: u32, b: u32) -> u32
-    requires { ⌜ Bound a ⌝ }
-    ensures { λ r. ⌜ answers.answerOf r ≡ sumOf (a ∷ b) ⌝ }
-    ensures { λ r. ⌜ r .place ≡ sumOf a ⌝ }
+    requires { Bound a }
+    ensures Bound { answers.answer_of result
+        ≡ sum_of (a ∷ b) }
+    ensures place { result.place ≡ sum_of a + length b }
 {
     // not a call: twice
     carry(a, b)
@@ -341,17 +330,29 @@ fn carry(a: u32, b: u32) -> u32 {
     #[test]
     fn a_promise_cites_what_its_ensures_name() {
         let sources = sample();
-        assert_eq!(sources.functions[index(&sources, "add")].cited, ["answerOf", "sumOf"]);
+        assert_eq!(sources.functions[index(&sources, "add")].cited, ["answer_of", "sum_of"]);
         assert!(sources.functions[index(&sources, "carry")].cited.is_empty());
     }
 
     #[test]
-    fn calls_are_followed_through_others_and_not_into_comments() {
+    fn a_line_is_of_the_function_that_has_it() {
         let sources = sample();
-        let at = |path| index(&sources, path);
-        assert!(sources.reaches(at("Place::start"), at("carry")) && !sources.reaches(at("carry"), at("add")));
-        assert!(sources.related(at("carry"), at("more::twice::twice")) && sources.related(at("add"), at("add")));
-        assert!(!sources.related(at("Place::start"), at("more::twice::twice")));
+        let at = |line: &str| {
+            let number = LIB.lines().position(|other| other.trim() == line).expect("the sample has the line") + 1;
+            sources.at("src/lib.rt", number).map(|function| function.path.as_str())
+        };
+        assert_eq!(at("requires { Bound a }"), Some("add"));
+        assert_eq!(at("a + b"), Some("carry"));
+        assert_eq!(at("pub fn start(self) -> usize"), Some("Place::start"));
+        assert_eq!(at("// Adds two"), None);
+        assert_eq!(at("pub struct Place(pub u32);"), None);
+    }
+
+    #[test]
+    fn a_cycle_is_read() {
+        let sources = sample();
+        let cycle = |path| sources.functions[index(&sources, path)].cycle.as_deref();
+        assert_eq!((cycle("add"), cycle("carry")), (Some("add_carry"), None));
     }
 
     #[test]

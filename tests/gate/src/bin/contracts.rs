@@ -3,21 +3,25 @@
 //!     tests/contracts write|check
 //!
 //! Each public function must have two edits of the code, its own or of private functions that serve it, or a reason why not in docs/LAWS.md.
-//! No definition outside `specs/contracts` may import one inside it, no relation may use the definition that it is proved one with, and the functions
-//! that the table of jobs in the demands names must promise its definitions.
+//! Each edit must name a function or a law that is there, and what it replaces must stand once in its file. No definition outside `specs/Clauses` may
+//! speak of one inside it, no relation may use the definition that it is proved one with, and the functions that the table of jobs in the demands names
+//! must promise its definitions. How much was looked at is told, so that a look at nothing is seen.
 
 use gate::edits::{self, Edit};
 use gate::jobs;
-use gate::layers;
+use gate::layers::layers;
 use gate::page::{page, reasons};
-use gate::relations;
+use gate::relations::relations;
 use gate::sources::Sources;
+use std::collections::BTreeSet;
 use std::fs;
 use std::path::Path;
 use std::process::ExitCode;
 
 const PAGE: &str = "docs/CONTRACTS.md";
 const REASONS: &str = "docs/LAWS.md";
+/// The crates with the jobs and with the functions for C.
+const FIRST: [&str; 2] = ["gateway", "gateway_c"];
 const DEMANDS: &str = "crates/demands/specs/Demands.antt";
 
 fn main() -> ExitCode {
@@ -39,30 +43,58 @@ fn main() -> ExitCode {
 /// The page as it should stand.
 fn made() -> Result<String, String> {
     let root = Path::new(".");
-    let mut wrong = layers::misplaced(&root.join("crates")).map_err(|error| error.to_string())?;
-    let (files, mixed) = relations::mixed(&root.join("crates")).map_err(|error| error.to_string())?;
-    wrong.extend(mixed);
-    let demands = fs::read_to_string(DEMANDS).map_err(|error| format!("{DEMANDS}: {error}"))?;
-    let gateway = Sources::read(&root.join("crates/gateway")).map_err(|error| error.to_string())?;
-    wrong.extend(jobs::unfounded(&demands, &gateway));
-    if !wrong.is_empty() {
-        return Err(wrong.join("\n"));
-    }
-    println!("{files} files of relations name no definition that they are proved one with; the jobs promise what the demands speak of");
-    let edits: Vec<Edit> = edits::all(root)?;
+    let layers = layers(&root.join("crates")).map_err(|error| error.to_string())?;
+    let relations = relations(&root.join("crates")).map_err(|error| error.to_string())?;
     let listed = fs::read_to_string("crates.txt").map_err(|error| format!("crates.txt: {error}"))?;
     let crates = names_of(&listed)
         .map(|name| Ok((name.to_string(), Sources::read(&root.join("crates").join(name))?)))
         .collect::<std::io::Result<Vec<_>>>()
         .map_err(|error| error.to_string())?;
+    let sources = |name: &str| {
+        let found = crates.iter().find(|(other, _)| other == name).map(|(_, sources)| sources);
+        found.ok_or(format!("crates.txt does not list {name}"))
+    };
+    let demands = fs::read_to_string(DEMANDS).map_err(|error| format!("{DEMANDS}: {error}"))?;
+    let jobs = jobs::jobs(&demands, sources("gateway")?, sources("gateway_c")?);
+    let edits: Vec<Edit> = edits::all(root)?;
+    let mut wrong = layers.misplaced;
+    wrong.extend(relations.wrong);
+    wrong.extend(jobs.wrong);
+    for edit in &edits {
+        let faults = edit.faults(&root.join("crates").join(&edit.crate_name), sources(&edit.crate_name)?);
+        wrong.extend(faults.iter().map(|fault| format!("{}: {fault}", edit.path().display())));
+    }
+    if !wrong.is_empty() {
+        return Err(wrong.join("\n"));
+    }
+    println!(
+        "{} files of definitions speak of none of the {} files of what only carries contracts, of which {} lines elsewhere do",
+        layers.definitions, layers.of_clauses, layers.allowed
+    );
+    println!(
+        "{} files of relations name none of the {} definitions that they are proved one with",
+        relations.files, relations.names
+    );
+    println!("{} jobs of {} functions promise what the demands speak of", jobs.jobs, jobs.functions);
+    let of = |named: fn(&Edit) -> bool| edits.iter().filter(|edit| named(edit)).count();
+    println!(
+        "{} edits, of {} crates: {} name a function, {} a law, {} several functions, {} of definitions nothing",
+        edits.len(),
+        edits.iter().map(|edit| &edit.crate_name).collect::<BTreeSet<_>>().len(),
+        of(|edit| edit.functions.len() == 1),
+        of(|edit| edit.law.is_some()),
+        of(|edit| edit.functions.len() > 1),
+        of(|edit| edit.named() == 0)
+    );
     let text = fs::read_to_string(REASONS).map_err(|error| format!("{REASONS}: {error}"))?;
     page(&crates, &edits, &reasons(&text)?)
 }
 
-/// The crates that crates.txt lists, the one with the jobs and the C interface first.
+/// The crates that crates.txt lists, those with the jobs and the C interface first.
 fn names_of(listed: &str) -> impl Iterator<Item = &str> {
-    let names = listed.lines().filter(|line| !line.starts_with('#')).filter_map(|line| Some(line.split_once(':')?.0));
-    let (mut first, rest): (Vec<&str>, Vec<&str>) = names.partition(|&name| name == "gateway");
+    let lines = listed.lines().filter(|line| !line.starts_with('#'));
+    let names = lines.filter_map(|line| line.split_once(':')?.0.split_whitespace().next());
+    let (mut first, rest): (Vec<&str>, Vec<&str>) = names.partition(|name| FIRST.contains(name));
     first.extend(rest);
     first.into_iter()
 }
