@@ -21,7 +21,7 @@ use Rattle.refusals.specs.declared.Refusal.{Refusal}
 use Rattle.refusals.proofs.Readings.{Holds}
 use Rattle.refusals.proofs.Parses.{ordered-holds}
 use Rattle.meaning.specs.Constraints.{Range}
-use Rattle.cadl_intervals.specs.Intervals.{undecided, Interval}
+use Rattle.cadl_intervals.specs.Intervals.{undecided}
 use Rattle.cadl_intervals.specs.Clauses.Told.{interval}
 use Rattle.cadl_items.specs.Ranges.{Start, meet, overlaps, Ranges, range}
 use Rattle.cadl_items.specs.Clauses.Told.{start, item, with_first, ranges}

@@ -7,10 +7,9 @@ use native.Mathlib.Omega.{arith}
 use lib.Dec.{eqb, ltb}
 use lib.ListN.{length, length-set}
 use borrow.Author.Tests.{eq-eqb, ne_eqb, eqb-true, eqb-false, lt-ltb, le-ltb}
-use Rattle.lexis.specs.Bytes.{is}
-use Rattle.lexis.specs.Runs.{past, part, listed}
+use Rattle.lexis.specs.Runs.{part, listed}
 use Rattle.lexis.specs.Spelling.{comma}
-use Rattle.lexis.specs.Tokens.{number, quoted, token_at, string, inner}
+use Rattle.lexis.specs.Tokens.{number, token_at, string, inner}
 use Rattle.lexis.specs.Clauses.Answers.{TokenIs}
 use Rattle.lexis.specs.declared.Token.{Token}
 use native.Mathlib.Decide.{dec_lt}

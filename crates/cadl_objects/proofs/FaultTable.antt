@@ -2,13 +2,12 @@
 -- This file is written by `example_tables write` of second/. Assumes nothing.
 use mathlib.Core.Path.{◌≡◌, refl}
 use mathlib.Core.List.{List, [], ◌∷◌}
-use lib.ListN.{replicate}
 use Rattle.lexis.specs.Text.{bytes}
 use Rattle.lexis.proofs.Tables.{wrong}
-use Rattle.meaning.specs.Constraints.{no_more, any, nested, leaf, single, ranges, texts, booleans, integers, date_pattern, dates, time_pattern, duration_pattern}
-use Rattle.meaning.proofs.Trees.{range, item, object_with, attribute_with, object_list}
+use Rattle.meaning.specs.Constraints.{no_more, any, leaf, single, ranges, integers, dates, duration_pattern}
+use Rattle.meaning.proofs.Trees.{range, object_with, attribute_with, object_list}
 use Rattle.cadl_objects.proofs.Computes.{constraint_computes}
-use Rattle.cadl_objects.proofs.Examples.{Case, accepts, refuses, accepts_from, refuses_from, right}
+use Rattle.cadl_objects.proofs.Examples.{Case, accepts, refuses, right}
 
 pub cases : List Case
 cases =

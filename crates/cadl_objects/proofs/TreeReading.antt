@@ -14,8 +14,8 @@ use borrow.Author.Tests.{eqb-true, ltb-false, ltb-true}
 use mathlib.Core.Logic.{◌≢◌}
 use Rattle.lexis.specs.Runs.{part}
 use Rattle.lexis.specs.Clauses.Subsequence.{Sub}
-use Rattle.lexis.specs.Spelling.{existence, close_brace, star}
-use Rattle.lexis.specs.Tokens.{token_at, content_token_at, text_end, type_name, name}
+use Rattle.lexis.specs.Spelling.{close_brace, star}
+use Rattle.lexis.specs.Tokens.{token_at, content_token_at, text_end, type_name}
 use Rattle.lexis.proofs.Cases.{by_cond}
 use Rattle.lexis.proofs.Places.{token-found}
 use Rattle.lexis.proofs.ContentSteps.{content-found}

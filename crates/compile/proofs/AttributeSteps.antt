@@ -20,12 +20,12 @@ use Rattle.meaning.specs.Counting.{value_pool}
 use Rattle.cadl_items.specs.Clauses.Spans.{first_of, second_of, earlier, SpansIn}
 use Rattle.cadl_items.specs.Clauses.Items.{Kept}
 use Rattle.cadl_items.proofs.ItemLaws.{item-first, item-second, item-kept, first-kept, second-kept, all-kept}
-use Rattle.cadl_objects.specs.Objects.{Attribute, past_attribute}
+use Rattle.cadl_objects.specs.Objects.{Attribute}
 use Rattle.cadl_objects.specs.Clauses.Told.{value, attribute_from}
 use Rattle.cadl_objects.specs.Clauses.Answers.{NamedAttribute, attribute_head, named_reading, NamedPast, AttributeHeadIs}
 use Rattle.cadl_objects.specs.declared.heads.AttributeHeadRead.{AttributeHeadRead}
 use Rattle.cadl_objects.specs.declared.heads.AttributeHeadRead.TheVariants as attribute_head_read
-use Rattle.cadl_objects.proofs.TreeReading.{ValueRead, AttributeRead, value-holds}
+use Rattle.cadl_objects.proofs.TreeReading.{ValueRead, value-holds}
 use Rattle.table.specs.Records.{record_size, encodes}
 use Rattle.compile_flatten.specs.Flatten.{value_link, value_table}
 use Rattle.compile_emission.specs.Clauses.Answers.{spot, written, link_below, Room, PartFits, NameRoom, NameKept, attribute_row, next_link, closed_attribute, CloseIs, CloseRoom}

@@ -23,7 +23,7 @@ use Rattle.cadl_items.specs.Clauses.Items.{Kept}
 use Rattle.cadl_items.proofs.ItemLaws.{first-kept, second-kept, all-kept}
 use Rattle.cadl_objects.specs.Objects.{Attribute, past_attribute, head_of}
 use Rattle.cadl_objects.proofs.TreeParts.{go_on}
-use Rattle.cadl_objects.specs.Clauses.Told.{value, attributes}
+use Rattle.cadl_objects.specs.Clauses.Told.{attributes}
 use Rattle.cadl_objects.proofs.TreeReading.{AttributeRead, attribute-holds}
 use Rattle.table.specs.Records.{Record, record_size, encodes}
 use Rattle.compile_flatten.specs.Flatten.{attributes_link, value_link, attributes_table, value_table}

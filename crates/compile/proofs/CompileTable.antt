@@ -7,7 +7,7 @@ use Rattle.lexis.specs.Text.{bytes}
 use Rattle.lexis.proofs.Tables.{wrong}
 use Rattle.table.proofs.Hex.{hex, filling}
 use Rattle.compile.proofs.Computes.{compile_computes}
-use Rattle.compile.proofs.Examples.{Case, compiles, refuses, right}
+use Rattle.compile.proofs.Examples.{Case, compiles, right}
 
 pub cases : List Case
 cases =

@@ -23,10 +23,9 @@ use Rattle.refusals.specs.declared.Refusal.{Refusal}
 use Rattle.refusals.specs.declared.steps.Expected.{Expected}
 use Rattle.refusals.specs.declared.steps.Expected.TheVariants.{Fault, Taken}
 use Rattle.refusals.proofs.StepLaws.{expected-fault, expected-token}
-use Rattle.meaning.specs.Constraints.{Object, object, Attributes, no_more, Value, any, nested}
+use Rattle.meaning.specs.Constraints.{Object, object, Attributes, no_more, Value, nested}
 use Rattle.meaning.specs.Counting.{object_pool, attribute_pool, value_pool}
 use Rattle.cadl_items.proofs.ItemLaws.{all-kept}
-use Rattle.cadl_objects.specs.Objects.{past_attribute}
 use Rattle.cadl_objects.specs.Clauses.Told.{value, attributes, object_from}
 use Rattle.cadl_objects.specs.Clauses.Answers.{Counted, object_head, typed_reading, TypedPast, ObjectHeadIs}
 use Rattle.cadl_objects.specs.declared.heads.ObjectHeadRead.{ObjectHeadRead}

@@ -28,7 +28,7 @@ use Rattle.refusals.specs.declared.Cause.TheVariants.{TooDeep, TooLong, Repeated
 use Rattle.refusals.specs.declared.Refusal.{Refusal}
 use Rattle.refusals.proofs.Readings.{Holds}
 use Rattle.refusals.proofs.Parses.{first_then, then-refused, then-got, Yields, parsed-yields, stopped-yields, noting-yields, any-yields, rank, FaultFrom, InOrder, then-order, order-holds, order-map}
-use Rattle.dadl.specs.Placed.{Span, span, Block, block, Entries, no_more, entry, PlacedContent, string, word, inside}
+use Rattle.dadl.specs.Placed.{Span, span, block, Entries, no_more, entry, PlacedContent, string, word, inside}
 use Rattle.dadl.specs.Data.{Down, expect_data, name_from, content_from, members, block_from, span_of}
 use Rattle.dadl.specs.Clauses.Tape.{row_size, block_rows, entry_rows, content_rows, next_row, type_start, type_end, tape_row_of, block_tape, entries_tape, content_tape}
 use Rattle.lexis.specs.Clauses.Answers.{TokenIs}

@@ -21,7 +21,7 @@ use Rattle.refusals.specs.Expecting.{syntax_cause}
 use Rattle.refusals.specs.declared.Cause.TheVariants.{EndsEarly, TooLong, BadWord}
 use Rattle.refusals.specs.declared.Refusal.{Refusal}
 use Rattle.refusals.proofs.Readings.{Holds}
-use Rattle.dadl.specs.Placed.{span, Block, PlacedContent, string, word, inside}
+use Rattle.dadl.specs.Placed.{span, PlacedContent, string, word}
 use Rattle.dadl.specs.Data.{expect_data, leaf_from, typed, content_from, Down}
 use Rattle.lexis.specs.Clauses.Answers.{TokenIs}
 use Rattle.refusals.specs.Clauses.Answers.{ExpectIs}

@@ -19,7 +19,6 @@ use Rattle.table.specs.Rows.{shape_of}
 use Rattle.table.specs.Check.{table_fault}
 use Rattle.table.specs.Trees.{object_at}
 use Rattle.table.specs.TableRules.{IsTable, KindAt, ObjectOrItem}
-use Rattle.table.specs.TableRules
 use Rattle.table.specs.Says.{SaysIntegers, SaysDates, SaysStrings, SaysLeaf, SaysObject, SaysAttributes, SaysValue, Says}
 use Rattle.table.proofs.SaysLaws.{link-below, says_there}
 use Rattle.judge.specs.Judge.{judge_answer}
@@ -27,7 +26,6 @@ use Rattle.rules_grammar.specs.FirstFailure.{LeafFails, FirstFailure, Attributes
 use Rattle.rules_grammar.specs.FirstFailure
 use Rattle.rules_grammar.proofs.FailurePlaces.{failure-opening}
 use Rattle.demands.specs.Told.{IsItem, ReasonRow, FailureTold}
-use Rattle.demands.specs.Told
 use Rattle.demands.proofs.Rules.{fails-told}
 
 -- an item is one that c may name

@@ -6,7 +6,6 @@ use Prim.Native.Nat.{ℕ, ◌<◌}
 use lib.ListN.{length}
 use borrow.Author.Tests.{lt-ltb}
 use Rattle.refusals.specs.Limits.{text_limit, level_limit}
-use Rattle.refusals.specs.Reading
 use Rattle.refusals.specs.Reading.{Reading, got}
 use Rattle.refusals.specs.Outcomes
 use Rattle.refusals.specs.Outcomes.{Outcome, gave}

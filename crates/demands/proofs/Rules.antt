@@ -10,11 +10,10 @@ use lib.ListN.{length, take, drop}
 use native.Mathlib.Omega.{arith}
 use borrow.Author.Tests.{lt-ltb, le-ltb}
 use Rattle.refusals.specs.Limits.{text_limit, level_limit}
-use Rattle.refusals.specs.Reading
 use Rattle.refusals.specs.Reading.{Reading, got}
 use Rattle.refusals.specs.Outcomes
 use Rattle.refusals.specs.Outcomes.{Outcome, gave, writes}
-use Rattle.refusals.proofs.Outcomes.{not-gave, same-refusal, same-given, refusal_is, too_short, Read, refused-or-read}
+use Rattle.refusals.proofs.Outcomes.{same-refusal, refusal_is, too_short, Read, refused-or-read}
 use Rattle.refusals.specs.declared.Refusal.{Refusal}
 use Rattle.refusals.specs.Refusals.{refusal, number_of}
 use Rattle.refusals.specs.declared.Cause.TheVariants.{TextTooLong, NotAnObject}
@@ -24,7 +23,7 @@ use Rattle.meaning.specs.Verdicts.{Verdict}
 use Rattle.meaning.specs.Verdicts
 use Rattle.meaning.specs.Judging.{judge}
 use Rattle.dadl.specs.Placed.{Block, spelled_block}
-use Rattle.dadl.specs.Data.{block_of, datum_of}
+use Rattle.dadl.specs.Data.{block_of}
 use Rattle.cadl_objects.specs.Texts.{constraint_text, constraint_of}
 use Rattle.cadl_objects.proofs.TreeReading.{not-ten}
 use Rattle.compile.specs.Compile.{compile_outcome, compile_answer, table_of, table_for}

@@ -6,21 +6,19 @@ use mathlib.Core.Option.{Option, none, some}
 use mathlib.Core.List.{List}
 use Prim.Native.Nat.{ℕ}
 use lib.ListN.{length}
-use Rattle.refusals.specs.Limits.{level_limit, text_limit}
+use Rattle.refusals.specs.Limits.{level_limit}
 use Rattle.refusals.specs.Numbers
 use Rattle.refusals.specs.Outcomes
 use Rattle.refusals.specs.Outcomes.{Outcome}
 use Rattle.refusals.specs.Refusals.{refusal, number_of}
 use Rattle.refusals.specs.declared.Refusal.{Refusal}
-use Rattle.refusals.specs.declared.Cause.TheVariants.{TextTooLong, OutputTooShort, NotAnObject}
+use Rattle.refusals.specs.declared.Cause.TheVariants.{NotAnObject}
 use Rattle.refusals.proofs.NumberLaws.{row_of, text-row}
 use Rattle.refusals.proofs.Outcomes.{refusal-keeps, same-refusal}
 use Rattle.meaning.specs.Constraints.{Object}
-use Rattle.meaning.specs.Verdicts.{Verdict}
 use Rattle.table.specs.Records.{image_of}
 use Rattle.table.specs.Check.{table_fault}
 use Rattle.table.specs.Trees.{object_at}
-use Rattle.table.specs.Names.{name_answer}
 use Rattle.table.specs.TableRules.{NoTable, unframed, broken}
 use Rattle.table.specs.Says.{NameRefuses, no_table, no_name}
 use Rattle.table.proofs.TableRuleLaws
@@ -38,7 +36,7 @@ use Rattle.rules_faults.proofs.Outcomes.{Lies}
 use Rattle.rules_faults.proofs.Scanned
 use Rattle.rules_faults.proofs.ConstraintScanned
 use Rattle.demands.specs.Demands.{Demand1, TooShort}
-use Rattle.demands.specs.Told.{Told, InText, over_long, inside, DataTold, AtEnd, at_end, InTable, whole, one_record, AsAsked, as_asked, OfBoth, joined, joined_length, MergeTold, of_first, of_second, of_neither}
+use Rattle.demands.specs.Told.{Told, InText, over_long, inside, DataTold, AtEnd, at_end, InTable, whole, one_record, AsAsked, as_asked, joined, joined_length, MergeTold, of_first, of_second, of_neither}
 use Rattle.demands.proofs.Rules.{refused-only, unread-least}
 use Rattle.demands.proofs.Failures.{failure-told}
 

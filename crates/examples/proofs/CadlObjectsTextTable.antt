@@ -5,10 +5,10 @@ use mathlib.Core.List.{List, [], ◌∷◌}
 use lib.ListN.{replicate}
 use Rattle.lexis.specs.Text.{bytes}
 use Rattle.lexis.proofs.Tables.{wrong}
-use Rattle.meaning.specs.Constraints.{no_more, any, nested, leaf, single, ranges, texts, booleans, integers, date_pattern, dates, time_pattern, duration_pattern}
+use Rattle.meaning.specs.Constraints.{no_more, any, nested, leaf, single, ranges, texts, booleans, integers, date_pattern, duration_pattern}
 use Rattle.meaning.proofs.Trees.{range, item, object_with, attribute_with, object_list}
 use Rattle.cadl_objects.proofs.Computes.{constraint_computes}
-use Rattle.cadl_objects.proofs.Examples.{Case, accepts, refuses, accepts_from, refuses_from, right}
+use Rattle.cadl_objects.proofs.Examples.{Case, accepts, refuses, right}
 
 pub cases : List Case
 cases =

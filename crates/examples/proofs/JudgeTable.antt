@@ -7,7 +7,7 @@ use Rattle.lexis.proofs.Tables.{wrong}
 use Rattle.meaning.specs.Verdicts.{valid, fails}
 use Rattle.table.proofs.Hex.{hex}
 use Rattle.judge.proofs.Computes.{judge_computes}
-use Rattle.judge.proofs.Examples.{Case, judges, refuses, right}
+use Rattle.judge.proofs.Examples.{Case, judges, right}
 
 pub cases : List Case
 cases =

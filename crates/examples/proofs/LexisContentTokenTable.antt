@@ -4,7 +4,7 @@ use mathlib.Core.Path.{◌≡◌, refl}
 use mathlib.Core.List.{List, [], ◌∷◌}
 use Prim.Native.Nat.{◌+◌}
 use Rattle.lexis.specs.Text.{bytes}
-use Rattle.lexis.specs.Spelling.{matches, existence, true_word, false_word, open_brace, close_brace, comma, star, bar, dots, less, greater, at_most, at_least, plus_minus, date_pattern, time_pattern}
+use Rattle.lexis.specs.Spelling.{matches, true_word, false_word, open_brace, close_brace, star, bar, date_pattern, time_pattern}
 use Rattle.lexis.specs.Tokens.{token, text_end, unreadable, type_name, name, code, integer, date, string}
 use Rattle.lexis.specs.Durations.{duration_pattern}
 use Rattle.lexis.proofs.Tables.{wrong}

@@ -1,13 +1,11 @@
 -- Short tables from a generator with a fixed seed, sound and broken. The expectations are the second implementation's.
 -- This file is written by `example_tables write` of second/. Assumes nothing.
 use mathlib.Core.Path.{◌≡◌, refl}
-use mathlib.Core.Bool.{true, false}
-use mathlib.Core.List.{List, [], ◌∷◌, ◌++◌}
-use lib.ListN.{replicate}
+use mathlib.Core.List.{List, [], ◌∷◌}
 use Rattle.lexis.proofs.Tables.{wrong}
 use Rattle.table.proofs.Computes.{table_computes}
 use Rattle.table.proofs.Hex.{hex}
-use Rattle.table.proofs.Examples.{CheckCase, passes, refuses, rewrites, check_right}
+use Rattle.table.proofs.Examples.{CheckCase, passes, refuses, check_right}
 
 pub cases : List CheckCase
 cases =

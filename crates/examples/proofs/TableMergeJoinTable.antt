@@ -6,7 +6,7 @@ use mathlib.Core.List.{List, [], ◌∷◌}
 use Rattle.lexis.proofs.Tables.{wrong}
 use Rattle.table.proofs.Hex.{hex, filling}
 use Rattle.table_merge.proofs.Computes.{merge_computes}
-use Rattle.table_merge.proofs.Examples.{Case, merges, refuses, right}
+use Rattle.table_merge.proofs.Examples.{Case, merges, right}
 
 pub cases : List Case
 cases =

@@ -94,13 +94,7 @@ pub fn dk_merge(
 }
 
 // Judges a data text by a table at a root; 0 is valid; `*record` is 0 unless a verdict names one.
-pub fn dk_judge(
-    table: &[u8],
-    root: u32,
-    data: &[u8],
-    record: &mut u32,
-    place: &mut u64,
-) -> u32
+pub fn dk_judge(table: &[u8], root: u32, data: &[u8], record: &mut u32, place: &mut u64) -> u32
     ensures { judge_said (placed result place.new) «record».new
         ≡ judge_told (judge_answer table.now root «data».now) }
 {

@@ -17,7 +17,7 @@ use Rattle.refusals.specs.Limits.{text_limit, string_limit}
 use Rattle.refusals.specs.Reading.{got}
 use Rattle.refusals.specs.Parsing.{Parse, parsed, and_then}
 use Rattle.refusals.proofs.Parses.{Yields, then-yields, any-yields, yielded}
-use Rattle.dadl.specs.Placed.{Span, Block, Entries, PlacedContent, string, inside, spelled_block, spelled_entries, spelled_content}
+use Rattle.dadl.specs.Placed.{Span, Block, Entries, PlacedContent, inside, spelled_block, spelled_entries, spelled_content}
 use Rattle.dadl.specs.Data.{expect_data, type_from, leaf_from, Down, typed, content_from, name_from, members, block_from, outermost, datum_alone, data_text, block_of}
 use Rattle.judge_tape.specs.Clauses.Rows.{DatumWithin, MembersWithin, ContentWithin}
 

@@ -19,7 +19,7 @@ use Rattle.meaning.specs.Data.{datum}
 use Rattle.meaning.specs.Data
 use Rattle.meaning.specs.Judging.{judge_value}
 use Rattle.meaning.specs.Verdicts
-use Rattle.dadl.specs.Placed.{Span, Block, block, spelled_span, spelled_block, spelled_entries}
+use Rattle.dadl.specs.Placed.{Span, block, spelled_span, spelled_block, spelled_entries}
 use Rattle.dadl.specs.Data.{block_of}
 use Rattle.dadl.specs.Clauses.Tape.{entry_rows, entries_tape, type_start, type_end}
 use Rattle.dadl.specs.Clauses.Rows.{TapeGood, linked}
@@ -55,7 +55,6 @@ use Rattle.judge_attributes.specs.Clauses.Attributes.{block_under}
 use Rattle.judge.specs.Clauses.Walk.{Under}
 use Rattle.judge_tape.specs.declared.members.Block as members
 use Rattle.judge_attributes.specs.declared.Verdict.{Verdict}
-use Rattle.judge.specs.declared.JudgeResult.TheVariants.{Refused}
 use Rattle.judge_admission.proofs.TableLaws.{object-tree}
 use Rattle.judge.proofs.Depth.{text-within}
 

@@ -7,7 +7,7 @@ use native.Mathlib.Omega.{arith}
 use lib.Dec.{eqb, lit<}
 use lib.ListN.{length, take, drop, replicate, length-replicate}
 use borrow.Author.Tests.{not-true, not-false, eqb-true, eqb-false, ne_eqb}
-use Rattle.lexis.specs.Runs.{part, same}
+use Rattle.lexis.specs.Runs.{same}
 use Rattle.lexis.proofs.Cases.{and_left, and_right}
 use Rattle.values.proofs.Common.{by_order}
 use Rattle.meaning.specs.Data.{Datum, datum, Members}

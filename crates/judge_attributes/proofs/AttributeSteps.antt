@@ -11,7 +11,7 @@ use borrow.Author.Tests.{ne_eqb}
 use Rattle.lexis.specs.Bytes.{among}
 use Rattle.lexis.specs.Runs.{part, same}
 use Rattle.lexis.proofs.Cases.{by_cond, either}
-use Rattle.meaning.specs.Constraints.{Leaf, leaf}
+use Rattle.meaning.specs.Constraints.{Leaf}
 use Rattle.meaning.specs.Data.{Members, member, Content, string, word}
 use Rattle.meaning.specs.Data
 use Rattle.meaning.specs.Verdicts.{Verdict, valid, fails}

@@ -14,7 +14,6 @@ use Rattle.lexis.specs.Durations.{pattern_slots, duration_pattern}
 use Rattle.lexis.specs.DurationRules.{SpellsPattern}
 use Rattle.lexis.specs.Tokens.{token, type_name, spelling, token_at, duration_flag, content_token_at}
 use Rattle.lexis.specs.LongestMatch.{NextIs, PatternHere, pattern_here, NextContentIs}
-use Rattle.lexis.specs.LongestMatch
 use Rattle.lexis.specs.declared.Token.{Token}
 use Rattle.lexis.proofs.Cases.{and_left, and_right}
 use Rattle.lexis.proofs.TestLaws.{true-or-false, false-true}

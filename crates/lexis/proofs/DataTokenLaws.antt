@@ -14,7 +14,7 @@ use Rattle.lexis.specs.Runs.{past, byte_at, part, all, starts_with, same, Stands
 use Rattle.lexis.specs.Blanks.{token_start}
 use Rattle.lexis.specs.Spelling
 use Rattle.lexis.specs.Spelling.{literal_of, word_sort}
-use Rattle.lexis.specs.Tokens.{token, no_token, spelled, quoted, unreadable, type_name, name}
+use Rattle.lexis.specs.Tokens.{token, no_token, spelled, unreadable, type_name, name}
 use Rattle.lexis.specs.DataTokens.{data_marks, name_sort, run_sort, type_sort, data_token_on, data_token_at, type_token_at}
 use Rattle.lexis.specs.declared.Token.{Token}
 use Rattle.lexis.proofs.Cases.{by_cond, and_left}

@@ -10,7 +10,6 @@ use lib.ListN.{length, drop}
 use lib.Seq.{drop-append_seam}
 use borrow.Author.Tests.{eqb-true, eqb-false, ne_eqb, leb-true, le-leb}
 use Rattle.lexis.specs.Text.{byte, bytes}
-use Rattle.lexis.specs.Bytes
 use Rattle.lexis.specs.Runs.{byte_at}
 use Rattle.lexis.specs.SpellingRules.{Small}
 use Rattle.lexis.specs.SpellingRules

@@ -2,7 +2,7 @@
 -- 'Data text': "same blanks and comments (a comment starts only where a token may)"; "the longest run of letters, digits, `_ + - . :`. A run that opens with a small letter is a NAME or
 -- unreadable (2), never a word; after `(` a run is a TYPE or unreadable"; 'Numbers of refusal', 2: "text end is a token"; document 02, 1: "Where a leaf may stand, a token such as Pd, a TYPE too, is
 -- the pattern exactly when `}` .. follows". Proved one with token_start, token_at, content_token_at, data_token_at, type_token_at. Assumes nothing.
-use Rattle.std.specs.Prelude.{◌≡◌, List, [], ◌∷◌, ℕ, ◌+◌, ◌≤◌, ◌<◌, length}
+use Rattle.std.specs.Prelude.{List, [], ◌∷◌, ℕ, ◌+◌, ◌≤◌, ◌<◌, length}
 use Rattle.lexis.specs.Text.{byte, bytes}
 use Rattle.lexis.specs.Runs.{part, StandsAt}
 use Rattle.lexis.specs.Spelling.{close_brace}

@@ -2,7 +2,7 @@
 -- NAME: small letter, then the same; the keywords aren't NAMEs. Keywords: `matches` (also the bytes E2 88 88, ∈) and `existence`. code: `at`, digits, then any number of dot and digits; one
 -- token with its `[ ]`, no blank inside. integer: optional `-` and digits. date: four digits, `-`, two, `-`, two. string: `"`, bytes 20 to 7E hex except `"` and `\`, `"`"; the patterns;
 -- 'Data text': "a word, the longest run of letters, digits, `_ + - . :`". Proved one with token_on, token_at, data_token_at, type_token_at. Assumes nothing.
-use Rattle.std.specs.Prelude.{◌≡◌, ◌≢◌, List, [], ◌∷◌, ◌++◌, ℕ, ◌+◌, ◌≤◌}
+use Rattle.std.specs.Prelude.{◌≢◌, List, [], ◌∷◌, ◌++◌, ℕ, ◌+◌, ◌≤◌}
 use Rattle.lexis.specs.Text.{byte, bytes}
 use Rattle.lexis.specs.Spelling
 use Rattle.lexis.specs.Tokens

@@ -1,6 +1,5 @@
 -- A text is the list of its bytes. Where a rule or an example spells one out, it is quoted: each character stands for the byte of its number.
 -- Assumes nothing.
-use mathlib.Core.List
 use Rattle.std.specs.Prelude.{List, ℕ}
 use Prim.Native.Char.{Char, code}
 use Prim.Native.String.{String, [], ◌∷◌}

@@ -1,17 +1,15 @@
 -- Words and strings by leaves of every kind. The expectations are the second implementation's.
 -- This file is written by `example_tables write` of second/. Assumes nothing.
 use mathlib.Core.Path.{◌≡◌, refl}
-use mathlib.Core.Option.{none, some}
 use mathlib.Core.List.{List, [], ◌∷◌}
 use Rattle.lexis.specs.Text.{bytes}
 use Rattle.lexis.proofs.Tables.{wrong}
-use Rattle.meaning.specs.Constraints.{no_more, any, nested, leaf, single, ranges, texts, booleans, integers, date_pattern, dates, time_pattern, duration_pattern}
-use Rattle.meaning.specs.Data.{datum, member, string, word, block}
-use Rattle.meaning.specs.Data
+use Rattle.meaning.specs.Constraints.{single, ranges, texts, booleans, integers, date_pattern, dates, time_pattern, duration_pattern}
+use Rattle.meaning.specs.Data.{string, word}
 use Rattle.meaning.specs.Verdicts.{valid, fails}
 use Rattle.meaning.proofs.Computes.{meaning_computes}
-use Rattle.meaning.proofs.Trees.{range, item, object_with, attribute_with}
-use Rattle.meaning.proofs.Examples.{Case, judges, under, right}
+use Rattle.meaning.proofs.Trees.{range, item}
+use Rattle.meaning.proofs.Examples.{Case, under, right}
 
 pub cases : List Case
 cases =

@@ -11,7 +11,7 @@ use Rattle.meaning.specs.Data
 use Rattle.meaning.specs.Verdicts.{valid, fails}
 use Rattle.meaning.proofs.Computes.{meaning_computes}
 use Rattle.meaning.proofs.Trees.{range, item, object_with, attribute_with}
-use Rattle.meaning.proofs.Examples.{Case, judges, under, right}
+use Rattle.meaning.proofs.Examples.{Case, judges, right}
 
 pub cases : List Case
 cases =

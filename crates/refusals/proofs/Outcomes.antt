@@ -14,7 +14,6 @@ use Rattle.lexis.proofs.Cases.{by_cond}
 use Rattle.refusals.specs.declared.Cause.{Cause}
 use Rattle.refusals.specs.declared.Cause.TheVariants.{OutputTooShort}
 use Rattle.refusals.specs.declared.Refusal.{Refusal}
-use Rattle.refusals.specs.Reading
 use Rattle.refusals.specs.Reading.{Reading, got}
 use Rattle.refusals.specs.Outcomes.{Outcome, refused, gave, or_fault, unless, after_reading, Written, fitting, write}
 

@@ -1,7 +1,6 @@
 -- Bytes spelled in hexadecimal digits, as document 01 spells a table's, and the bytes that an output holds before a job. Assumes nothing.
 use mathlib.Core.Bool.{cond}
 use mathlib.Core.Option.{Option, none, some}
-use mathlib.Core.List
 use mathlib.Core.List.{List}
 use Prim.Native.Nat.{ℕ, zero, suc, ◌+◌, ◌*◌, ◌-◌, ◌%◌}
 use Prim.Native.Char.{Char, code}

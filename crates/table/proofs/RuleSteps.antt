@@ -13,7 +13,7 @@ use Rattle.lexis.specs.Bytes.{within, among}
 use Rattle.values.specs.Integers.{twos_complement}
 use Rattle.values.specs.Calendar.{real}
 use Rattle.values.proofs.Common.{below}
-use Rattle.table.specs.Records.{count, image_of}
+use Rattle.table.specs.Records.{image_of}
 use Rattle.meaning.specs.Constraints.{integers, dates}
 use Rattle.table.specs.Rows.{table_header, shapes, shape_of, object_kind, is_item, link, items}
 use Rattle.table.specs.Check.{kind_at, pair_right, field_right, flag_right}

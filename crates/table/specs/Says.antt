@@ -1,6 +1,6 @@
 -- What a record of a table says, as rules: its links are followed by number. Document 01, 'Table', the table of kinds; "Asked for a name (an object's type, an attribute's name, a string item)
 -- by record number, the build hands out the part of the pool itself"; document 02, 1: "New kind 9". Proved one with object_at, tree_at, name_answer. Assumes nothing.
-use Rattle.std.specs.Prelude.{◌≡◌, Bool, List, [], ◌∷◌, ℕ, ◌+◌, ◌*◌, ◌<◌, length}
+use Rattle.std.specs.Prelude.{Bool, List, [], ◌∷◌, ℕ, ◌+◌, ◌*◌, ◌<◌, length}
 use Rattle.lexis.specs.Runs.{StandsAt}
 use Rattle.refusals.specs.Refusals.{refusal}
 use Rattle.refusals.specs.declared.Refusal.{Refusal}

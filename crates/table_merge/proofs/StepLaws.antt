@@ -2,12 +2,12 @@
 use mathlib.Core.Path.{◌≡◌, refl, sym, ap, ◌∙◌, subst}
 use mathlib.Core.Bool.{Bool, true, false, cond}
 use mathlib.Core.List.{List}
-use Prim.Native.Nat.{ℕ, ◌+◌, ◌-◌}
+use Prim.Native.Nat.{ℕ, ◌+◌}
 use lib.ListN.{length, take, drop}
 use lib.Seq.{take-append_seam}
 use Rattle.refusals.specs.Outcomes.{Outcome, refused, gave}
 use Rattle.table_merge.specs.Merge.{MergeRequest, request, MergeReport, MergeRefusal, merge_answer}
-use Rattle.table_merge.specs.Lists.{MergeStep, Carried, carried, behind, request_of, after_step}
+use Rattle.table_merge.specs.Lists.{MergeStep, Carried, carried, behind, after_step}
 use Rattle.table_merge.specs.MergeRules.{Sizes, IsMerged, Merges, StepIs, first_refused, second_refused, as_first, as_second}
 use Rattle.table_merge.proofs.MergeRuleLaws.{merge-done, merge-refused, merge-written}
 

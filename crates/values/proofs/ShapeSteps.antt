@@ -7,7 +7,6 @@ use native.Mathlib.Omega.{arith}
 use lib.Dec.{eqb, eqb-zero-suc, eqb-suc-zero, eqb-suc-suc}
 use lib.ListN.{length, get_or}
 use borrow.Author.Tests.{eq-eqb, ne_eqb, not-true, eqb-true}
-use Rattle.lexis.specs.Bytes.{is}
 use Rattle.lexis.specs.Runs.{same, shaped, any_digit, all}
 use Rattle.lexis.proofs.Cases.{and_left, and_right}
 use Rattle.lexis.proofs.Places.{drop-in}

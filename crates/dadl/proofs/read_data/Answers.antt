@@ -1,5 +1,4 @@
 -- `dadl::read_data` meets its contract. Assumes nothing.
-use borrow.Author.Rules.{rules}
 use Rattle.dadl.proofs.DataSteps.{data-long, data-shut, data-room, data-refused, data-behind, data-read}
 use Rattle.dadl.proofs.read_data.Goals as goal
 

@@ -1,5 +1,4 @@
 -- `dadl::text_end` meets its contract. Assumes nothing.
-use borrow.Author.Rules.{rules}
 use Rattle.dadl.proofs.DataSteps.{end-missing, end-there}
 use Rattle.dadl.proofs.text_end.Goals as goal
 

@@ -1,5 +1,4 @@
 -- `judge::answer` meets its contract. Assumes nothing.
-use borrow.Author.Rules.{rules}
 use Rattle.judge.proofs.JudgeSteps.{answer-by}
 use Rattle.judge.proofs.answer.Goals as goal
 

@@ -1,5 +1,4 @@
 -- `judge::judge` meets its contract. Assumes nothing.
-use borrow.Author.Rules.{rules}
 use Rattle.table.proofs.NameSteps.{passed_none}
 use Rattle.judge.proofs.JudgeSteps.{table-refused, table-judged}
 use Rattle.judge.proofs.judge.Goals as goal

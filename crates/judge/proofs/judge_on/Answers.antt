@@ -1,5 +1,4 @@
 -- `judge::judge_on` meets its contract. Assumes nothing.
-use borrow.Author.Rules.{rules}
 use Rattle.judge.proofs.JudgeSteps.{text-refused, text-under, text-judged}
 use Rattle.judge_tape.proofs.MemoLaws.{memo-zeros}
 use Rattle.judge.proofs.judge_on.Goals as goal

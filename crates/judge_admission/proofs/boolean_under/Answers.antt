@@ -1,6 +1,5 @@
 -- `judge_admission::boolean_under` meets its contract. Assumes nothing.
 use Rattle.judge_admission.proofs.ItemSteps.{value-steps}
-use borrow.Author.Rules.{rules}
 use Rattle.judge_admission.proofs.boolean_under.Goals as goal
 
 pub returns-then-flag-eq3 : goal.returns-then-flag-eq3

@@ -1,6 +1,5 @@
 -- `judge_admission::date_under` meets its contract. Assumes nothing.
 use Rattle.judge_admission.proofs.ItemSteps.{value-steps}
-use borrow.Author.Rules.{rules}
 use Rattle.judge_admission.proofs.date_under.Goals as goal
 
 pub returns-then-parts-ne3 : goal.returns-then-parts-ne3

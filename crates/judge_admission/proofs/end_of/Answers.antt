@@ -1,6 +1,5 @@
 -- `judge_admission::end_of` meets its contract. Assumes nothing.
 use Rattle.judge_admission.proofs.ItemSteps.{end-signed, end-plain}
-use borrow.Author.Rules.{rules}
 use Rattle.judge_admission.proofs.end_of.Goals as goal
 
 pub returns-then-signed : goal.returns-then-signed

@@ -1,6 +1,5 @@
 -- `judge_admission::in_range` meets its contract. Assumes nothing.
 use Rattle.judge_admission.proofs.ItemSteps.{range-below, range-above}
-use borrow.Author.Rules.{rules}
 use Rattle.judge_admission.proofs.in_range.Goals as goal
 
 pub returns-then-value-end_of : goal.returns-then-value-end_of

@@ -1,7 +1,5 @@
 -- `judge_admission::in_some` meets its contract. Assumes nothing.
-use borrow.Author.Rules.{rules}
-use Rattle.judge_admission.proofs.ItemSteps.{InRanges, left, items-start, items-lies, ranges-end, ranges-found, ranges-next, ranges-less}
-use Rattle.judge_admission.specs.Clauses.Items.{range_sort}
+use Rattle.judge_admission.proofs.ItemSteps.{items-start, items-lies, ranges-end, ranges-found, ranges-next, ranges-less}
 use Rattle.judge_admission.proofs.in_some.Goals as goal
 
 pub loop-n-init : goal.loop-n-init

@@ -1,6 +1,5 @@
 -- The loops of `judge_admission::in_some`. Assumes nothing.
-use borrow.Author.Rules.{rules}
-use Rattle.judge_admission.proofs.ItemSteps.{InRanges, left, items-start, items-lies, ranges-end, ranges-found, ranges-next, ranges-less}
+use Rattle.judge_admission.proofs.ItemSteps.{InRanges, left}
 use Rattle.judge_admission.specs.Clauses.Items.{range_sort}
 use Rattle.judge_admission.proofs.in_some.Given as goal
 

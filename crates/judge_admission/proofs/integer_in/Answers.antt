@@ -1,5 +1,4 @@
 -- `judge_admission::integer_in` meets its contract. Assumes nothing.
-use borrow.Author.Rules.{rules}
 use Rattle.judge_admission.proofs.ItemSteps.{alone-steps}
 use Rattle.judge_admission.proofs.integer_in.Goals as goal
 

@@ -1,6 +1,5 @@
 -- `judge_admission::is_some` meets its contract. Assumes nothing.
-use borrow.Author.Rules.{rules}
-use Rattle.judge_admission.proofs.ItemSteps.{InTexts, left, items-start, items-lies, texts-end, texts-found, texts-next, texts-less, text-inside}
+use Rattle.judge_admission.proofs.ItemSteps.{items-start, items-lies, texts-end, texts-found, texts-next, texts-less, text-inside}
 use Rattle.judge_admission.proofs.is_some.Goals as goal
 
 pub loop-n-init : goal.loop-n-init

@@ -1,6 +1,5 @@
 -- The loops of `judge_admission::is_some`. Assumes nothing.
-use borrow.Author.Rules.{rules}
-use Rattle.judge_admission.proofs.ItemSteps.{InTexts, left, items-start, items-lies, texts-end, texts-found, texts-next, texts-less, text-inside}
+use Rattle.judge_admission.proofs.ItemSteps.{InTexts, left}
 use Rattle.judge_admission.proofs.is_some.Given as goal
 
 abbrev pub invariant-loop-n : goal.invariant-loop-n

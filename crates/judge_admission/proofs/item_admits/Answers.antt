@@ -1,5 +1,4 @@
 -- `judge_admission::item_admits` meets its contract. Assumes nothing.
-use borrow.Author.Rules.{rules}
 use native.Mathlib.Omega.{arith}
 use Rattle.judge_admission.proofs.ItemSteps.{alone-named, alone-steps}
 use Rattle.judge_admission.proofs.item_admits.Goals as goal

@@ -1,5 +1,4 @@
 -- `judge_admission::kind_of` meets its contract. Assumes nothing.
-use borrow.Author.Rules.{rules}
 use Rattle.judge_admission.proofs.ItemSteps.{kind-read-at}
 use Rattle.judge_admission.proofs.kind_of.Goals as goal
 

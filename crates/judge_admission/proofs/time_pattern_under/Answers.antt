@@ -1,6 +1,5 @@
 -- `judge_admission::time_pattern_under` meets its contract. Assumes nothing.
 use Rattle.judge_admission.proofs.ItemSteps.{value-steps}
-use borrow.Author.Rules.{rules}
 use Rattle.judge_admission.proofs.time_pattern_under.Goals as goal
 
 pub returns-in-Value : goal.returns-in-Value

@@ -1,5 +1,4 @@
 -- `judge_attributes::block_at` meets its contract. Assumes nothing.
-use borrow.Author.Rules.{rules}
 use Rattle.judge_attributes.proofs.AttributeSteps.{block_read}
 use Rattle.judge_attributes.proofs.block_at.Goals as goal
 

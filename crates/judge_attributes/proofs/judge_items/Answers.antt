@@ -1,5 +1,4 @@
 -- `judge_attributes::judge_items` meets its contract. Assumes nothing.
-use borrow.Author.Rules.{rules}
 use Rattle.judge_attributes.proofs.AttributeSteps.{value-told}
 use Rattle.judge_tape.proofs.MemberSteps.{value-order, value-ends}
 use Rattle.judge_attributes.proofs.judge_items.Goals as goal

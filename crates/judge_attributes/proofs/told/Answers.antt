@@ -1,5 +1,4 @@
 -- `judge_attributes::told` meets its contract. Assumes nothing.
-use borrow.Author.Rules.{rules}
 use Rattle.judge_attributes.proofs.AttributeSteps.{told-by}
 use Rattle.judge_attributes.proofs.told.Goals as goal
 

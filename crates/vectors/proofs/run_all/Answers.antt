@@ -1,7 +1,5 @@
 -- `vectors::run_all` ends: the turns are counted down. Assumes nothing.
-use mathlib.Core.Path.{◌≡◌, refl}
-use lib.ListN
-use borrow.Author.Rules.{rules}
+use mathlib.Core.Path.{refl}
 use Rattle.vectors.proofs.run_all.Goals as goal
 
 pub loop-turns-init : goal.loop-turns-init

@@ -1,7 +1,6 @@
 -- The loops of `vectors::run_all`. Assumes nothing.
-use mathlib.Core.Path.{◌≡◌, refl}
+use mathlib.Core.Path.{◌≡◌}
 use lib.ListN
-use borrow.Author.Rules.{rules}
 use Rattle.vectors.proofs.run_all.Given as goal
 
 abbrev pub invariant-loop-turns : goal.invariant-loop-turns

@@ -1,5 +1,4 @@
 -- `cadl_intervals::ends::above` meets its contract. Assumes nothing.
-use borrow.Author.Rules.{rules}
 use Rattle.cadl_intervals.proofs.IntervalSteps.{above-up, above_open}
 use Rattle.cadl_intervals.proofs.ends.above.Goals as goal
 

@@ -1,5 +1,4 @@
 -- `cadl_intervals::ends::after` meets its contract. Assumes nothing.
-use borrow.Author.Rules.{rules}
 use Rattle.cadl_intervals.proofs.IntervalSteps.{after-number, after-day}
 use Rattle.cadl_intervals.proofs.ends.after.Goals as goal
 

@@ -1,5 +1,4 @@
 -- `cadl_intervals::ends::before` meets its contract. Assumes nothing.
-use borrow.Author.Rules.{rules}
 use Rattle.cadl_intervals.proofs.IntervalSteps.{before-day, before-number}
 use Rattle.cadl_intervals.proofs.ends.before.Goals as goal
 

@@ -1,5 +1,4 @@
 -- `cadl_intervals::ends::behind` meets its contract. Assumes nothing.
-use borrow.Author.Rules.{rules}
 use Rattle.cadl_intervals.proofs.IntervalSteps.{behind-date, behind-spread, behind-up, behind-only}
 use Rattle.cadl_intervals.proofs.ends.behind.Goals as goal
 

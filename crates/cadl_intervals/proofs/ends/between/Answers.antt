@@ -1,5 +1,4 @@
 -- `cadl_intervals::ends::between` meets its contract. Assumes nothing.
-use borrow.Author.Rules.{rules}
 use Rattle.cadl_intervals.proofs.IntervalSteps.{between-marked, between-plain}
 use Rattle.cadl_intervals.proofs.ends.between.Goals as goal
 

@@ -1,5 +1,4 @@
 -- `cadl_intervals::ends::close` meets its contract. Assumes nothing.
-use borrow.Author.Rules.{rules}
 use Rattle.cadl_intervals.proofs.IntervalSteps.{close-faulty, close-empty, close-closed, close-some}
 use Rattle.cadl_intervals.proofs.ends.close.Goals as goal
 

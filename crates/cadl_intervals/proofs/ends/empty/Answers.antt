@@ -1,5 +1,4 @@
 -- `cadl_intervals::ends::empty` meets its contract. Assumes nothing.
-use borrow.Author.Rules.{rules}
 use Rattle.cadl_intervals.proofs.IntervalSteps.{empty-below, empty-shut}
 use Rattle.cadl_intervals.proofs.ends.empty.Goals as goal
 

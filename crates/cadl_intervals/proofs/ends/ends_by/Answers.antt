@@ -1,5 +1,4 @@
 -- `cadl_intervals::ends::ends_by` meets its contract. Assumes nothing.
-use borrow.Author.Rules.{rules}
 use Rattle.cadl_intervals.proofs.IntervalSteps.{by-greater, by_less, by_most, by-least, by-none}
 use Rattle.cadl_intervals.proofs.ends.ends_by.Goals as goal
 

@@ -1,5 +1,4 @@
 -- `cadl_intervals::ends::high_end` meets its contract. Assumes nothing.
-use borrow.Author.Rules.{rules}
 use Rattle.cadl_intervals.proofs.IntervalSteps.{high-faulty, high-there}
 use Rattle.cadl_intervals.proofs.ends.high_end.Goals as goal
 

@@ -1,5 +1,4 @@
 -- `cadl_intervals::ends::interval` meets its contract. Assumes nothing.
-use borrow.Author.Rules.{rules}
 use Rattle.cadl_intervals.proofs.IntervalSteps.{interval-faulty, interval-closed, interval-closable}
 use Rattle.cadl_intervals.proofs.ends.interval.Goals as goal
 

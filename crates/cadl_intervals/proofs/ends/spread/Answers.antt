@@ -1,5 +1,4 @@
 -- `cadl_intervals::ends::spread` meets its contract. Assumes nothing.
-use borrow.Author.Rules.{rules}
 use Rattle.cadl_intervals.proofs.IntervalSteps.{spread-faulty, spread-outside, spread-ends, spread-inside}
 use Rattle.cadl_intervals.proofs.ends.spread.Goals as goal
 

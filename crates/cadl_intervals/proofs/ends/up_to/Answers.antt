@@ -1,5 +1,4 @@
 -- `cadl_intervals::ends::up_to` meets its contract. Assumes nothing.
-use borrow.Author.Rules.{rules}
 use Rattle.cadl_intervals.proofs.IntervalSteps.{up-below, up-value}
 use Rattle.cadl_intervals.proofs.ends.up_to.Goals as goal
 

@@ -1,5 +1,4 @@
 -- `cadl_intervals::ends::with_literal` meets its contract. Assumes nothing.
-use borrow.Author.Rules.{rules}
 use Rattle.cadl_intervals.proofs.IntervalSteps.{with-faulty, with-ends, with-after, with-inside}
 use Rattle.cadl_intervals.proofs.ends.with_literal.Goals as goal
 

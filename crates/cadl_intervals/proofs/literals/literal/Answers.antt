@@ -1,5 +1,4 @@
 -- `cadl_intervals::literals::literal` meets its contract. Assumes nothing.
-use borrow.Author.Rules.{rules}
 use Rattle.cadl_intervals.proofs.IntervalSteps.{literal-missing, literal-there, literal-none, literal-order, literal-inside}
 use Rattle.cadl_intervals.proofs.literals.literal.Goals as goal
 

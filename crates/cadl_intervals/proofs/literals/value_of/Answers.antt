@@ -1,5 +1,4 @@
 -- `cadl_intervals::literals::value_of` meets its contract. Assumes nothing.
-use borrow.Author.Rules.{rules}
 use Rattle.cadl_intervals.proofs.IntervalSteps.{value-integer, value-day, value_none}
 use Rattle.cadl_intervals.proofs.literals.value_of.Goals as goal
 

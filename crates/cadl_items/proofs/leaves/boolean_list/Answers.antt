@@ -1,5 +1,4 @@
 -- `cadl_items::leaves::boolean_list` meets its contract. Assumes nothing.
-use borrow.Author.Rules.{rules}
 use Rattle.cadl_items.proofs.LeafSteps.{list-second, list-one}
 use Rattle.cadl_items.proofs.leaves.boolean_list.Goals as goal
 

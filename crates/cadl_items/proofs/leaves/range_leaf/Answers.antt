@@ -1,5 +1,4 @@
 -- `cadl_items::leaves::range_leaf` meets its contract. Assumes nothing.
-use borrow.Author.Rules.{rules}
 use Rattle.cadl_items.proofs.LeafSteps.{range-faulty, range-dates, range-integers}
 use Rattle.cadl_items.proofs.leaves.range_leaf.Goals as goal
 

@@ -1,5 +1,4 @@
 -- `cadl_items::leaves::read_leaf` meets its contract. Assumes nothing.
-use borrow.Author.Rules.{rules}
 use Rattle.cadl_items.proofs.LeafSteps.{leaf-integers, leaf-intervals, leaf-strings, leaf-single}
 use Rattle.cadl_items.proofs.leaves.read_leaf.Goals as goal
 

@@ -1,5 +1,4 @@
 -- `cadl_items::leaves::second_boolean` meets its contract. Assumes nothing.
-use borrow.Author.Rules.{rules}
 use Rattle.cadl_items.proofs.LeafSteps.{second-other, second-same, second-both}
 use Rattle.cadl_items.proofs.leaves.second_boolean.Goals as goal
 

@@ -1,6 +1,5 @@
 -- `cadl_items::leaves::single_leaf` meets its contract. Assumes nothing.
 use native.Mathlib.Omega.{arith}
-use borrow.Author.Rules.{rules}
 use Rattle.cadl_items.proofs.LeafSteps.{single-other, single-boolean, single-date, single-time, single-duration}
 use Rattle.cadl_items.proofs.leaves.single_leaf.Goals as goal
 use Rattle.cadl_items.proofs.leaves.single_leaf.Goals.{in_default-via-then-sort-lt31, in_default-via-else-sort-lt31+else-sort-lt36+then-sort-lt41, in_default-via-else-sort-lt31+else-sort-lt36+else-sort-lt41+else-sort-lt45+then-sort-lt101, in_default-via-else-sort-lt31+else-sort-lt36+else-sort-lt41+else-sort-lt45+else-sort-lt101+else-sort-lt228}

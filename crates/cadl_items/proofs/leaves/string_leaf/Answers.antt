@@ -1,5 +1,4 @@
 -- `cadl_items::leaves::string_leaf` meets its contract. Assumes nothing.
-use borrow.Author.Rules.{rules}
 use Rattle.cadl_items.proofs.LeafSteps.{strings-faulty, strings-there}
 use Rattle.cadl_items.proofs.leaves.string_leaf.Goals as goal
 

@@ -1,5 +1,4 @@
 -- `cadl_items::ranges::item` meets its contract. Assumes nothing.
-use borrow.Author.Rules.{rules}
 use Rattle.cadl_items.proofs.RangeSteps.{item-value, item-interval}
 use Rattle.cadl_items.proofs.ranges.item.Goals as goal
 

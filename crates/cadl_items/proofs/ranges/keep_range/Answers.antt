@@ -1,5 +1,4 @@
 -- `cadl_items::ranges::keep_range` meets its contract. Assumes nothing.
-use borrow.Author.Rules.{rules}
 use Rattle.cadl_items.proofs.RangeSteps.{keep-overlap, keep-more, keep-last}
 use Rattle.cadl_items.proofs.ranges.keep_range.Goals as goal
 

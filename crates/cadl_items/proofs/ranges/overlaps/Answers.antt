@@ -1,6 +1,5 @@
 -- `cadl_items::ranges::overlaps` meets its contract. Assumes nothing.
-use borrow.Author.Rules.{rules}
-use Rattle.cadl_items.proofs.RangeSteps.{InPairs, pairs_start, pairs-meet, pairs-on, pairs_end}
+use Rattle.cadl_items.proofs.RangeSteps.{pairs_start, pairs-meet, pairs-on, pairs_end}
 use Rattle.cadl_items.proofs.ranges.overlaps.Goals as goal
 
 pub loop-n-init : goal.loop-n-init

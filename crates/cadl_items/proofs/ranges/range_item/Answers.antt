@@ -1,5 +1,4 @@
 -- `cadl_items::ranges::range_item` meets its contract. Assumes nothing.
-use borrow.Author.Rules.{rules}
 use Rattle.cadl_items.proofs.RangeSteps.{step-faulty, step-bad, step_kept, step-at, step_room}
 use Rattle.cadl_items.proofs.ranges.range_item.Goals as goal
 

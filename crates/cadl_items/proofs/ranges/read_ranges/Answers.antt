@@ -1,8 +1,5 @@
 -- `cadl_items::ranges::read_ranges` meets its contract. Assumes nothing.
-use borrow.Author.Rules.{rules}
-use Prim.Native.Nat.{◌-◌}
-use Rattle.refusals.specs.Limits.{item_limit}
-use Rattle.cadl_items.proofs.RangeSteps.{InRanges, ranges-faulty, ranges-last, ranges-start, ranges-room, ranges-less, ranges_more}
+use Rattle.cadl_items.proofs.RangeSteps.{ranges-faulty, ranges-last, ranges-start, ranges-room, ranges-less, ranges_more}
 use Rattle.cadl_items.proofs.ranges.read_ranges.Goals as goal
 
 pub loop-fault-init : goal.loop-fault-init

@@ -1,8 +1,7 @@
 -- The loops of `cadl_items::ranges::read_ranges`. Assumes nothing.
-use borrow.Author.Rules.{rules}
 use Prim.Native.Nat.{◌-◌}
 use Rattle.refusals.specs.Limits.{item_limit}
-use Rattle.cadl_items.proofs.RangeSteps.{InRanges, ranges-faulty, ranges-last, ranges-start, ranges-room, ranges-less, ranges_more}
+use Rattle.cadl_items.proofs.RangeSteps.{InRanges}
 use Rattle.cadl_items.proofs.ranges.read_ranges.Given as goal
 
 abbrev pub invariant-loop-fault : goal.invariant-loop-fault

@@ -1,5 +1,4 @@
 -- `cadl_items::ranges::roomy_start` meets its contract. Assumes nothing.
-use borrow.Author.Rules.{rules}
 use Rattle.cadl_items.proofs.RangeSteps.{room-faulty, room-items, room-records, room-there}
 use Rattle.cadl_items.proofs.ranges.roomy_start.Goals as goal
 

@@ -1,5 +1,4 @@
 -- `cadl_items::ranges::start` meets its contract. Assumes nothing.
-use borrow.Author.Rules.{rules}
 use Rattle.cadl_items.proofs.RangeSteps.{start-bar, start-other, start-faulty, start-value}
 use Rattle.cadl_items.proofs.ranges.start.Goals as goal
 

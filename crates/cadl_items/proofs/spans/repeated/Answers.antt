@@ -1,9 +1,6 @@
 -- `cadl_items::spans::repeated` meets its contract. Assumes nothing.
-use Prim.Native.Nat.{◌-◌}
-use lib.ListN.{length}
-use borrow.Author.Rules.{rules}
-use Rattle.lexis.proofs.Comparing.{InBytes, bytes-in, bytes-there, bytes_on}
-use Rattle.cadl_items.proofs.SpanSteps.{InNames, names-start, names-end, span-lies, names-less, bytes-begin, bytes-found, longer-next, bytes_next}
+use Rattle.lexis.proofs.Comparing.{bytes-in, bytes-there, bytes_on}
+use Rattle.cadl_items.proofs.SpanSteps.{names-start, names-end, span-lies, names-less, bytes-begin, bytes-found, longer-next, bytes_next}
 use Rattle.cadl_items.proofs.spans.repeated.Goals as goal
 
 pub names-init : goal.names-init

@@ -1,9 +1,8 @@
 -- The loops of `cadl_items::spans::repeated`. Assumes nothing.
 use Prim.Native.Nat.{◌-◌}
 use lib.ListN.{length}
-use borrow.Author.Rules.{rules}
-use Rattle.lexis.proofs.Comparing.{InBytes, bytes-in, bytes-there, bytes_on}
-use Rattle.cadl_items.proofs.SpanSteps.{InNames, names-start, names-end, span-lies, names-less, bytes-begin, bytes-found, longer-next, bytes_next}
+use Rattle.lexis.proofs.Comparing.{InBytes}
+use Rattle.cadl_items.proofs.SpanSteps.{InNames}
 use Rattle.cadl_items.proofs.spans.repeated.Given as goal
 
 abbrev pub invariant-loop-i : goal.invariant-loop-i

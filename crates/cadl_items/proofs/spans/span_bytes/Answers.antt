@@ -1,5 +1,4 @@
 -- `cadl_items::spans::span_bytes` meets its contract. Assumes nothing.
-use borrow.Author.Rules.{rules}
 use Rattle.cadl_items.proofs.SpanSteps.{span-order, span-ends, span-is}
 use Rattle.cadl_items.proofs.spans.span_bytes.Goals as goal
 

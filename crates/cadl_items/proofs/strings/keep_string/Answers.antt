@@ -1,5 +1,4 @@
 -- `cadl_items::strings::keep_string` meets its contract. Assumes nothing.
-use borrow.Author.Rules.{rules}
 use Rattle.cadl_items.proofs.StringSteps.{keep-equal, keep-comma, keep-end}
 use Rattle.cadl_items.proofs.strings.keep_string.Goals as goal
 

@@ -1,8 +1,5 @@
 -- `cadl_items::strings::read_strings` meets its contract. Assumes nothing.
-use borrow.Author.Rules.{rules}
-use Prim.Native.Nat.{◌-◌}
-use Rattle.refusals.specs.Limits.{item_limit}
-use Rattle.cadl_items.proofs.StringSteps.{InStrings, strings-start, strings-room, strings-faulty, strings-last, strings-less, strings-more}
+use Rattle.cadl_items.proofs.StringSteps.{strings-start, strings-room, strings-faulty, strings-last, strings-less, strings-more}
 use Rattle.cadl_items.proofs.strings.read_strings.Goals as goal
 
 pub loop-fault-init : goal.loop-fault-init

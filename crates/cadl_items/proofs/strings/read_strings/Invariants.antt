@@ -1,8 +1,7 @@
 -- The loops of `cadl_items::strings::read_strings`. Assumes nothing.
-use borrow.Author.Rules.{rules}
 use Prim.Native.Nat.{◌-◌}
 use Rattle.refusals.specs.Limits.{item_limit}
-use Rattle.cadl_items.proofs.StringSteps.{InStrings, strings-start, strings-room, strings-faulty, strings-last, strings-less, strings-more}
+use Rattle.cadl_items.proofs.StringSteps.{InStrings}
 use Rattle.cadl_items.proofs.strings.read_strings.Given as goal
 
 abbrev pub invariant-loop-fault : goal.invariant-loop-fault

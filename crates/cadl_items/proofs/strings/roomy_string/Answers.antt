@@ -1,5 +1,4 @@
 -- `cadl_items::strings::roomy_string` meets its contract. Assumes nothing.
-use borrow.Author.Rules.{rules}
 use Rattle.cadl_items.proofs.StringSteps.{text-faulty, text-items, text-records, text-there}
 use Rattle.cadl_items.proofs.strings.roomy_string.Goals as goal
 

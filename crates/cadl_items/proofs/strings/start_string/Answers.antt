@@ -1,5 +1,4 @@
 -- `cadl_items::strings::start_string` meets its contract. Assumes nothing.
-use borrow.Author.Rules.{rules}
 use Rattle.cadl_items.proofs.StringSteps.{string-missing, string-long, string-there, string-order}
 use Rattle.cadl_items.proofs.strings.start_string.Goals as goal
 

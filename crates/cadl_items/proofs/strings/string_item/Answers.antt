@@ -1,5 +1,4 @@
 -- `cadl_items::strings::string_item` meets its contract. Assumes nothing.
-use borrow.Author.Rules.{rules}
 use Rattle.cadl_items.proofs.StringSteps.{step-faulty, step_kept, step_room}
 use Rattle.cadl_items.proofs.strings.string_item.Goals as goal
 

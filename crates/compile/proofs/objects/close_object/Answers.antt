@@ -1,5 +1,4 @@
 -- `compile::objects::close_object` meets its contract. Assumes nothing.
-use borrow.Author.Rules.{rules}
 use Rattle.compile.proofs.ObjectSteps.{end-fault, end-taken}
 use Rattle.compile.proofs.objects.close_object.Goals as goal
 

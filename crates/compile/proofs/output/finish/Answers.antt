@@ -1,5 +1,4 @@
 -- `compile::output::finish` meets its contract. Assumes nothing.
-use borrow.Author.Rules.{rules}
 use Rattle.compile.proofs.TableSteps.{finish-fault, finish-taken}
 use Rattle.compile.proofs.output.finish.Goals as goal
 

@@ -1,5 +1,4 @@
 -- `compile::output::header_entry` meets its contract. Assumes nothing.
-use borrow.Author.Rules.{rules}
 use Rattle.compile.proofs.TableSteps.{header-entry-is}
 use Rattle.compile.proofs.output.header_entry.Goals as goal
 

@@ -1,5 +1,4 @@
 -- `compile::output::write_table` meets its contract. Assumes nothing.
-use borrow.Author.Rules.{rules}
 use Rattle.compile.proofs.TableSteps.{output-short, output-written}
 use Rattle.compile.proofs.output.write_table.Goals as goal
 

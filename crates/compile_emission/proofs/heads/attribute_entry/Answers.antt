@@ -1,5 +1,4 @@
 -- `compile_emission::heads::attribute_entry` meets its contract. Assumes nothing.
-use borrow.Author.Rules.{rules}
 use Rattle.compile_emission.proofs.HeadWriting.{attribute-entry-is}
 use Rattle.compile_emission.proofs.heads.attribute_entry.Goals as goal
 

@@ -1,5 +1,4 @@
 -- `compile_emission::heads::close_attribute` meets its contract. Assumes nothing.
-use borrow.Author.Rules.{rules}
 use Rattle.compile_emission.proofs.HeadWriting.{close-fault, close-inside, close-last, close_more}
 use Rattle.compile_emission.proofs.heads.close_attribute.Goals as goal
 

@@ -1,5 +1,4 @@
 -- `compile_emission::heads::first_link` meets its contract. Assumes nothing.
-use borrow.Author.Rules.{rules}
 use Rattle.compile_emission.proofs.HeadWriting.{first-there}
 use Rattle.compile_emission.proofs.heads.first_link.Goals as goal
 

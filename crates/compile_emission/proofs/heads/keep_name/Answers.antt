@@ -1,5 +1,4 @@
 -- `compile_emission::heads::keep_name` meets its contract. Assumes nothing.
-use borrow.Author.Rules.{rules}
 use Rattle.compile_emission.proofs.HeadWriting.{name-kept}
 use Rattle.compile_emission.proofs.heads.keep_name.Goals as goal
 

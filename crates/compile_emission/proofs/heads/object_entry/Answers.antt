@@ -1,5 +1,4 @@
 -- `compile_emission::heads::object_entry` meets its contract. Assumes nothing.
-use borrow.Author.Rules.{rules}
 use Rattle.compile_emission.proofs.HeadWriting.{object-entry-is}
 use Rattle.compile_emission.proofs.heads.object_entry.Goals as goal
 

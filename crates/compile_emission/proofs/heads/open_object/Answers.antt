@@ -1,5 +1,4 @@
 -- `compile_emission::heads::open_object` meets its contract. Assumes nothing.
-use borrow.Author.Rules.{rules}
 use Rattle.compile_emission.proofs.HeadWriting.{code_fits, object-put}
 use Rattle.compile_emission.proofs.heads.open_object.Goals as goal
 

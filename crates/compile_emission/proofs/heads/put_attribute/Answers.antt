@@ -1,5 +1,4 @@
 -- `compile_emission::heads::put_attribute` meets its contract. Assumes nothing.
-use borrow.Author.Rules.{rules}
 use Rattle.compile_emission.proofs.HeadWriting.{attribute-put}
 use Rattle.compile_emission.proofs.heads.put_attribute.Goals as goal
 

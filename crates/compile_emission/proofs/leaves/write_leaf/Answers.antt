@@ -1,5 +1,4 @@
 -- `compile_emission::leaves::write_leaf` meets its contract. Assumes nothing.
-use borrow.Author.Rules.{rules}
 use Rattle.compile_emission.proofs.LeafWriting.{single-room, ranges-room, strings-room, leaf-faulty, leaf-single, leaf-ranges, leaf-strings}
 use Rattle.compile_emission.proofs.leaves.write_leaf.Goals as goal
 

@@ -1,5 +1,4 @@
 -- `compile_emission::lists::put_range` meets its contract. Assumes nothing.
-use borrow.Author.Rules.{rules}
 use Rattle.compile_emission.proofs.WritingSteps.{range-put}
 use Rattle.compile_emission.proofs.lists.put_range.Goals as goal
 

@@ -1,8 +1,5 @@
 -- `compile_emission::lists::put_ranges` meets its contract. The records of the items before item `i` are written: with those that are left the records are what they are to be. Assumes nothing.
-use Prim.Native.Nat.{◌-◌}
-use borrow.Author.Rules.{rules}
-use Rattle.compile_emission.proofs.WritingSteps.{InRanges, ranges-start, ranges-go-on, ranges-end}
-use Rattle.cadl_items.specs.Clauses.Answers.{range_sort_of}
+use Rattle.compile_emission.proofs.WritingSteps.{ranges-start, ranges-go-on, ranges-end}
 use Rattle.compile_emission.proofs.lists.put_ranges.Goals as goal
 
 pub loop-i-init : goal.loop-i-init

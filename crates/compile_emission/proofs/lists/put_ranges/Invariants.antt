@@ -1,7 +1,6 @@
 -- The loops of `compile_emission::lists::put_ranges`. Assumes nothing.
 use Prim.Native.Nat.{◌-◌}
-use borrow.Author.Rules.{rules}
-use Rattle.compile_emission.proofs.WritingSteps.{InRanges, ranges-start, ranges-go-on, ranges-end}
+use Rattle.compile_emission.proofs.WritingSteps.{InRanges}
 use Rattle.cadl_items.specs.Clauses.Answers.{range_sort_of}
 use Rattle.compile_emission.proofs.lists.put_ranges.Given as goal
 

@@ -1,5 +1,4 @@
 -- `compile_emission::lists::put_single` meets its contract. Assumes nothing.
-use borrow.Author.Rules.{rules}
 use Rattle.compile_emission.proofs.WritingSteps.{single-put}
 use Rattle.compile_emission.proofs.lists.put_single.Goals as goal
 

@@ -1,5 +1,4 @@
 -- `compile_emission::lists::put_string` meets its contract. Assumes nothing.
-use borrow.Author.Rules.{rules}
 use Rattle.compile_emission.proofs.WritingSteps.{string-put}
 use Rattle.compile_emission.proofs.lists.put_string.Goals as goal
 

@@ -1,7 +1,5 @@
 -- `compile_emission::lists::put_strings` meets its contract. The records and the bytes of the strings before item `i` are written: with those that are left both are what they are to be. Assumes nothing.
-use Prim.Native.Nat.{◌-◌}
-use borrow.Author.Rules.{rules}
-use Rattle.compile_emission.proofs.WritingSteps.{InTexts, texts-start, texts-fit, texts-go-on, texts-end}
+use Rattle.compile_emission.proofs.WritingSteps.{texts-start, texts-fit, texts-go-on, texts-end}
 use Rattle.compile_emission.proofs.lists.put_strings.Goals as goal
 
 pub loop-i-init : goal.loop-i-init

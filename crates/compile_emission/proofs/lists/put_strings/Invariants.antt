@@ -1,7 +1,6 @@
 -- The loops of `compile_emission::lists::put_strings`. Assumes nothing.
 use Prim.Native.Nat.{◌-◌}
-use borrow.Author.Rules.{rules}
-use Rattle.compile_emission.proofs.WritingSteps.{InTexts, texts-start, texts-fit, texts-go-on, texts-end}
+use Rattle.compile_emission.proofs.WritingSteps.{InTexts}
 use Rattle.compile_emission.proofs.lists.put_strings.Given as goal
 
 abbrev pub invariant-loop-i : goal.invariant-loop-i

@@ -1,5 +1,4 @@
 -- `compile_emission::lists::string_entry` meets its contract. Assumes nothing.
-use borrow.Author.Rules.{rules}
 use Rattle.compile_emission.proofs.WritingSteps.{string-row}
 use Rattle.compile_emission.proofs.lists.string_entry.Goals as goal
 

@@ -1,5 +1,4 @@
 -- `compile_emission::pool::place_of` meets its contract. Assumes nothing.
-use borrow.Author.Rules.{rules}
 use Rattle.compile_emission.proofs.WritingSteps.{pick-there, pick-none}
 use Rattle.compile_emission.proofs.pool.place_of.Goals as goal
 

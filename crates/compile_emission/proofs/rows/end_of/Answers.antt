@@ -1,5 +1,4 @@
 -- `compile_emission::rows::end_of` meets its contract. Assumes nothing.
-use borrow.Author.Rules.{rules}
 use Rattle.compile_emission.proofs.WritingSteps.{end-integer, end-date}
 use Rattle.compile_emission.proofs.rows.end_of.Goals as goal
 

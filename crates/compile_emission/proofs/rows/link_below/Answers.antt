@@ -1,5 +1,4 @@
 -- `compile_emission::rows::link_below` meets its contract. Assumes nothing.
-use borrow.Author.Rules.{rules}
 use Rattle.compile_emission.proofs.WritingSteps.{pick-there, pick-none}
 use Rattle.compile_emission.proofs.rows.link_below.Goals as goal
 

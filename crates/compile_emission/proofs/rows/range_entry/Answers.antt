@@ -1,5 +1,4 @@
 -- `compile_emission::rows::range_entry` meets its contract. Assumes nothing.
-use borrow.Author.Rules.{rules}
 use Rattle.compile_emission.proofs.WritingSteps.{range-row}
 use Rattle.compile_emission.proofs.rows.range_entry.Goals as goal
 

@@ -1,5 +1,4 @@
 -- `dadl::blocks::finish` meets its contract. Assumes nothing.
-use borrow.Author.Rules.{rules}
 use Rattle.dadl.proofs.BlockSteps.{finish-fits, finish-done}
 use Rattle.dadl.proofs.blocks.finish.Goals as goal
 

@@ -1,5 +1,4 @@
 -- `dadl::contents::content_start` meets its contract. Assumes nothing.
-use borrow.Author.Rules.{rules}
 use Rattle.dadl.proofs.ContentSteps.{content-behind}
 use Rattle.dadl.proofs.ContentSteps.{content-typed, content-less, content-fault}
 use Rattle.dadl.proofs.contents.content_start.Goals as goal

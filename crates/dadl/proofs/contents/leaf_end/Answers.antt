@@ -1,5 +1,4 @@
 -- `dadl::contents::leaf_end` meets its contract. Assumes nothing.
-use borrow.Author.Rules.{rules}
 use Rattle.dadl.proofs.ContentSteps.{leaf-unclosed, leaf-closed}
 use Rattle.dadl.proofs.contents.leaf_end.Goals as goal
 

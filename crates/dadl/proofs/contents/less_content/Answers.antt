@@ -1,5 +1,4 @@
 -- `dadl::contents::less_content` meets its contract. Assumes nothing.
-use borrow.Author.Rules.{rules}
 use Rattle.dadl.proofs.ContentSteps.{less-string, less-word, less-block}
 use Rattle.dadl.proofs.contents.less_content.Goals as goal
 

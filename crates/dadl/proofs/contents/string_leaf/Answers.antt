@@ -1,5 +1,4 @@
 -- `dadl::contents::string_leaf` meets its contract. Assumes nothing.
-use borrow.Author.Rules.{rules}
 use Rattle.dadl.proofs.ContentSteps.{string-long, string-on}
 use Rattle.dadl.proofs.contents.string_leaf.Goals as goal
 

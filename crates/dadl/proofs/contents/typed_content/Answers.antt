@@ -1,5 +1,4 @@
 -- `dadl::contents::typed_content` meets its contract. Assumes nothing.
-use borrow.Author.Rules.{rules}
 use Rattle.dadl.proofs.ContentSteps.{typed-faulty, typed-block}
 use Rattle.dadl.proofs.contents.typed_content.Goals as goal
 

@@ -1,5 +1,4 @@
 -- `dadl::contents::word_leaf` meets its contract. Assumes nothing.
-use borrow.Author.Rules.{rules}
 use Rattle.dadl.proofs.ContentSteps.{word-bad, word_on}
 use Rattle.dadl.proofs.contents.word_leaf.Goals as goal
 

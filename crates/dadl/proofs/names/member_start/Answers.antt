@@ -1,5 +1,4 @@
 -- `dadl::names::member_start` meets its contract. Assumes nothing.
-use borrow.Author.Rules.{rules}
 use Rattle.dadl.proofs.NameSteps.{member-bad, member-next, member-content}
 use Rattle.dadl.proofs.names.member_start.Goals as goal
 

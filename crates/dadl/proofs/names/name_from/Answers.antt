@@ -1,5 +1,4 @@
 -- `dadl::names::name_from` meets its contract. Assumes nothing.
-use borrow.Author.Rules.{rules}
 use Rattle.dadl.proofs.NameSteps.{name-long, name-again, name-unclosed, name-closed}
 use Rattle.dadl.proofs.names.name_from.Goals as goal
 

@@ -1,9 +1,6 @@
 -- `dadl::names::repeated` meets its contract. Assumes nothing.
-use Prim.Native.Nat.{◌-◌}
-use lib.ListN.{length}
-use borrow.Author.Rules.{rules}
-use Rattle.lexis.proofs.Comparing.{InBytes, bytes-in, bytes-there, bytes_on}
-use Rattle.dadl.proofs.NameSteps.{InNames, names-start, names-end, name-lies, link-lies, names-less, bytes-begin, bytes-found, longer-next, bytes_next}
+use Rattle.lexis.proofs.Comparing.{bytes-in, bytes-there, bytes_on}
+use Rattle.dadl.proofs.NameSteps.{names-start, names-end, name-lies, link-lies, names-less, bytes-begin, bytes-found, longer-next, bytes_next}
 use Rattle.dadl.proofs.names.repeated.Goals as goal
 
 pub names-init : goal.names-init

@@ -1,9 +1,8 @@
 -- The loops of `dadl::names::repeated`. Assumes nothing.
 use Prim.Native.Nat.{◌-◌}
 use lib.ListN.{length}
-use borrow.Author.Rules.{rules}
-use Rattle.lexis.proofs.Comparing.{InBytes, bytes-in, bytes-there, bytes_on}
-use Rattle.dadl.proofs.NameSteps.{InNames, names-start, names-end, name-lies, link-lies, names-less, bytes-begin, bytes-found, longer-next, bytes_next}
+use Rattle.lexis.proofs.Comparing.{InBytes}
+use Rattle.dadl.proofs.NameSteps.{InNames}
 use Rattle.dadl.proofs.names.repeated.Given as goal
 
 abbrev pub invariant-loop-i : goal.invariant-loop-i

@@ -2,7 +2,6 @@
 use native.Mathlib.Omega.{arith}
 use native.Mathlib.Numerals.{add-one, add-two, add-three, add-four, add_five, add_six, add_seven, add_eight}
 use lib.ListN.{length-set}
-use borrow.Author.Rules.{rules}
 use Rattle.dadl.proofs.rows.put_row.Goals as goal
 
 pub bounds-tape-i-2 : goal.bounds-tape-i-2

@@ -1,5 +1,4 @@
 -- `dadl::rows::row_name` meets its contract. Assumes nothing.
-use borrow.Author.Rules.{rules}
 use Rattle.dadl.proofs.NameSteps.{name-order, name-ends, name-is}
 use Rattle.dadl.proofs.rows.row_name.Goals as goal
 

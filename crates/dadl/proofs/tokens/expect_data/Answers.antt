@@ -1,5 +1,4 @@
 -- `dadl::tokens::expect_data` meets its contract. Assumes nothing.
-use borrow.Author.Rules.{rules}
 use Rattle.dadl.proofs.TokenSteps.{expect-is}
 use Rattle.dadl.proofs.tokens.expect_data.Goals as goal
 

@@ -1,5 +1,4 @@
 -- `dadl::tokens::outermost_opening` meets its contract. Assumes nothing.
-use borrow.Author.Rules.{rules}
 use Rattle.dadl.proofs.TokenSteps.{outermost-typed, outermost-opens, outermost-shut}
 use Rattle.dadl.proofs.tokens.outermost_opening.Goals as goal
 

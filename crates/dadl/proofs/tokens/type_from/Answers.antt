@@ -1,5 +1,4 @@
 -- `dadl::tokens::type_from` meets its contract. Assumes nothing.
-use borrow.Author.Rules.{rules}
 use Rattle.dadl.proofs.TokenSteps.{type-fault, type-long, type-unclosed, type-closed}
 use Rattle.dadl.proofs.tokens.type_from.Goals as goal
 

@@ -1,5 +1,4 @@
 -- `dadl::tokens::typed_less` meets its contract. Assumes nothing.
-use borrow.Author.Rules.{rules}
 use Rattle.dadl.proofs.TokenSteps.{less-missing, less-there}
 use Rattle.dadl.proofs.tokens.typed_less.Goals as goal
 

@@ -1,5 +1,4 @@
 -- `dadl::tokens::typed_opening` meets its contract. Assumes nothing.
-use borrow.Author.Rules.{rules}
 use Rattle.dadl.proofs.TokenSteps.{typed-bad, typed-next, typed-order, typed-on}
 use Rattle.dadl.proofs.tokens.typed_opening.Goals as goal
 

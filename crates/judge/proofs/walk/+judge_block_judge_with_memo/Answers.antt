@@ -1,10 +1,9 @@
 -- `judge::walk::judge_block`, which calls itself, and `judge_with_memo`, which it is given up for, meet their contracts: the levels left fall, or a memo is there. Assumes nothing.
-use mathlib.Core.Path.{sym, ap, ◌∙◌}
+use mathlib.Core.Path.{sym, ap}
 use mathlib.Core.Bool.{not}
 use Prim.Native.Nat.{ℕ}
 use lib.Dec.{lit<}
 use lib.ListN.{length-replicate}
-use borrow.Author.Rules.{rules}
 use Rattle.judge.proofs.WalkSteps.{memo-effort, object-lies, object-name, visit-small, type-differs, attributes-start, visit-near, attributes-end, attributes-chain, attributes-known, attribute-lies, attribute-at, attribute-less, told-valid, told-fails, levels-some, levels-fall, memo-fall, nested-under, nested-valid, nested-fails}
 use Rattle.judge_tape.proofs.MemoLaws.{memo-zeros}
 use Rattle.judge.proofs.walk.+judge_block_judge_with_memo.Goals as goal

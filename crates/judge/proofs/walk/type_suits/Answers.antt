@@ -1,5 +1,4 @@
 -- `judge::walk::type_suits` meets its contract. Assumes nothing.
-use borrow.Author.Rules.{rules}
 use Rattle.judge.proofs.WalkSteps.{type-none, type-same}
 use Rattle.judge.proofs.walk.type_suits.Goals as goal
 

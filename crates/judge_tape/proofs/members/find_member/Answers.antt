@@ -1,7 +1,6 @@
 -- `judge_tape::members::find_member` meets its contract. Assumes nothing.
 use borrow.Author.Rules.{rules}
-use Rattle.judge_tape.proofs.MemberSteps.{InRows, row_lies, name-lies, rows_none, rows_start, rows-found, rows_end, rows_next, rows-less}
-use Prim.Native.Nat.{◌-◌}
+use Rattle.judge_tape.proofs.MemberSteps.{row_lies, name-lies, rows_none, rows_start, rows-found, rows_end, rows_next, rows-less}
 use Rattle.judge_tape.proofs.members.find_member.Goals as goal
 
 pub returns-then-inside-eq0 : goal.returns-then-inside-eq0

@@ -1,6 +1,5 @@
 -- The loops of `judge_tape::members::find_member`. Assumes nothing.
-use borrow.Author.Rules.{rules}
-use Rattle.judge_tape.proofs.MemberSteps.{InRows, row_lies, name-lies, rows_none, rows_start, rows-found, rows_end, rows_next, rows-less}
+use Rattle.judge_tape.proofs.MemberSteps.{InRows}
 use Prim.Native.Nat.{◌-◌}
 use Rattle.judge_tape.proofs.members.find_member.Given as goal
 

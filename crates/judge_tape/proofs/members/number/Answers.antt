@@ -1,5 +1,4 @@
 -- `judge_tape::members::number` meets its contract. Assumes nothing.
-use borrow.Author.Rules.{rules}
 use Rattle.judge_tape.proofs.MemberSteps.{number_read}
 use Rattle.judge_tape.proofs.members.number.Goals as goal
 

@@ -1,5 +1,4 @@
 -- `judge_tape::memo::enter` meets its contract. Assumes nothing.
-use borrow.Author.Rules.{rules}
 use Rattle.judge_tape.proofs.MemoSteps.{base-fits, base-near, visit-outermost, visit-row, visit-bit, visit-marks, seen-outermost, seen-row}
 use Rattle.judge_tape.proofs.memo.enter.Goals as goal
 

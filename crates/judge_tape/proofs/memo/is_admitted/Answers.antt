@@ -1,5 +1,4 @@
 -- `judge_tape::memo::is_admitted` meets its contract. Assumes nothing.
-use borrow.Author.Rules.{rules}
 use Rattle.judge_tape.proofs.MemoSteps.{none_left, visit-again, visit-first}
 use Rattle.judge_tape.proofs.memo.is_admitted.Goals as goal
 

@@ -1,5 +1,4 @@
 -- `judge_tape::memo::is_marked` meets its contract. Assumes nothing.
-use borrow.Author.Rules.{rules}
 use Rattle.judge_tape.proofs.MemoSteps.{marked-inside, marked-outside}
 use Rattle.judge_tape.proofs.memo.is_marked.Goals as goal
 

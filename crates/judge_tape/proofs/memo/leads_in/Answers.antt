@@ -1,5 +1,4 @@
 -- `judge_tape::memo::leads_in` meets its contract. Assumes nothing.
-use borrow.Author.Rules.{rules}
 use Rattle.judge_tape.proofs.ListSteps.{leads-alone, leads-none, leads-next}
 use Rattle.judge_tape.proofs.memo.leads_in.Goals as goal
 

@@ -1,5 +1,4 @@
 -- `judge_tape::memo::mark` meets its contract. Assumes nothing.
-use borrow.Author.Rules.{rules}
 use Prim.Native.Nat.{◌/◌}
 use Rattle.judge_tape.proofs.MemoSteps.{mark-inside, mark-outside, bit-inside, bit-outside}
 use Rattle.judge_tape.proofs.memo.mark.Goals as goal

@@ -1,7 +1,6 @@
 -- `judge_tape::memo::mark_chain` meets its contract. Assumes nothing.
 use borrow.Author.Rules.{rules}
-use Rattle.judge_admission.proofs.ItemSteps.{left}
-use Rattle.judge_tape.proofs.MemoSteps.{InChain, chain-none, chain_first, chain-start, chain-lies, chain-less, chain_next, chain-end}
+use Rattle.judge_tape.proofs.MemoSteps.{chain-none, chain_first, chain-start, chain-lies, chain-less, chain_next, chain-end}
 use Rattle.judge_tape.proofs.memo.mark_chain.Goals as goal
 
 pub returns-then-not-visit : goal.returns-then-not-visit

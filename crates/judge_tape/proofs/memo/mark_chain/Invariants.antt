@@ -1,7 +1,6 @@
 -- The loops of `judge_tape::memo::mark_chain`. Assumes nothing.
-use borrow.Author.Rules.{rules}
 use Rattle.judge_admission.proofs.ItemSteps.{left}
-use Rattle.judge_tape.proofs.MemoSteps.{InChain, chain-none, chain_first, chain-start, chain-lies, chain-less, chain_next, chain-end}
+use Rattle.judge_tape.proofs.MemoSteps.{InChain}
 use Rattle.judge_tape.proofs.memo.mark_chain.Given as goal
 
 abbrev pub invariant-loop-visit : goal.invariant-loop-visit

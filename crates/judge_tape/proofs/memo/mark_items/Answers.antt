@@ -1,6 +1,6 @@
 -- `judge_tape::memo::mark_items` meets its contract. Assumes nothing.
 use borrow.Author.Rules.{rules}
-use Rattle.judge_tape.proofs.ListSteps.{InListing, listing_start, listing-few, listing-next, listing-end}
+use Rattle.judge_tape.proofs.ListSteps.{listing_start, listing-few, listing-next, listing-end}
 use Rattle.judge_tape.proofs.memo.mark_items.Goals as goal
 
 pub loop-n-init : goal.loop-n-init

@@ -1,6 +1,5 @@
 -- The loops of `judge_tape::memo::mark_items`. Assumes nothing.
-use borrow.Author.Rules.{rules}
-use Rattle.judge_tape.proofs.ListSteps.{InListing, listing_start, listing-few, listing-next, listing-end}
+use Rattle.judge_tape.proofs.ListSteps.{InListing}
 use Rattle.judge_tape.proofs.memo.mark_items.Given as goal
 
 abbrev pub invariant-loop-n : goal.invariant-loop-n

@@ -1,6 +1,5 @@
 -- `lexis::data_tokens::behind_space` meets its contract. Assumes nothing.
 use Rattle.lexis.proofs.QuickSteps.{behind-blank, behind-none}
-use borrow.Author.Rules.{rules}
 use Rattle.lexis.proofs.data_tokens.behind_space.Goals as goal
 
 pub returns-then-byte_at-eq32 : goal.returns-then-byte_at-eq32

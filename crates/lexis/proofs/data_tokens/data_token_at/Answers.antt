@@ -1,5 +1,4 @@
 -- `lexis::data_tokens::data_token_at` meets its contract. Assumes nothing.
-use borrow.Author.Rules.{rules}
 use Rattle.lexis.proofs.DataTokenSteps.{data-told}
 use Rattle.lexis.proofs.data_tokens.data_token_at.Goals as goal
 

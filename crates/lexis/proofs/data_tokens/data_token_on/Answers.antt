@@ -1,6 +1,5 @@
 -- `lexis::data_tokens::data_token_on` meets its contract. Assumes nothing.
 use Rattle.lexis.proofs.DataTokenSteps.{data-end, data-run, data-string, data-mark}
-use borrow.Author.Rules.{rules}
 use Rattle.lexis.proofs.data_tokens.data_token_on.Goals as goal
 
 pub returns-then-s-at : goal.returns-then-s-at

@@ -1,6 +1,5 @@
 -- `lexis::data_tokens::mark_token_at` meets its contract. Assumes nothing.
 use Rattle.lexis.proofs.QuickSteps.{mark-told}
-use borrow.Author.Rules.{rules}
 use Rattle.lexis.proofs.data_tokens.mark_token_at.Goals as goal
 
 pub returns-then-is_mark : goal.returns-then-is_mark

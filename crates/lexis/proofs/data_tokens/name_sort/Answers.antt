@@ -1,6 +1,5 @@
 -- `lexis::data_tokens::name_sort` meets its contract. Assumes nothing.
 use Rattle.lexis.proofs.DataTokenSteps.{name-broken, name-spelled, name-is}
-use borrow.Author.Rules.{rules}
 use Rattle.lexis.proofs.data_tokens.name_sort.Goals as goal
 
 pub returns-then-not-whole : goal.returns-then-not-whole

@@ -1,6 +1,5 @@
 -- `lexis::data_tokens::run` meets its contract. Assumes nothing.
 use Rattle.lexis.proofs.DataTokenSteps.{word-stops, run-whole, run_is}
-use borrow.Author.Rules.{rules}
 use Rattle.lexis.proofs.data_tokens.run.Goals as goal
 
 pub run_end-end-requires : goal.run_end-end-requires

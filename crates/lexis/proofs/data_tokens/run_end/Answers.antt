@@ -1,6 +1,5 @@
 -- `lexis::data_tokens::run_end` meets its contract. Assumes nothing.
 use Rattle.lexis.proofs.DataTokenSteps.{end-here}
-use borrow.Author.Rules.{rules}
 use Rattle.lexis.proofs.data_tokens.run_end.Goals as goal
 
 pub returns-then-not-run_mark : goal.returns-then-not-run_mark

@@ -1,6 +1,5 @@
 -- `lexis::data_tokens::run_sort` meets its contract. Assumes nothing.
 use Rattle.lexis.proofs.DataTokenSteps.{sorting-type, sorting-none, sorting-name, sorting-word}
-use borrow.Author.Rules.{rules}
 use Rattle.lexis.proofs.data_tokens.run_sort.Goals as goal
 
 pub returns-then-is_capital : goal.returns-then-is_capital

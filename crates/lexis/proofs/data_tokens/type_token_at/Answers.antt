@@ -1,5 +1,4 @@
 -- `lexis::data_tokens::type_token_at` meets its contract. Assumes nothing.
-use borrow.Author.Rules.{rules}
 use Rattle.lexis.proofs.DataTokenSteps.{type-told}
 use Rattle.lexis.proofs.data_tokens.type_token_at.Goals as goal
 

@@ -1,6 +1,5 @@
 -- `lexis::data_tokens::value_token_at` meets its contract. Assumes nothing.
 use Rattle.lexis.proofs.QuickSteps.{string-inside, string-told, digits-told}
-use borrow.Author.Rules.{rules}
 use Rattle.lexis.proofs.data_tokens.value_token_at.Goals as goal
 
 pub quoted-requires : goal.quoted-requires

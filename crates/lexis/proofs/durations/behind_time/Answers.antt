@@ -1,5 +1,4 @@
 -- `lexis::durations::behind_time` meets its contract. Assumes nothing.
-use borrow.Author.Rules.{rules}
 use Rattle.lexis.proofs.DurationSteps.{time-left, time-none, time-some}
 use Rattle.lexis.proofs.durations.behind_time.Goals as goal
 

@@ -1,5 +1,4 @@
 -- `lexis::durations::digit_slot` meets its contract. Assumes nothing.
-use borrow.Author.Rules.{rules}
 use Rattle.lexis.proofs.DurationSteps.{digit-few, digit-many, digit-ended, digit-letter, digit-other}
 use Rattle.lexis.proofs.durations.digit_slot.Goals as goal
 

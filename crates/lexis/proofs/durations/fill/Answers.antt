@@ -1,5 +1,4 @@
 -- `lexis::durations::fill` meets its contract. Assumes nothing.
-use borrow.Author.Rules.{rules}
 use Rattle.lexis.proofs.DurationSteps.{fill_none, fill-some}
 use Rattle.lexis.proofs.durations.fill.Goals as goal
 

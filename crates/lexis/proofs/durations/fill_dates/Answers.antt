@@ -1,5 +1,4 @@
 -- `lexis::durations::fill_dates` meets its contract. Assumes nothing.
-use borrow.Author.Rules.{rules}
 use Rattle.lexis.proofs.DurationSteps.{dates-filled}
 use Rattle.lexis.proofs.durations.fill_dates.Goals as goal
 

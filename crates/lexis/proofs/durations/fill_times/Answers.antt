@@ -1,5 +1,4 @@
 -- `lexis::durations::fill_times` meets its contract. Assumes nothing.
-use borrow.Author.Rules.{rules}
 use Rattle.lexis.proofs.DurationSteps.{times-filled}
 use Rattle.lexis.proofs.durations.fill_times.Goals as goal
 

@@ -1,5 +1,4 @@
 -- `lexis::durations::in_either_case` meets its contract. Assumes nothing.
-use borrow.Author.Rules.{rules}
 use Rattle.lexis.proofs.DurationSteps.{case_same, case-other}
 use Rattle.lexis.proofs.durations.in_either_case.Goals as goal
 

@@ -1,5 +1,4 @@
 -- `lexis::durations::letter_slot` meets its contract. Assumes nothing.
-use borrow.Author.Rules.{rules}
 use Rattle.lexis.proofs.DurationSteps.{letter-none, letter-here, letter-other}
 use Rattle.lexis.proofs.durations.letter_slot.Goals as goal
 

@@ -1,5 +1,4 @@
 -- `lexis::durations::pattern_slots` meets its contract. Assumes nothing.
-use borrow.Author.Rules.{rules}
 use Rattle.lexis.proofs.DurationSteps.{pattern-told}
 use Rattle.lexis.proofs.durations.pattern_slots.Goals as goal
 

@@ -1,5 +1,4 @@
 -- `lexis::durations::slot` meets its contract. Assumes nothing.
-use borrow.Author.Rules.{rules}
 use Rattle.lexis.proofs.DurationSteps.{slot-digits, slot-letter}
 use Rattle.lexis.proofs.durations.slot.Goals as goal
 

@@ -1,5 +1,4 @@
 -- `lexis::durations::slots_of` meets its contract. Assumes nothing.
-use borrow.Author.Rules.{rules}
 use Rattle.lexis.proofs.DurationSteps.{slots-empty, slots-other, slots_end, slots-not-time, slots-time}
 use Rattle.lexis.proofs.durations.slots_of.Goals as goal
 

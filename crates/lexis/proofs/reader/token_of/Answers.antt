@@ -1,6 +1,5 @@
 -- `lexis::reader::token_of` meets its contract. Assumes nothing.
 use Rattle.lexis.proofs.ReaderSteps.{next-end, next-constraint, next-data}
-use borrow.Author.Rules.{rules}
 use Rattle.lexis.proofs.reader.token_of.Goals as goal
 
 pub returns-then-s-from : goal.returns-then-s-from

@@ -1,5 +1,4 @@
 -- `lexis::runs::admitted` meets its contract. Assumes nothing.
-use borrow.Author.Rules.{rules}
 use Rattle.lexis.proofs.RunSteps.{admits-same, admits-digit, admits-other}
 use Rattle.lexis.proofs.runs.admitted.Goals as goal
 

@@ -1,9 +1,5 @@
 -- `lexis::runs::begins` meets its contract. Assumes nothing.
-use Prim.Native.Nat.{◌-◌}
-use lib.ListN.{length, drop}
-use borrow.Author.Rules.{rules}
-use Rattle.lexis.specs.Clauses.Answers.{admits, begins_by}
-use Rattle.lexis.proofs.RunSteps.{InWord, begins-short, word_first, word_end, word_out, word_on}
+use Rattle.lexis.proofs.RunSteps.{begins-short, word_first, word_end, word_out, word_on}
 use Rattle.lexis.proofs.runs.begins.Goals as goal
 
 pub returns-then-s-at : goal.returns-then-s-at

@@ -1,9 +1,8 @@
 -- The loops of `lexis::runs::begins`. Assumes nothing.
 use Prim.Native.Nat.{◌-◌}
 use lib.ListN.{length, drop}
-use borrow.Author.Rules.{rules}
 use Rattle.lexis.specs.Clauses.Answers.{admits, begins_by}
-use Rattle.lexis.proofs.RunSteps.{InWord, begins-short, word_first, word_end, word_out, word_on}
+use Rattle.lexis.proofs.RunSteps.{InWord}
 use Rattle.lexis.proofs.runs.begins.Given as goal
 
 abbrev pub invariant-loop-i : goal.invariant-loop-i

@@ -1,6 +1,5 @@
 -- `lexis::runs::comment_open` meets its contract. Assumes nothing.
 use Rattle.lexis.proofs.RunSteps.{open-inside, open-other, open-two}
-use borrow.Author.Rules.{rules}
 use Rattle.lexis.proofs.runs.comment_open.Goals as goal
 
 pub returns-then-inside : goal.returns-then-inside

@@ -1,5 +1,4 @@
 -- `lexis::runs::in_class` meets its contract. Assumes nothing.
-use borrow.Author.Rules.{rules}
 use Rattle.lexis.proofs.RunSteps.{class-digit, class-word, class-text, class-run}
 use Rattle.lexis.proofs.runs.in_class.Goals as goal
 

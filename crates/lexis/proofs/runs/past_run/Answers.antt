@@ -1,10 +1,5 @@
 -- `lexis::runs::past_run` meets its contract. Assumes nothing.
-use Prim.Native.Nat.{◌-◌}
-use lib.ListN.{length, drop}
-use borrow.Author.Rules.{rules}
-use Rattle.lexis.specs.Runs.{past}
-use Rattle.lexis.specs.Clauses.Answers.{test_of}
-use Rattle.lexis.proofs.RunSteps.{InRun, run-first, run_end, run_out, run_on}
+use Rattle.lexis.proofs.RunSteps.{run-first, run_end, run_out, run_on}
 use Rattle.lexis.proofs.runs.past_run.Goals as goal
 
 pub loop-at-init : goal.loop-at-init

@@ -1,10 +1,9 @@
 -- The loops of `lexis::runs::past_run`. Assumes nothing.
 use Prim.Native.Nat.{◌-◌}
 use lib.ListN.{length, drop}
-use borrow.Author.Rules.{rules}
 use Rattle.lexis.specs.Runs.{past}
 use Rattle.lexis.specs.Clauses.Answers.{test_of}
-use Rattle.lexis.proofs.RunSteps.{InRun, run-first, run_end, run_out, run_on}
+use Rattle.lexis.proofs.RunSteps.{InRun}
 use Rattle.lexis.proofs.runs.past_run.Given as goal
 
 abbrev pub invariant-loop-at : goal.invariant-loop-at

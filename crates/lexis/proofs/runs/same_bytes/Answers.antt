@@ -1,8 +1,5 @@
 -- `lexis::runs::same_bytes` meets its contract. Assumes nothing.
-use Prim.Native.Nat.{◌-◌}
-use lib.ListN.{length}
-use borrow.Author.Rules.{rules}
-use Rattle.lexis.proofs.RunSteps.{InBoth, same-long, both_first, both_end, both_out, both-on}
+use Rattle.lexis.proofs.RunSteps.{same-long, both_first, both_end, both_out, both-on}
 use Rattle.lexis.proofs.runs.same_bytes.Goals as goal
 
 pub returns-then-a-b : goal.returns-then-a-b

@@ -1,8 +1,7 @@
 -- The loops of `lexis::runs::same_bytes`. Assumes nothing.
 use Prim.Native.Nat.{◌-◌}
 use lib.ListN.{length}
-use borrow.Author.Rules.{rules}
-use Rattle.lexis.proofs.RunSteps.{InBoth, same-long, both_first, both_end, both_out, both-on}
+use Rattle.lexis.proofs.RunSteps.{InBoth}
 use Rattle.lexis.proofs.runs.same_bytes.Given as goal
 
 abbrev pub invariant-loop-i : goal.invariant-loop-i

@@ -1,5 +1,4 @@
 -- `lexis::runs::shaped` meets its contract. Assumes nothing.
-use borrow.Author.Rules.{rules}
 use Rattle.lexis.proofs.RunSteps.{shaped-begins}
 use Rattle.lexis.proofs.runs.shaped.Goals as goal
 

@@ -1,5 +1,4 @@
 -- `lexis::runs::starts_with` meets its contract. Assumes nothing.
-use borrow.Author.Rules.{rules}
 use Rattle.lexis.proofs.RunSteps.{starts-begins}
 use Rattle.lexis.proofs.runs.starts_with.Goals as goal
 

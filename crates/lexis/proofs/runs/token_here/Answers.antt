@@ -1,6 +1,5 @@
 -- `lexis::runs::token_here` meets its contract. Assumes nothing.
 use Rattle.lexis.proofs.RunSteps.{here-far, here-two, here-other}
-use borrow.Author.Rules.{rules}
 use Rattle.lexis.proofs.runs.token_here.Goals as goal
 
 pub returns-then-b-gt45 : goal.returns-then-b-gt45

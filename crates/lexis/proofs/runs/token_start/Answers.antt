@@ -1,9 +1,5 @@
 -- `lexis::runs::token_start` meets its contract. Assumes nothing.
-use Prim.Native.Nat.{◌-◌}
-use lib.ListN.{length}
-use Rattle.lexis.specs.Blanks.{token_start}
-use Rattle.lexis.proofs.RunSteps.{InBlanks, blanks-first, blanks-end, blanks-out, blanks-on}
-use borrow.Author.Rules.{rules}
+use Rattle.lexis.proofs.RunSteps.{blanks-first, blanks-end, blanks-out, blanks-on}
 use Rattle.lexis.proofs.runs.token_start.Goals as goal
 
 pub loop-at-preserved : goal.loop-at-preserved

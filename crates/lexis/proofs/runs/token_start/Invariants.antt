@@ -2,8 +2,7 @@
 use Prim.Native.Nat.{◌-◌}
 use lib.ListN.{length}
 use Rattle.lexis.specs.Blanks.{token_start}
-use Rattle.lexis.proofs.RunSteps.{InBlanks, blanks-first, blanks-end, blanks-out, blanks-on}
-use borrow.Author.Rules.{rules}
+use Rattle.lexis.proofs.RunSteps.{InBlanks}
 use Rattle.lexis.proofs.runs.token_start.Given as goal
 
 abbrev pub invariant-loop-at : goal.invariant-loop-at

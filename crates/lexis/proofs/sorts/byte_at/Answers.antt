@@ -1,6 +1,5 @@
 -- `lexis::sorts::byte_at` meets its contract. Assumes nothing.
 use Rattle.lexis.proofs.RunSteps.{byte-behind}
-use borrow.Author.Rules.{rules}
 use Rattle.lexis.proofs.sorts.byte_at.Goals as goal
 
 pub returns-else-at-s : goal.returns-else-at-s

@@ -1,6 +1,5 @@
 -- `lexis::sorts::run_byte` meets its contract. Assumes nothing.
 use Rattle.lexis.proofs.ByteLaws.{run-word, run-other}
-use borrow.Author.Rules.{rules}
 use Rattle.lexis.proofs.sorts.run_byte.Goals as goal
 
 pub returns-then-word_byte : goal.returns-then-word_byte

@@ -1,6 +1,5 @@
 -- `lexis::spellings::boolean_sort` meets its contract. Assumes nothing.
 use Rattle.lexis.proofs.WordSteps.{sort-first}
-use borrow.Author.Rules.{rules}
 use Rattle.lexis.proofs.spellings.boolean_sort.Goals as goal
 
 pub returns : goal.returns

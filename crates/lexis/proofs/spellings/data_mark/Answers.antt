@@ -1,6 +1,5 @@
 -- `lexis::spellings::data_mark` meets its contract. Assumes nothing.
 use Rattle.lexis.proofs.SpellingSteps.{data-less, data-greater, data-equals, data-open, data-close, data-none}
-use borrow.Author.Rules.{rules}
 use Rattle.lexis.proofs.spellings.data_mark.Goals as goal
 
 pub returns-in-60 : goal.returns-in-60

@@ -1,6 +1,5 @@
 -- `lexis::spellings::dots_mark` meets its contract. Assumes nothing.
 use Rattle.lexis.proofs.SpellingSteps.{mark-dots, mark-dot}
-use borrow.Author.Rules.{rules}
 use Rattle.lexis.proofs.spellings.dots_mark.Goals as goal
 
 pub returns-then-byte_at-eq46 : goal.returns-then-byte_at-eq46

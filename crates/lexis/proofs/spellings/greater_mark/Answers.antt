@@ -1,6 +1,5 @@
 -- `lexis::spellings::greater_mark` meets its contract. Assumes nothing.
 use Rattle.lexis.proofs.SpellingSteps.{mark-at-least, mark-greater}
-use borrow.Author.Rules.{rules}
 use Rattle.lexis.proofs.spellings.greater_mark.Goals as goal
 
 pub returns-then-byte_at-eq61 : goal.returns-then-byte_at-eq61

@@ -1,6 +1,5 @@
 -- `lexis::spellings::less_mark` meets its contract. Assumes nothing.
 use Rattle.lexis.proofs.SpellingSteps.{mark-at-most, mark-less}
-use borrow.Author.Rules.{rules}
 use Rattle.lexis.proofs.spellings.less_mark.Goals as goal
 
 pub returns-then-byte_at-eq61 : goal.returns-then-byte_at-eq61

@@ -1,6 +1,5 @@
 -- `lexis::spellings::plain_mark` meets its contract. Assumes nothing.
 use Rattle.lexis.proofs.SpellingSteps.{mark-open, mark-close, mark-comma, mark-star, mark-bar, mark-none}
-use borrow.Author.Rules.{rules}
 use Rattle.lexis.proofs.spellings.plain_mark.Goals as goal
 
 pub returns-in-123 : goal.returns-in-123

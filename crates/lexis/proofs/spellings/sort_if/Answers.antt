@@ -1,6 +1,5 @@
 -- `lexis::spellings::sort_if` meets its contract. Assumes nothing.
 use Rattle.lexis.proofs.WordSteps.{sort-one, sort-other}
-use borrow.Author.Rules.{rules}
 use Rattle.lexis.proofs.spellings.sort_if.Goals as goal
 
 pub returns-then-same_bytes : goal.returns-then-same_bytes

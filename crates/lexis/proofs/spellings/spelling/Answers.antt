@@ -1,6 +1,5 @@
 -- `lexis::spellings::spelling` meets its contract. Assumes nothing.
 use Rattle.lexis.proofs.SpellingSteps.{spelled-one, spelled-other}
-use borrow.Author.Rules.{rules}
 use Rattle.lexis.proofs.spellings.spelling.Goals as goal
 
 pub returns-then-starts_with : goal.returns-then-starts_with

@@ -1,6 +1,5 @@
 -- `lexis::spellings::word_sort` meets its contract. Assumes nothing.
 use Rattle.lexis.proofs.WordSteps.{sort-keywords, sort-booleans}
-use borrow.Author.Rules.{rules}
 use Rattle.lexis.proofs.spellings.word_sort.Goals as goal
 
 pub returns-in-Keywords : goal.returns-in-Keywords

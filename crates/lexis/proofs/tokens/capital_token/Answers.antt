@@ -1,6 +1,5 @@
 -- `lexis::tokens::capital_token` meets its contract. Assumes nothing.
 use Rattle.lexis.proofs.SpellingSteps.{spelled-else}
-use borrow.Author.Rules.{rules}
 use Rattle.lexis.proofs.tokens.capital_token.Goals as goal
 
 pub returns : goal.returns

@@ -1,5 +1,4 @@
 -- `lexis::tokens::closes` meets its contract. Assumes nothing.
-use borrow.Author.Rules.{rules}
 use Rattle.lexis.proofs.ContentSteps.{closing-told}
 use Rattle.lexis.proofs.tokens.closes.Goals as goal
 

@@ -1,5 +1,4 @@
 -- `lexis::tokens::code_byte` meets its contract. Assumes nothing.
-use borrow.Author.Rules.{rules}
 use Rattle.lexis.proofs.TokenSteps.{code-digit, code-dot, code_other}
 use Rattle.lexis.proofs.tokens.code_byte.Goals as goal
 

@@ -1,11 +1,7 @@
 -- `lexis::tokens::code_end` meets its contract. Assumes nothing.
 use mathlib.Core.Path.{ap}
-use mathlib.Core.Bool.{false, not}
-use Prim.Native.Nat.{◌-◌}
-use lib.ListN.{length, drop}
-use borrow.Author.Rules.{rules}
-use Rattle.lexis.specs.Tokens.{code_end}
-use Rattle.lexis.proofs.TokenSteps.{InCode, code-first, code-none, code-close, code-stop, code-on}
+use mathlib.Core.Bool.{not}
+use Rattle.lexis.proofs.TokenSteps.{code-first, code-none, code-close, code-stop, code-on}
 use Rattle.lexis.proofs.tokens.code_end.Goals as goal
 
 pub loop-at-preserved : goal.loop-at-preserved

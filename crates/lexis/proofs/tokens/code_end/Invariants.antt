@@ -2,9 +2,8 @@
 use mathlib.Core.Bool.{false}
 use Prim.Native.Nat.{◌-◌}
 use lib.ListN.{length, drop}
-use borrow.Author.Rules.{rules}
 use Rattle.lexis.specs.Tokens.{code_end}
-use Rattle.lexis.proofs.TokenSteps.{InCode, code-first, code-none, code-close, code-stop, code-on}
+use Rattle.lexis.proofs.TokenSteps.{InCode}
 use Rattle.lexis.proofs.tokens.code_end.Given as goal
 
 abbrev pub invariant-loop-at : goal.invariant-loop-at

@@ -1,5 +1,4 @@
 -- `lexis::tokens::content_token_at` meets its contract. Assumes nothing.
-use borrow.Author.Rules.{rules}
 use Rattle.lexis.proofs.ContentSteps.{content-other, type-there, content-type}
 use Rattle.lexis.proofs.tokens.content_token_at.Goals as goal
 

@@ -1,5 +1,4 @@
 -- `lexis::tokens::negative` meets its contract. Assumes nothing.
-use borrow.Author.Rules.{rules}
 use Rattle.lexis.proofs.TokenSteps.{negative-not, negative-is}
 use Rattle.lexis.proofs.tokens.negative.Goals as goal
 

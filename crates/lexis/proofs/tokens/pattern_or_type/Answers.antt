@@ -1,5 +1,4 @@
 -- `lexis::tokens::pattern_or_type` meets its contract. Assumes nothing.
-use borrow.Author.Rules.{rules}
 use Rattle.lexis.proofs.ContentSteps.{type-other, type-no-pattern, type-stays, type-pattern}
 use Rattle.lexis.proofs.tokens.pattern_or_type.Goals as goal
 

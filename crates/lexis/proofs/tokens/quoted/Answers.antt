@@ -1,5 +1,4 @@
 -- `lexis::tokens::quoted` meets its contract. Assumes nothing.
-use borrow.Author.Rules.{rules}
 use Rattle.lexis.proofs.TokenSteps.{quoted-is, quoted-not}
 use Rattle.lexis.proofs.tokens.quoted.Goals as goal
 

@@ -1,6 +1,5 @@
 -- `lexis::tokens::sign` meets its contract. Assumes nothing.
 use Rattle.lexis.proofs.TokenSteps.{sign-integer, sign-mark}
-use borrow.Author.Rules.{rules}
 use Rattle.lexis.proofs.tokens.sign.Goals as goal
 
 pub returns-then-negative : goal.returns-then-negative

@@ -1,6 +1,5 @@
 -- `lexis::tokens::small_token` meets its contract. Assumes nothing.
 use Rattle.lexis.proofs.SpellingSteps.{spelled-else}
-use borrow.Author.Rules.{rules}
 use Rattle.lexis.proofs.tokens.small_token.Goals as goal
 
 pub returns : goal.returns

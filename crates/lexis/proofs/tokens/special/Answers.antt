@@ -1,6 +1,5 @@
 -- `lexis::tokens::special` meets its contract. Assumes nothing.
 use Rattle.lexis.proofs.TokenSteps.{special-string, special-code, special-sign}
-use borrow.Author.Rules.{rules}
 use Rattle.lexis.proofs.tokens.special.Goals as goal
 
 pub returns-then-s-at-eq34 : goal.returns-then-s-at-eq34

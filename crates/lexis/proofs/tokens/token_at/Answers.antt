@@ -1,5 +1,4 @@
 -- `lexis::tokens::token_at` meets its contract. Assumes nothing.
-use borrow.Author.Rules.{rules}
 use Rattle.lexis.proofs.TokenSteps.{token-told}
 use Rattle.lexis.proofs.tokens.token_at.Goals as goal
 

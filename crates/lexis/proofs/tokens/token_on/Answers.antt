@@ -1,6 +1,5 @@
 -- `lexis::tokens::token_on` meets its contract. Assumes nothing.
 use Rattle.lexis.proofs.TokenSteps.{on-end, on-capital, on-small, on-digit, on-mark, on-other}
-use borrow.Author.Rules.{rules}
 use Rattle.lexis.proofs.tokens.token_on.Goals as goal
 
 pub returns-then-s-at : goal.returns-then-s-at

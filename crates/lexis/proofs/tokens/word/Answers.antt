@@ -1,5 +1,4 @@
 -- `lexis::tokens::word` meets its contract. Assumes nothing.
-use borrow.Author.Rules.{rules}
 use Rattle.lexis.proofs.WordSteps.{word-is}
 use Rattle.lexis.proofs.tokens.word.Goals as goal
 

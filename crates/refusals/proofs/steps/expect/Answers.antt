@@ -1,5 +1,4 @@
 -- `refusals::steps::expect` meets its contract. Assumes nothing.
-use borrow.Author.Rules.{rules}
 use Rattle.refusals.proofs.StepLaws.{expect-is}
 use Rattle.refusals.proofs.steps.expect.Goals as goal
 

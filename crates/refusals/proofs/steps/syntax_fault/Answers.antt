@@ -1,5 +1,4 @@
 -- `refusals::steps::syntax_fault` meets its contract. Assumes nothing.
-use borrow.Author.Rules.{rules}
 use Rattle.refusals.proofs.StepLaws.{fault-is}
 use Rattle.refusals.proofs.steps.syntax_fault.Goals as goal
 

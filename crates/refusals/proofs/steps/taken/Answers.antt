@@ -1,5 +1,4 @@
 -- `refusals::steps::taken` meets its contract. Assumes nothing.
-use borrow.Author.Rules.{rules}
 use Rattle.refusals.proofs.StepLaws.{taken-there, taken_not}
 use Rattle.refusals.proofs.steps.taken.Goals as goal
 

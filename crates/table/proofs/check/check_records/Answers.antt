@@ -1,7 +1,4 @@
 -- `table::check::check_records` meets its contract. Assumes nothing.
-use mathlib.Core.Path.{◌≡◌}
-use Prim.Native.Nat.{◌-◌}
-use Rattle.table.proofs.CheckSteps.{Reached}
 use Rattle.table.proofs.CheckSteps.{check-steps}
 use borrow.Author.Rules.{rules}
 use Rattle.table.proofs.check.check_records.Goals as goal

@@ -2,8 +2,6 @@
 use mathlib.Core.Path.{◌≡◌}
 use Prim.Native.Nat.{◌-◌}
 use Rattle.table.proofs.CheckSteps.{Reached}
-use Rattle.table.proofs.CheckSteps.{check-steps}
-use borrow.Author.Rules.{rules}
 use Rattle.table.proofs.check.check_records.Given as goal
 
 abbrev pub invariant-loop-n : goal.invariant-loop-n

@@ -1,9 +1,7 @@
 -- `table::copying::copy_bytes` meets its contract. The first `i` bytes are written: with those that are left the output is what it is to be. Assumes nothing.
-use mathlib.Core.Path.{◌≡◌, refl}
-use Prim.Native.Nat.{◌+◌, ◌-◌, ◌≤◌}
+use mathlib.Core.Path.{refl}
 use native.Mathlib.Nat.{add-zero}
-use lib.ListN.{length, drop, length-set}
-use lib.Seq.{sets}
+use lib.ListN.{length-set}
 use borrow.Author.Rules.{rules}
 use Rattle.table.proofs.CopySteps.{bytes-go-on, bytes-end}
 use Rattle.table.proofs.copying.copy_bytes.Goals as goal

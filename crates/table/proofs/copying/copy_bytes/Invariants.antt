@@ -1,11 +1,8 @@
 -- The loops of `table::copying::copy_bytes`. Assumes nothing.
-use mathlib.Core.Path.{◌≡◌, refl}
+use mathlib.Core.Path.{◌≡◌}
 use Prim.Native.Nat.{◌+◌, ◌-◌, ◌≤◌}
-use native.Mathlib.Nat.{add-zero}
-use lib.ListN.{length, drop, length-set}
+use lib.ListN.{length, drop}
 use lib.Seq.{sets}
-use borrow.Author.Rules.{rules}
-use Rattle.table.proofs.CopySteps.{bytes-go-on, bytes-end}
 use Rattle.table.proofs.copying.copy_bytes.Given as goal
 
 abbrev pub invariant-loop-i : goal.invariant-loop-i

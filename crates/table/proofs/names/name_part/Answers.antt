@@ -1,8 +1,6 @@
 -- `table::names::name_part` meets its contract. Assumes nothing.
 use Rattle.table.proofs.NameSteps.{name-steps}
 use borrow.Author.Rules.{rules}
-use Rattle.table.proofs.records.PoolPlace.start.Reads as records-PoolPlace-start-reads
-use Rattle.table.proofs.records.RecordNumber.start.Reads as records-RecordNumber-start-reads
 use Rattle.table.proofs.names.name_part.Goals as goal
 
 pub returns : goal.returns

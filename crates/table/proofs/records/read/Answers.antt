@@ -1,9 +1,6 @@
 -- `table::records::read` meets its contract. Assumes nothing.
 use Rattle.table.proofs.RecordSteps.{read-ordered}
-use Prim.Native.Nat.{ℕ, ◌<◌}
 use native.Mathlib.Omega.{arith}
-use lib.ListN.{get_or}
-use borrow.Author.Rules.{rules}
 use Rattle.table.proofs.records.read.Goals as goal
 
 pub returns : goal.returns

@@ -1,5 +1,4 @@
 -- `table::writing::put_record` meets its contract. Assumes nothing.
-use borrow.Author.Rules.{rules}
 use Rattle.table.proofs.WriteSteps.{record-ordered}
 use Rattle.table.proofs.writing.put_record.Goals as goal
 

@@ -1,8 +1,6 @@
 -- `table_merge::copying::copy_records` meets its contract. The records below `n` are written: with those that are left the output is what it is to be. Assumes nothing.
-use Prim.Native.Nat.{◌-◌}
 use borrow.Author.Rules.{rules}
-use Rattle.table_merge.specs.Clauses.Answers.{shifts}
-use Rattle.table_merge.proofs.CopySteps.{InCopy, copy-steps}
+use Rattle.table_merge.proofs.CopySteps.{copy-steps}
 use Rattle.table_merge.proofs.copying.copy_records.Goals as goal
 
 pub loop-n-init : goal.loop-n-init

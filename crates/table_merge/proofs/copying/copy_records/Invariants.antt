@@ -1,8 +1,7 @@
 -- The loops of `table_merge::copying::copy_records`. Assumes nothing.
 use Prim.Native.Nat.{◌-◌}
-use borrow.Author.Rules.{rules}
 use Rattle.table_merge.specs.Clauses.Answers.{shifts}
-use Rattle.table_merge.proofs.CopySteps.{InCopy, copy-steps}
+use Rattle.table_merge.proofs.CopySteps.{InCopy}
 use Rattle.table_merge.proofs.copying.copy_records.Given as goal
 
 abbrev pub invariant-loop-n : goal.invariant-loop-n

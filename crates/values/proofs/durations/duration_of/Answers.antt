@@ -1,5 +1,4 @@
 -- `values::durations::duration_of` meets its contract. Assumes nothing.
-use borrow.Author.Rules.{rules}
 use Rattle.values.proofs.DurationSteps.{duration-empty, duration-signed, duration-unsigned}
 use Rattle.values.proofs.durations.duration_of.Goals as goal
 

@@ -1,5 +1,4 @@
 -- `values::durations::slots_if` meets its contract. Assumes nothing.
-use borrow.Author.Rules.{rules}
 use Rattle.values.proofs.DurationSteps.{slots-none, slots-are}
 use Rattle.values.proofs.durations.slots_if.Goals as goal
 

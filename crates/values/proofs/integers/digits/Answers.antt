@@ -1,10 +1,7 @@
 -- `integers::digits` answers what its definition says. The loop's invariant: what is left of the digits, behind the number so far, spells what all
 -- of them do. Assumes nothing.
-use mathlib.Core.Path.{◌≡◌, refl}
-use Prim.Native.Nat.{◌-◌}
-use lib.ListN.{length, drop}
+use mathlib.Core.Path.{refl}
 use borrow.Author.Rules.{rules}
-use Rattle.values.specs.Clauses.Answers.{digits_from}
 use Rattle.values.proofs.IntegerSteps.{steps}
 use Rattle.values.proofs.integers.digits.Goals as goal
 

@@ -1,10 +1,8 @@
 -- The loops of `values::integers::digits`. Assumes nothing.
-use mathlib.Core.Path.{◌≡◌, refl}
+use mathlib.Core.Path.{◌≡◌}
 use Prim.Native.Nat.{◌-◌}
 use lib.ListN.{length, drop}
-use borrow.Author.Rules.{rules}
 use Rattle.values.specs.Clauses.Answers.{digits_from}
-use Rattle.values.proofs.IntegerSteps.{steps}
 use Rattle.values.proofs.integers.digits.Given as goal
 
 abbrev pub invariant-loop-i : goal.invariant-loop-i

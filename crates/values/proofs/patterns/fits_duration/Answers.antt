@@ -1,8 +1,6 @@
 -- `patterns::fits_duration` answers what its definition says. The loop's invariant: the slots that are left fit exactly
 -- where all of them do. Assumes nothing.
-use mathlib.Core.Path.{◌≡◌}
 use borrow.Author.Rules.{rules}
-use Rattle.values.specs.Patterns.{slots_fit, fits_duration}
 use Rattle.values.proofs.PatternSteps.{steps}
 use Rattle.values.proofs.patterns.fits_duration.Goals as goal
 

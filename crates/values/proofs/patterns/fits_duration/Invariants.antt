@@ -1,8 +1,6 @@
 -- The loops of `values::patterns::fits_duration`. Assumes nothing.
 use mathlib.Core.Path.{◌≡◌}
-use borrow.Author.Rules.{rules}
 use Rattle.values.specs.Patterns.{slots_fit, fits_duration}
-use Rattle.values.proofs.PatternSteps.{steps}
 use Rattle.values.proofs.patterns.fits_duration.Given as goal
 
 abbrev pub invariant-loop-left : goal.invariant-loop-left

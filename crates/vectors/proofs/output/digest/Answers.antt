@@ -1,8 +1,5 @@
 -- `vectors::output::digest` meets its contract. Assumes nothing.
-use Prim.Native.Nat.{◌-◌}
-use lib.ListN.{length}
-use borrow.Author.Rules.{rules}
-use Rattle.vectors.proofs.DigestSteps.{InDigest, digest-first, digest-on, digest-end}
+use Rattle.vectors.proofs.DigestSteps.{digest-first, digest-on, digest-end}
 use Rattle.vectors.proofs.output.digest.Goals as goal
 
 pub loop-i-init : goal.loop-i-init

@@ -1,8 +1,7 @@
 -- The loops of `vectors::output::digest`. Assumes nothing.
 use Prim.Native.Nat.{◌-◌}
 use lib.ListN.{length}
-use borrow.Author.Rules.{rules}
-use Rattle.vectors.proofs.DigestSteps.{InDigest, digest-first, digest-on, digest-end}
+use Rattle.vectors.proofs.DigestSteps.{InDigest}
 use Rattle.vectors.proofs.output.digest.Given as goal
 
 abbrev pub invariant-loop-i : goal.invariant-loop-i

@@ -1,8 +1,5 @@
 -- `vectors::reading::copy` meets its contract. Assumes nothing.
-use Prim.Native.Nat.{◌-◌}
-use lib.ListN.{length}
-use borrow.Author.Rules.{rules}
-use Rattle.vectors.proofs.CopySteps.{InCopy, copy-steps}
+use Rattle.vectors.proofs.CopySteps.{copy-steps}
 use Rattle.vectors.proofs.reading.copy.Goals as goal
 
 pub loop-i-init : goal.loop-i-init

@@ -1,8 +1,7 @@
 -- The loops of `vectors::reading::copy`. Assumes nothing.
 use Prim.Native.Nat.{◌-◌}
 use lib.ListN.{length}
-use borrow.Author.Rules.{rules}
-use Rattle.vectors.proofs.CopySteps.{InCopy, copy-steps}
+use Rattle.vectors.proofs.CopySteps.{InCopy}
 use Rattle.vectors.proofs.reading.copy.Given as goal
 
 abbrev pub invariant-loop-i : goal.invariant-loop-i

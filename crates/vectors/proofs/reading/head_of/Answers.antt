@@ -1,5 +1,4 @@
 -- `vectors::reading::head_of` meets its contract. Assumes nothing.
-use borrow.Author.Rules.{rules}
 use Rattle.vectors.proofs.HeadSteps.{head-none, head-some}
 use Rattle.vectors.proofs.reading.head_of.Goals as goal
 

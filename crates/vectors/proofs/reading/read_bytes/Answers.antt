@@ -1,8 +1,4 @@
 -- `vectors::reading::read_bytes` meets its contract. Assumes nothing.
-use Prim.Native.Nat.{◌-◌}
-use lib.ListN.{length}
-use borrow.Author.Rules.{rules}
-use Rattle.vectors.specs.Reading.{Grown}
 use Rattle.vectors.proofs.Counting.{counts-read}
 use Rattle.vectors.proofs.reading.read_bytes.Goals as goal
 

@@ -1,9 +1,7 @@
 -- The loops of `vectors::reading::read_bytes`. Assumes nothing.
 use Prim.Native.Nat.{◌-◌}
 use lib.ListN.{length}
-use borrow.Author.Rules.{rules}
 use Rattle.vectors.specs.Reading.{Grown}
-use Rattle.vectors.proofs.Counting.{counts-read}
 use Rattle.vectors.proofs.reading.read_bytes.Given as goal
 
 abbrev pub invariant-loop-at : goal.invariant-loop-at

@@ -1,7 +1,5 @@
 -- `vectors::reading::repeat` meets its contract. Assumes nothing.
-use mathlib.Core.Path.{◌≡◌}
-use Prim.Native.Nat.{◌-◌, ◌≤◌}
-use lib.ListN.{length, length-set}
+use lib.ListN.{length-set}
 use borrow.Author.Rules.{rules}
 use Rattle.vectors.proofs.reading.repeat.Goals as goal
 

@@ -1,8 +1,7 @@
 -- The loops of `vectors::reading::repeat`. Assumes nothing.
 use mathlib.Core.Path.{◌≡◌}
 use Prim.Native.Nat.{◌-◌, ◌≤◌}
-use lib.ListN.{length, length-set}
-use borrow.Author.Rules.{rules}
+use lib.ListN.{length}
 use Rattle.vectors.proofs.reading.repeat.Given as goal
 
 abbrev pub invariant-loop-i : goal.invariant-loop-i
