@@ -104,6 +104,7 @@ module _ {bs : List ℕ} {count pool root : ℕ} (t : IsTable bs count pool root
         attribute-names (λ c r number q g. value-names v g s (link-below t h (lit< tt) k 2 _ (lit< tt) refl)) f h.kind k
     attributes-names (Constraints.attribute head v more) (FirstFailure.later y f) (SaysAttributes.attribute h a s rest) k =
         attributes-names more f rest (link-below t h (lit< tt) k 3 _ (lit< tt) refl)
+    attributes-names Constraints.no_more f s k = elim f [ ]
 
     value-names : (v : Value) {c : Content} {r number q n : ℕ} → ValueFails v c r number q → SaysValue bs count n v
         → n < count → Names bs count r number
@@ -111,6 +112,7 @@ module _ {bs : List ℕ} {count pool root : ℕ} (t : IsTable bs count pool root
     value-names (Constraints.nested o) FirstFailure.word_for_block (SaysValue.an_object s) k = object-unsuited s k
     value-names (Constraints.nested o) (FirstFailure.block_fails f) (SaysValue.an_object s) k = object-names o f s k
     value-names (Constraints.leaf l) (FirstFailure.leaf_fails f) (SaysValue.a_leaf s) k = leaf-names f s k
+    value-names Constraints.any f s k = elim f [ ]
 
 pub failure-told : (table : List ℕ) (root : ℕ) (form : List ℕ) (reason number place : ℕ)
     → judge_answer table root form ≡ gave (Verdicts.fails reason number place)

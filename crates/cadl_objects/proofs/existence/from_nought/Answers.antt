@@ -3,29 +3,14 @@ use Rattle.cadl_objects.proofs.ExistenceSteps.{existence-steps}
 use borrow.Author.Rules.{rules}
 use Rattle.cadl_objects.proofs.existence.from_nought.Goals as goal
 
-pub token_at-t-requires : goal.token_at-t-requires
-token_at-t-requires c = search (existence-steps, rules)
-
 pub returns-then-t-ne-DOTS : goal.returns-then-t-ne-DOTS
 returns-then-t-ne-DOTS c = search (existence-steps, rules)
-
-pub token_at-u-requires : goal.token_at-u-requires
-token_at-u-requires c = search (existence-steps, rules)
-
-pub spells-requires : goal.spells-requires
-spells-requires c = search (existence-steps, rules)
 
 pub returns-then-spells : goal.returns-then-spells
 returns-then-spells c = search (existence-steps, rules)
 
-pub spells-requires-2 : goal.spells-requires-2
-spells-requires-2 c = search (existence-steps, rules)
-
 pub returns-then-spells-2 : goal.returns-then-spells-2
 returns-then-spells-2 c = search (existence-steps, rules)
-
-pub syntax_fault-fault-requires : goal.syntax_fault-fault-requires
-syntax_fault-fault-requires c = search (existence-steps, rules)
 
 pub returns : goal.returns
 returns c = search (existence-steps, rules)

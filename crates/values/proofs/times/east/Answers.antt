@@ -3,29 +3,14 @@ use borrow.Author.Rules.{rules}
 use Rattle.values.proofs.TimeSteps.{steps}
 use Rattle.values.proofs.times.east.Goals as goal
 
-pub exactly-requires : goal.exactly-requires
-exactly-requires c = search (steps, rules)
-
-pub up_to-requires : goal.up_to-requires
-up_to-requires c = search (steps, rules)
-
 pub returns-then-exactly : goal.returns-then-exactly
 returns-then-exactly c = search (steps, rules)
-
-pub exactly-requires-2 : goal.exactly-requires-2
-exactly-requires-2 c = search (steps, rules)
 
 pub returns-then-not-exactly : goal.returns-then-not-exactly
 returns-then-not-exactly c = search (steps, rules)
 
-pub up_to-requires-2 : goal.up_to-requires-2
-up_to-requires-2 c = search (steps, rules)
-
 pub returns-then-not-up_to : goal.returns-then-not-up_to
 returns-then-not-up_to c = search (steps, rules)
-
-pub up_to-requires-3 : goal.up_to-requires-3
-up_to-requires-3 c = search (steps, rules)
 
 pub returns : goal.returns
 returns c = search (steps, rules)

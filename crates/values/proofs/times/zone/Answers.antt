@@ -6,20 +6,11 @@ use Rattle.values.proofs.times.zone.Goals as goal
 pub returns-then-z-eq0 : goal.returns-then-z-eq0
 returns-then-z-eq0 c = search (steps, rules)
 
-pub exactly-requires : goal.exactly-requires
-exactly-requires c = search (steps, rules)
-
 pub returns-then-exactly : goal.returns-then-exactly
 returns-then-exactly c = search (steps, rules)
 
-pub east-requires : goal.east-requires
-east-requires c = search (steps, rules)
-
 pub returns-then-east : goal.returns-then-east
 returns-then-east c = search (steps, rules)
-
-pub west-requires : goal.west-requires
-west-requires c = search (steps, rules)
 
 pub returns : goal.returns
 returns c = search (steps, rules)

@@ -3,14 +3,8 @@ use borrow.Author.Rules.{rules}
 use Rattle.values.proofs.WordSteps.{steps}
 use Rattle.values.proofs.words.boolean_of.Goals as goal
 
-pub exactly-requires : goal.exactly-requires
-exactly-requires c = search (steps, rules)
-
 pub returns-then-exactly : goal.returns-then-exactly
 returns-then-exactly c = search (steps, rules)
-
-pub exactly-requires-2 : goal.exactly-requires-2
-exactly-requires-2 c = search (steps, rules)
 
 pub returns-then-exactly-2 : goal.returns-then-exactly-2
 returns-then-exactly-2 c = search (steps, rules)
