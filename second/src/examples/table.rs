@@ -1,5 +1,6 @@
 //! How a file with a table of examples is laid out.
 
+use std::collections::BTreeSet;
 use std::fmt::Write;
 
 /// Cases that belong together, each an antt term, under a comment of one line.
@@ -94,12 +95,18 @@ impl Table {
 
     /// The file's content.
     fn text(&self) -> String {
+        let body = self.body();
         let mut out = format!("-- {} The expectations are the second implementation's.\n", self.about);
         out.push_str("-- This file is written by `example_tables write` of second/. Assumes nothing.\n");
-        for line in self.uses {
+        for line in self.uses.iter().filter_map(|line| import(line, &body)) {
             let _ = writeln!(out, "use {line}");
         }
-        let _ = write!(out, "\npub cases : List {}\ncases =\n", self.case);
+        out + &body
+    }
+
+    /// What stands behind the imports.
+    fn body(&self) -> String {
+        let mut out = format!("\npub cases : List {}\ncases =\n", self.case);
         let mut sign = "";
         for group in &self.groups {
             let _ = writeln!(out, "    -- {}", group.about);
@@ -114,6 +121,26 @@ impl Table {
     }
 }
 
+/// An import of `PATH.{NAME, ..}`, or of a whole file, with the names alone that a text uses; none where it uses none.
+fn import(line: &str, text: &str) -> Option<String> {
+    let words = words(text);
+    let Some((path, names)) = line.strip_suffix('}').and_then(|line| line.split_once('{')) else {
+        let file = line.rsplit('.').next()?;
+        return words.iter().any(|word| word.starts_with(&format!("{file}."))).then(|| line.to_string());
+    };
+    let used = |name: &&str| words.contains(name.trim_matches('◌'));
+    let names: Vec<&str> = names.split(", ").filter(used).collect();
+    (!names.is_empty()).then(|| format!("{path}{{{}}}", names.join(", ")))
+}
+
+/// The words of a text outside its comments and quotes.
+fn words(text: &str) -> BTreeSet<&str> {
+    let code = text.lines().filter(|line| !line.trim_start().starts_with("--"));
+    // each second part of a line is quoted
+    let parts = code.flat_map(|line| line.split('"').step_by(2));
+    parts.flat_map(|part| part.split(|c: char| c.is_whitespace() || "(),".contains(c))).collect()
+}
+
 /// The words of a name, each with its first letter as a capital, in one.
 fn capitalized(name: &str) -> String {
     let word = |word: &str| {
@@ -121,4 +148,22 @@ fn capitalized(name: &str) -> String {
         first.to_uppercase() + rest
     };
     name.split('_').map(word).collect()
+}
+
+#[cfg(test)]
+mod tests {
+    use super::*;
+
+    const TEXT: &str =
+        "\npub cases : List Case\ncases =\n    -- refuses\n    accepts (bytes \"any\") (Data.block [])\n    ∷ []\n";
+
+    #[test]
+    fn an_import_has_the_names_that_are_used() {
+        let kept = |line| import(line, TEXT);
+        assert_eq!(kept("A.{Case, accepts, refuses}"), Some("A.{Case, accepts}".to_string()));
+        assert_eq!(kept("A.{any}"), None);
+        assert_eq!(kept("List.{List, [], ◌∷◌, ◌++◌}"), Some("List.{List, [], ◌∷◌}".to_string()));
+        assert_eq!(kept("A.specs.Data"), Some("A.specs.Data".to_string()));
+        assert_eq!(kept("A.specs.Verdicts"), None);
+    }
 }
