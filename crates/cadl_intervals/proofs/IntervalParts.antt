@@ -11,36 +11,36 @@ use Rattle.refusals.specs.declared.Cause.TheVariants.{OutOfRange, EmptyInterval}
 use Rattle.refusals.specs.Reading.{got, read_then, read_unless}
 use Rattle.refusals.specs.Expecting.{expect, syntax_fault}
 use Rattle.refusals.specs.Parsing.{first_in, wanted}
-use Rattle.refusals.proofs.Parses.{first_then, first-soundly, told-cond, told-noting, told-read, told-then, told-soundly}
+use Rattle.refusals.proofs.Parses.{first_then, first_soundly, told_cond, told_noting, told_read, told_then, told_soundly}
 use Rattle.cadl_intervals.specs.Intervals.{kind_by, ends, least, most, after, literal_value, possible, empty, closed}
 use Rattle.cadl_intervals.specs.Intervals
 use Rattle.cadl_intervals.specs.Clauses.Told.{literal, up_to, above, spread, from, with_literal, between, interval}
 
 module _ (s : List ℕ) where
-  pub literal-is : (kind at : ℕ)
+  pub literal_is : (kind at : ℕ)
       → literal s kind at ≡ read_then (expect s kind at) (λ t p. first_in (possible t (literal_value kind (spelling s t))))
   unfolding literal Intervals.literal
-  literal-is kind at = told-then (wanted s kind at) _ _ _ (told-read (expect s kind at)) (λ t p. refl)
+  literal_is kind at = told_then (wanted s kind at) _ _ _ (told_read (expect s kind at)) (λ t p. refl)
 
   pub up_is : (kind low at : ℕ) → up_to s kind low at
       ≡ cond (eqb (token_at s at).sort less)
       (read_then (literal s kind (token_at s at).end) (λ b p. got (ends kind low b true) p))
       (read_then (literal s kind at) (λ b p. got (ends kind low b false) p))
   unfolding up_to literal Intervals.up_to
-  up_is kind low at = told-cond (eqb (token_at s at).sort less) _ _ _ _ (first_then (Intervals.literal s kind (token_at s at).end) _) (first_then (Intervals.literal s kind at) _)
+  up_is kind low at = told_cond (eqb (token_at s at).sort less) _ _ _ _ (first_then (Intervals.literal s kind (token_at s at).end) _) (first_then (Intervals.literal s kind at) _)
 
-  pub above-is : (kind a at : ℕ) → above s kind a at
+  pub above_is : (kind a at : ℕ) → above s kind a at
       ≡ cond (eqb (token_at s at).sort dots) (up_to s kind (after kind a) (token_at s at).end)
       (got (ends kind (after kind a) (most kind) false) at)
   unfolding above up_to Intervals.above
-  above-is kind a at = told-cond (eqb (token_at s at).sort dots) _ _ _ _ refl refl
+  above_is kind a at = told_cond (eqb (token_at s at).sort dots) _ _ _ _ refl refl
 
-  pub spread-is : (a at : ℕ) → spread s a at
+  pub spread_is : (a at : ℕ) → spread s a at
       ≡ read_then (literal s integer at) (λ d p.
       read_unless (cond (inside a d) false true) OutOfRange (token_at s at).start
       (got (ends integer (around a d).low (around a d).high false) p))
   unfolding spread literal Intervals.spread
-  spread-is a at = told-soundly (Intervals.literal s integer at) _ _ _ refl (λ d p. told-noting (cond (inside a d) false true) OutOfRange (token_at s at).start _ _ refl)
+  spread_is a at = told_soundly (Intervals.literal s integer at) _ _ _ refl (λ d p. told_noting (cond (inside a d) false true) OutOfRange (token_at s at).start _ _ refl)
 
   pub from_is : (kind a at : ℕ) → from s kind a at
       ≡ cond (eqb (token_at s at).sort dots) (up_to s kind a (token_at s at).end)
@@ -49,8 +49,8 @@ module _ (s : List ℕ) where
       (got (ends kind a a false) at))
   unfolding from up_to spread Intervals.from
   from_is kind a at =
-      told-cond (eqb (token_at s at).sort dots) _ _ _ _ refl
-      (told-cond (eqb (token_at s at).sort plus_minus) _ _ _ _ (told-cond (eqb kind date) _ _ _ _ refl refl) refl)
+      told_cond (eqb (token_at s at).sort dots) _ _ _ _ refl
+      (told_cond (eqb (token_at s at).sort plus_minus) _ _ _ _ (told_cond (eqb kind date) _ _ _ _ refl refl) refl)
 
   pub between_is : (kind at : ℕ) → between s kind at
       ≡ cond (eqb (token_at s at).sort greater) (with_literal s kind (token_at s at).end (above s))
@@ -65,15 +65,15 @@ module _ (s : List ℕ) where
   between_is kind at =
       let t = token_at s at in
       let x = Intervals.literal s (kind_by kind (token_at s t.end)) t.end in
-      told-cond (eqb t.sort greater) _ _ _ _ (first-soundly x _) (told-cond (eqb t.sort less) _ _ _ _ (first-soundly x _)
-      (told-cond (eqb t.sort at_most) _ _ _ _ (first-soundly x _) (told-cond (eqb t.sort at_least) _ _ _ _ (first-soundly x _)
-      (first-soundly (Intervals.literal s (kind_by kind t) at) _))))
+      told_cond (eqb t.sort greater) _ _ _ _ (first_soundly x _) (told_cond (eqb t.sort less) _ _ _ _ (first_soundly x _)
+      (told_cond (eqb t.sort at_most) _ _ _ _ (first_soundly x _) (told_cond (eqb t.sort at_least) _ _ _ _ (first_soundly x _)
+      (first_soundly (Intervals.literal s (kind_by kind t) at) _))))
 
-  pub interval-is : (kind at : ℕ) → interval s kind at
+  pub interval_is : (kind at : ℕ) → interval s kind at
       ≡ read_then (between s kind at) (λ e p.
       read_then (expect s bar p)
       (λ t q. read_unless (empty e) EmptyInterval t.start (got (record { kind = e.kind; pair = closed e }) q)))
   unfolding interval between Intervals.interval
-  interval-is kind at =
-      told-soundly (Intervals.between s kind at) _ _ _ refl (λ e p.
-      told-then (wanted s bar p) _ _ _ (told-read (expect s bar p)) (λ t q. told-noting (empty e) EmptyInterval t.start _ _ refl))
+  interval_is kind at =
+      told_soundly (Intervals.between s kind at) _ _ _ refl (λ e p.
+      told_then (wanted s bar p) _ _ _ (told_read (expect s bar p)) (λ t q. told_noting (empty e) EmptyInterval t.start _ _ refl))

@@ -14,8 +14,8 @@ use Rattle.lexis.proofs.Cases.{by_cond}
 use Rattle.values.specs.Integers.{Pair, pair, inside, around, greatest}
 use Rattle.values.specs.Calendar.{real, day_after, day_before, last_day, month_days, leap}
 use Rattle.values.specs.Dates.{Date, date_of}
-use Rattle.values.proofs.IntegerLaws.{integer-in-range, around-ends}
-use Rattle.values.proofs.CalendarLaws.{real-first, real-last, after-follows, before-follows, nearest-before, after_last}
+use Rattle.values.proofs.IntegerLaws.{integer_in_range, around-ends}
+use Rattle.values.proofs.CalendarLaws.{real_first, real_last, after_follows, before_follows, nearest_before, after_last}
 use Rattle.values.proofs.DateLaws.{date-good}
 use Rattle.cadl_intervals.specs.Intervals.{Ends, ends, literal_value, least, most, after, before, empty, closed}
 
@@ -23,12 +23,12 @@ use Rattle.cadl_intervals.specs.Intervals.{Ends, ends, literal_value, least, mos
 abbrev pub Kind : ℕ → Type 0
 Kind kind = kind ≢ date → kind ≡ integer
 
-pub kind-strict : (kind : ℕ) → Kind kind → 1 < kind
-kind-strict kind k = by-date (eqb kind date) refl
+pub kind_strict : (kind : ℕ) → Kind kind → 1 < kind
+kind_strict kind k = by_date (eqb kind date) refl
   where
-    by-date : (b : Bool) → eqb kind date ≡ b → 1 < kind
-    by-date true e = let d = eqb-true kind date e in omega arith
-    by-date false e = let d = k (eqb-false kind date e) in omega arith
+    by_date : (b : Bool) → eqb kind date ≡ b → 1 < kind
+    by_date true e = let d = eqb-true kind date e in omega arith
+    by_date false e = let d = k (eqb-false kind date e) in omega arith
 
 -- a value of a kind
 pub record Value (kind v : ℕ) : Type 0 where
@@ -49,12 +49,12 @@ pub record ProperPair (kind : ℕ) (p : Pair) : Type 0 where
 -- what a literal spells is a value of its kind
 pub value_read : (kind : ℕ) (w : List ℕ) (v : ℕ) → literal_value kind w ≡ some v → Value kind v
 value_read kind w = by_cond (λ (o : Option ℕ). (v : ℕ) → o ≡ some v → Value kind v) (eqb kind date)
-    (λ d v e. record { day = λ k. day-read (date_of w) refl v e; number = λ k. absurd (k (eqb-true kind date d)) })
-    (λ d v e. record { day = λ k. absurd (eqb-false kind date d k); number = λ k. integer-in-range w v e })
+    (λ d v e. record { day = λ k. day_read (date_of w) refl v e; number = λ k. absurd (k (eqb-true kind date d)) })
+    (λ d v e. record { day = λ k. absurd (eqb-false kind date d k); number = λ k. integer_in_range w v e })
   where
-    day-read : (o : Option Date) → date_of w ≡ o → (v : ℕ) → map (λ (d : Date). d.day) o ≡ some v → real v ≡ true
-    day-read none h v e = absurd (none-ne-some v e)
-    day-read (some d) h v e = let k = some-injective d.day v e in rw k at (date-good w d h).is_real
+    day_read : (o : Option Date) → date_of w ≡ o → (v : ℕ) → map (λ (d : Date). d.day) o ≡ some v → real v ≡ true
+    day_read none h v e = absurd (none-ne-some v e)
+    day_read (some d) h v e = let k = some-injective d.day v e in rw k at (date-good w d h).is_real
 
 pub least-good : (kind : ℕ) → kind ≡ date → least kind ≤ last_day → real (least kind) ≡ true
 unfolding real month_days leap
@@ -65,19 +65,19 @@ unfolding real month_days leap
 most-good kind = record { day = λ k. rw (eq-eqb kind date k); number = λ k. rw (ne_eqb kind date k) (omega arith) }
 
 -- an open low end
-next-real : (b : ℕ) → real b ≡ true → day_after b ≤ last_day → real (day_after b) ≡ true
-next-real b r h = by_last (dec_lt b last_day)
+next_real : (b : ℕ) → real b ≡ true → day_after b ≤ last_day → real (day_after b) ≡ true
+next_real b r h = by_last (dec_lt b last_day)
   where
     by_last : Dec (b < last_day) → real (day_after b) ≡ true
-    by_last (yes l) = (after-follows b r l).real-next
+    by_last (yes l) = (after_follows b r l).real_next
     by_last (no l) =
-        let last : b ≤ last_day = real-last b r in
+        let last : b ≤ last_day = real_last b r in
         let e : b ≡ last_day = omega arith in
         let g : day_after last_day ≤ last_day = rw e at h in
         absurd (omega (arith, after_last))
 
 pub after-good : (kind a : ℕ) → Value kind a → kind ≡ date → after kind a ≤ last_day → real (after kind a) ≡ true
-after-good kind a v k = rw (eq-eqb kind date k) (next-real a (v.day k))
+after-good kind a v k = rw (eq-eqb kind date k) (next_real a (v.day k))
 
 -- the ends of `+/-`
 pub spread-good : (a c : ℕ) → a ≤ greatest → inside a c ≡ true
@@ -87,21 +87,21 @@ spread-good a c h i =
     record { low = λ k. absurd (never k); high = record { day = λ k. absurd (never k); number = λ k. (around-ends a c h i).high } }
 
 -- the day before a high end that a low end stays below
-pub below-good : (low b : ℕ) → real low ≡ true → real b ≡ true → low < b
+pub below_good : (low b : ℕ) → real low ≡ true → real b ≡ true → low < b
     → (low ≤ day_before b) × (real (day_before b) ≡ true)
-below-good low b r q h =
-    let f = before-follows b q (omega (arith, real-first low r)) in
-    (nearest-before (day_before b) b low f r h, f.real-here)
+below_good low b r q h =
+    let f = before_follows b q (omega (arith, real_first low r)) in
+    (nearest_before (day_before b) b low f r h, f.real_here)
 
 -- an interval that is not empty is a closed pair
 module _ (kind low high : ℕ) where
   shut-pair : EndsGood (ends kind low high false) → ltb high low ≡ false → ProperPair kind (pair low high)
   shut-pair g h =
       let l : low ≤ high = ltb-false high low h in
-      record { order = l; low = λ k. g.low k (omega (arith, real-last high (g.high.day k))); high = g.high }
+      record { order = l; low = λ k. g.low k (omega (arith, real_last high (g.high.day k))); high = g.high }
 
-  below-pair : EndsGood (ends kind low high true) → leb high low ≡ false → ProperPair kind (pair low (before kind high))
-  below-pair g h =
+  below_pair : EndsGood (ends kind low high true) → leb high low ≡ false → ProperPair kind (pair low (before kind high))
+  below_pair g h =
       let l : low < high = leb-false high low h in
       by_kind (eqb kind date) refl l
     where
@@ -109,15 +109,15 @@ module _ (kind low high : ℕ) where
           → ProperPair kind (pair low (cond b (day_before high) (high - 1)))
       by_kind true e l =
           let k = eqb-true kind date e in
-          let r = g.low k (omega (arith, real-last high (g.high.day k))) in
-          let z = below-good low high r (g.high.day k) l in
+          let r = g.low k (omega (arith, real_last high (g.high.day k))) in
+          let z = below_good low high r (g.high.day k) l in
           record { order = z.0; low = λ q. r; high = record { day = λ q. z.1; number = λ q. absurd (q k) } }
       by_kind false e l =
           let k : kind ≢ date = eqb-false kind date e in
           let m : high ≤ greatest = g.high.number k in
           record { order = omega arith; low = λ q. absurd (k q); high = record { day = λ q. absurd (k q); number = λ q. omega arith } }
 
-pub closed-proper : (kind low high : ℕ) (below : Bool) → EndsGood (ends kind low high below)
+pub closed_proper : (kind low high : ℕ) (below : Bool) → EndsGood (ends kind low high below)
     → empty (ends kind low high below) ≡ false → ProperPair kind (closed (ends kind low high below))
-closed-proper kind low high true g h = below-pair kind low high g h
-closed-proper kind low high false g h = shut-pair kind low high g h
+closed_proper kind low high true g h = below_pair kind low high g h
+closed_proper kind low high false g h = shut-pair kind low high g h

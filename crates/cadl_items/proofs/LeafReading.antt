@@ -18,15 +18,15 @@ use Rattle.lexis.specs.Tokens.{token_at, content_token_at, integer, date, string
 use Rattle.lexis.specs.declared.Token.{Token}
 use Rattle.lexis.proofs.Cases.{and_left, and_right, by_cond}
 use Rattle.lexis.proofs.Places.{Found, token-found}
-use Rattle.lexis.proofs.ContentSteps.{content-found}
-use Rattle.lexis.proofs.Parts.{sub-none, sub-join, sub-wider, part-sub}
+use Rattle.lexis.proofs.ContentSteps.{content_found}
+use Rattle.lexis.proofs.Parts.{sub_none, sub_join, sub_wider, part_sub}
 use Rattle.refusals.specs.Limits.{record_limit, item_limit, string_limit}
 use Rattle.refusals.specs.Parsing.{Parse, parsed, noting}
 use Rattle.refusals.specs.declared.Cause.TheVariants.{TooLong, TooManyItems, TooManyRecords, Overlap}
 use Rattle.refusals.specs.Refusals.{number_of}
 use Rattle.refusals.proofs.Readings.{Holds, ConstraintRefusal}
 use Rattle.refusals.proofs.Tokens.{Passed, strict_of}
-use Rattle.refusals.proofs.Parses.{rank, Ordered, ordered-parsed, ordered-noting, ordered-syntax, ordered-then, ordered-soundly, ordered-wanted, Passes, passes-holds}
+use Rattle.refusals.proofs.Parses.{rank, Ordered, ordered_parsed, ordered-noting, ordered-syntax, ordered_then, ordered-soundly, ordered-wanted, Passes, passes_holds}
 use Rattle.meaning.specs.Constraints.{integers, dates, SingleSort, booleans, date_pattern, time_pattern, duration_pattern, Range, Text, Leaf, single, texts}
 use Rattle.meaning.specs.Constraints
 use Rattle.meaning.specs.Clauses.Proper.{Some, Each, ProperRange, ProperString, ProperLeaf}
@@ -37,7 +37,7 @@ use Rattle.cadl_items.specs.Ranges.{Ranges, ranges}
 use Rattle.cadl_items.specs.Strings.{start_string, go_on_strings, Strings, string_by, further_strings, strings}
 use Rattle.cadl_items.specs.Leaves.{is_boolean, boolean_flag, second_boolean, boolean_list, range_leaf, pattern_flag, is_pattern, leaf}
 use Rattle.cadl_items.specs.Clauses.Told
-use Rattle.cadl_intervals.proofs.IntervalReading.{token-past}
+use Rattle.cadl_intervals.proofs.IntervalReading.{token_past}
 use Rattle.cadl_items.proofs.RangeReading.{Listed, ranges-ordered}
 use Rattle.cadl_items.proofs.RangeReading
 
@@ -75,30 +75,30 @@ module _ (s : List ℕ) where
       ordered-wanted s P sound low string from _ l h (λ e.
       let m = strict_of string (lit< tt) t s from f (eqb-true _ _ e) in
       ordered-noting s P sound low (ltb string_limit (length (inner s t))) TooLong t.start _ 4 refl (lit≤ tt) (lit< tt) (omega (arith, f.start)) (omega (arith, f.inside)) (λ o k b c.
-      ordered-parsed s P o k t t.end
+      ordered_parsed s P o k t t.end
       (record { bound = b; passed = record { start = f.start; order = m; behind = refl; inside = f.inside }; short = λ z. ltb-false string_limit (length (inner s t)) (c z).0 })))
 
   -- a token's inner bytes come from the bytes read
-  pub inner-sub : (from p : ℕ) (t : Token) → Passed s from t p → Sub (inner s t) (part s from p)
-  inner-sub from p t h = part-sub s from (t.start + 1) (t.end - 1) p (omega arith) (omega arith)
+  pub inner_sub : (from p : ℕ) (t : Token) → Passed s from t p → Sub (inner s t) (part s from p)
+  inner_sub from p t h = part_sub s from (t.start + 1) (t.end - 1) p (omega arith) (omega arith)
 
   -- behind a string: what holds of the strings that follow holds with it
-  more-ordered : (number from p : ℕ) (sound : Bool) (low : ℕ) (t : Token) (more : ℕ → Parse (List Text))
+  more_ordered : (number from p : ℕ) (sound : Bool) (low : ℕ) (t : Token) (more : ℕ → Parse (List Text))
       → (sound ≡ true → number ≢ record_limit) → low ≤ rank p 0 → Passed s from t p
       → (sound ≡ true → length (inner s t) ≤ 255)
       → ((q : ℕ) → low ≤ rank q 0 → from + 1 ≤ q → q ≤ length s
       → Ordered s (Passes s q (Texts s (number + 1) q)) sound low (more q))
       → Ordered s (Passes s from (Texts s number from)) sound low
       (go_on_strings s (record { number = number; text = inner s t }) more p)
-  more-ordered number from p sound low t more w b h short k =
+  more_ordered number from p sound low t more w b h short k =
       let P = Passes s from (Texts s number from) in
-      let x = inner-sub from p t h in
+      let x = inner_sub from p t h in
       by_cond (Ordered s P sound low) (eqb (token_at s p).sort comma)
-      (λ e. let f = token-past s p comma h.inside (lit< tt) e in
+      (λ e. let f = token_past s p comma h.inside (lit< tt) e in
       let at = (token_at s p).end in
-      let y = sub-wider s from from p at (omega arith) (omega arith) (omega arith) x in
-      ordered-then s P (Passes s at (Texts s (number + 1) at)) sound low (more at) _ (k at (omega (arith, f.least)) (omega (arith, f.least, h.start, h.order)) f.most) (λ o j l q c z.
-      ordered-parsed s P o j _ q (record {
+      let y = sub_wider s from from p at (omega arith) (omega arith) (omega arith) x in
+      ordered_then s P (Passes s at (Texts s (number + 1) at)) sound low (more at) _ (k at (omega (arith, f.least)) (omega (arith, f.least, h.start, h.order)) f.most) (λ o j l q c z.
+      ordered_parsed s P o j _ q (record {
         bound = z.bound;
         least = omega (arith, z.least, f.least, h.start, h.order);
         most = z.most;
@@ -111,10 +111,10 @@ module _ (s : List ℕ) where
               numbers = ap (λ (xs : List ℕ). number ∷ xs) v.numbers;
               room = λ m. let r = v.room (omega arith) in omega arith;
               proper = (omega arith, (short (c g), v.proper.1));
-              pool = sub-join s from at q (omega arith) (omega (arith, z.least)) y v.pool;
+              pool = sub_join s from at q (omega arith) (omega (arith, z.least)) y v.pool;
             };
       })))
-      (λ e. ordered-parsed s P sound low _ p (record {
+      (λ e. ordered_parsed s P sound low _ p (record {
         bound = b;
         least = omega (arith, h.start, h.order);
         most = h.inside;
@@ -126,18 +126,18 @@ module _ (s : List ℕ) where
               numbers = refl;
               room = λ m. omega arith;
               proper = (omega arith, (short g, tt));
-              pool = sub-join s from p p (omega arith) (omega arith) x (sub-none _);
+              pool = sub_join s from p p (omega arith) (omega arith) x (sub_none _);
             };
       }))
 
   -- a string, and those behind it
-  by-ordered : (full : Bool) (more : Strings) (number : ℕ) (seen : List (List ℕ)) (from : ℕ) (sound : Bool) (low : ℕ)
+  by_ordered : (full : Bool) (more : Strings) (number : ℕ) (seen : List (List ℕ)) (from : ℕ) (sound : Bool) (low : ℕ)
       → low ≤ rank from 0 → from ≤ length s
       → ((n : ℕ) (xs : List (List ℕ)) (q : ℕ) (o : Bool) (l : ℕ) → l ≤ rank q 0 → from + 1 ≤ q → q ≤ length s
       → Ordered s (Passes s q (Texts s n q)) o l (more n xs q))
       → Ordered s (Passes s from (Texts s number from)) sound low (string_by s full more number seen from)
   unfolding number_of
-  by-ordered full more number seen from sound low l h k =
+  by_ordered full more number seen from sound low l h k =
       ordered-soundly s P (StringToken s from) sound low (start_string s from) _ (start-string-ordered from sound low l h) (λ t p q. rest sound low true t p q) (λ j t p q. rest false j false t p q)
     where
       P : Bool → ℕ → List Text → ℕ → Type 0
@@ -154,7 +154,7 @@ module _ (s : List ℕ) where
           ordered-noting s P o j full TooManyItems t.start _ 7 refl (lit≤ tt) (lit< tt) (omega (arith, q.bound)) (omega (arith, z.order, z.inside)) (λ u a b c.
           ordered-noting s P u a (eqb number record_limit) TooManyRecords t.start _ 8 refl (lit≤ tt) (lit< tt) (omega arith) (omega (arith, z.order, z.inside)) (λ v d e f.
           ordered-noting s P v d (short && listed (inner s t) seen) Overlap t.start _ 9 refl (lit≤ tt) (lit< tt) (omega arith) (omega (arith, z.order, z.inside)) (λ w g m n.
-          more-ordered number from p w g t (more (number + 1) (inner s t ∷ seen)) (λ y. eqb-false number record_limit (f (n y).1).0) (omega (arith, z.order)) z (λ y. q.short (c (f (n y).1).1).1)
+          more_ordered number from p w g t (more (number + 1) (inner s t ∷ seen)) (λ y. eqb-false number record_limit (f (n y).1).0) (omega (arith, z.order)) z (λ y. q.short (c (f (n y).1).1).1)
           (λ r x y i. k (number + 1) (inner s t ∷ seen) r w g x y i))))
 
   further-ordered : (fuel number : ℕ) (seen : List (List ℕ)) (from : ℕ) (sound : Bool) (low : ℕ) → low ≤ rank from 0
@@ -163,82 +163,82 @@ module _ (s : List ℕ) where
   unfolding further_strings
   further-ordered zero number seen from sound low l h e = absurd (omega arith)
   further-ordered (suc fuel) number seen from sound low l h e =
-      by-ordered false (further_strings s fuel) number seen from sound low l h (λ n xs q o j b c d. further-ordered fuel n xs q o j b d (omega arith))
+      by_ordered false (further_strings s fuel) number seen from sound low l h (λ n xs q o j b c d. further-ordered fuel n xs q o j b d (omega arith))
 
   pub strings-ordered : (left number : ℕ) (seen : List (List ℕ)) (from : ℕ) (sound : Bool) (low : ℕ) → low ≤ rank from 0
       → from ≤ length s
       → Ordered s (Passes s from (Texts s number from)) sound low (strings s left number seen from)
   unfolding strings
   strings-ordered zero number seen from sound low l h =
-      by-ordered true (further_strings s (length s + 1)) number seen from sound low l h (λ n xs q o j b c d. further-ordered (length s + 1) n xs q o j b d (omega arith))
+      by_ordered true (further_strings s (length s + 1)) number seen from sound low l h (λ n xs q o j b c d. further-ordered (length s + 1) n xs q o j b d (omega arith))
   strings-ordered (suc left) number seen from sound low l h =
-      by-ordered false (strings s left) number seen from sound low l h (λ n xs q o j b c d. strings-ordered left n xs q o j b d)
+      by_ordered false (strings s left) number seen from sound low l h (λ n xs q o j b c d. strings-ordered left n xs q o j b d)
 
-  pub strings-holds : (left number : ℕ) (seen : List (List ℕ)) (from : ℕ) → from ≤ length s
+  pub strings_holds : (left number : ℕ) (seen : List (List ℕ)) (from : ℕ) → from ≤ length s
       → Holds (ConstraintRefusal s) (Texts s number from) (Told.strings s left number seen from)
   unfolding Told.strings
-  strings-holds left number seen from h = passes-holds s from _ _ (strings-ordered left number seen from true 0 (omega arith) h)
+  strings_holds left number seen from h = passes_holds s from _ _ (strings-ordered left number seen from true 0 (omega arith) h)
 
   -- a leaf of one record
-  single-ordered : (sort : SingleSort) (flag number from p : ℕ) (sound : Bool) (low : ℕ)
+  single_ordered : (sort : SingleSort) (flag number from p : ℕ) (sound : Bool) (low : ℕ)
       → (1 ≤ flag) × (flag ≤ (single_row sort).greatest) → (sound ≡ true → number ≢ record_limit) → low ≤ rank p 0
       → from + 1 ≤ p → p ≤ length s
       → Ordered s (Passes s from (LeafRead s number from)) sound low (parsed (single sort number flag) p)
-  single-ordered sort flag number from p sound low g w b h k =
-      ordered-parsed s (Passes s from (LeafRead s number from)) sound low (single sort number flag) p (record {
+  single_ordered sort flag number from p sound low g w b h k =
+      ordered_parsed s (Passes s from (LeafRead s number from)) sound low (single sort number flag) p (record {
         bound = b;
         least = h;
         most = k;
-        tree = λ z. let n = w z in record { least = h; most = k; numbers = refl; room = λ m. omega arith; proper = g; pool = sub-none _ };
+        tree = λ z. let n = w z in record { least = h; most = k; numbers = refl; room = λ m. omega arith; proper = g; pool = sub_none _ };
       })
 
   -- a Boolean's flag is 1 or 2
-  flag-one-two : (t : Token) → (1 ≤ boolean_flag t) × (boolean_flag t ≤ 3)
-  flag-one-two t = by_cond (λ f. (1 ≤ f) × (f ≤ 3)) (eqb t.sort true_word) (λ e. omega arith) (λ e. omega arith)
+  flag_one_two : (t : Token) → (1 ≤ boolean_flag t) × (boolean_flag t ≤ 3)
+  flag_one_two t = by_cond (λ f. (1 ≤ f) × (f ≤ 3)) (eqb t.sort true_word) (λ e. omega arith) (λ e. omega arith)
 
-  boolean-strict : (t : Token) (from : ℕ) → Found s from t → is_boolean t ≡ true → t.start < t.end
-  boolean-strict t from f e = by_word (eqb t.sort true_word) refl
+  boolean_strict : (t : Token) (from : ℕ) → Found s from t → is_boolean t ≡ true → t.start < t.end
+  boolean_strict t from f e = by_word (eqb t.sort true_word) refl
     where
       by_word : (b : Bool) → eqb t.sort true_word ≡ b → t.start < t.end
       by_word true x = strict_of true_word (lit< tt) t s from f (eqb-true _ _ x)
       by_word false x = strict_of false_word (lit< tt) t s from f (eqb-true _ _ (rw x at e))
 
-  second-ordered : (number flag first from : ℕ) (sound : Bool) (low : ℕ) → (sound ≡ true → number ≢ record_limit)
+  second_ordered : (number flag first from : ℕ) (sound : Bool) (low : ℕ) → (sound ≡ true → number ≢ record_limit)
       → first ≤ from → low ≤ rank from 0 → from ≤ length s
       → Ordered s (Passes s first (LeafRead s number first)) sound low (second_boolean s number flag from)
   unfolding second_boolean number_of
-  second-ordered number flag first from sound low w m l h =
+  second_ordered number flag first from sound low w m l h =
       let P = Passes s first (LeafRead s number first) in
       let t = token_at s from in
       let f = token-found s from h in
       by_cond (Ordered s P sound low) (is_boolean t)
-      (λ e. let g = boolean-strict t from f e in
+      (λ e. let g = boolean_strict t from f e in
       ordered-noting s P sound low (eqb (boolean_flag t) flag) Overlap t.start _ 9 refl (lit≤ tt) (lit< tt) (omega (arith, f.start)) (omega (arith, f.inside)) (λ o j b c.
-      single-ordered booleans 3 number first t.end o j (omega arith) (λ z. w (c z).1) (omega arith) (omega (arith, f.start)) f.inside))
+      single_ordered booleans 3 number first t.end o j (omega arith) (λ z. w (c z).1) (omega arith) (omega (arith, f.start)) f.inside))
       (λ e. ordered-syntax s P sound low from t l f)
 
-  boolean-ordered : (number from : ℕ) (sound : Bool) (low : ℕ) → (sound ≡ true → number ≢ record_limit)
+  boolean_ordered : (number from : ℕ) (sound : Bool) (low : ℕ) → (sound ≡ true → number ≢ record_limit)
       → low ≤ rank (content_token_at s from).start 8 → from ≤ length s → is_boolean (content_token_at s from) ≡ true
       → Ordered s (Passes s from (LeafRead s number from)) sound low (boolean_list s number (content_token_at s from))
   unfolding boolean_list
-  boolean-ordered number from sound low w l h e =
+  boolean_ordered number from sound low w l h e =
       let t = content_token_at s from in
-      let f = content-found s from h in
-      let g = boolean-strict t from f e in
+      let f = content_found s from h in
+      let g = boolean_strict t from f e in
       by_cond (Ordered s (Passes s from (LeafRead s number from)) sound low) (eqb (token_at s t.end).sort comma)
-      (λ x. let b = token-past s t.end comma f.inside (lit< tt) x in
-      second-ordered number (boolean_flag t) from (token_at s t.end).end sound low w (omega (arith, f.start, b.least)) (omega (arith, b.least)) b.most)
-      (λ x. single-ordered booleans (boolean_flag t) number from t.end sound low (flag-one-two t) w (omega arith) (omega (arith, f.start)) f.inside)
+      (λ x. let b = token_past s t.end comma f.inside (lit< tt) x in
+      second_ordered number (boolean_flag t) from (token_at s t.end).end sound low w (omega (arith, f.start, b.least)) (omega (arith, b.least)) b.most)
+      (λ x. single_ordered booleans (boolean_flag t) number from t.end sound low (flag_one_two t) w (omega arith) (omega (arith, f.start)) f.inside)
 
-  integers-proper : (kind : ℕ) → kind ≢ date → (l : List Range) → Each (RangeReading.ProperRange kind) l
+  integers_proper : (kind : ℕ) → kind ≢ date → (l : List Range) → Each (RangeReading.ProperRange kind) l
       → Each (ProperRange integers) l
-  integers-proper kind d [] h = tt
-  integers-proper kind d (x ∷ xs) h = (record { order = h.0.order; most = h.0.high.number d }, integers-proper kind d xs h.1)
+  integers_proper kind d [] h = tt
+  integers_proper kind d (x ∷ xs) h = (record { order = h.0.order; most = h.0.high.number d }, integers_proper kind d xs h.1)
 
-  dates-proper : (kind : ℕ) → kind ≡ date → (l : List Range) → Each (RangeReading.ProperRange kind) l
+  dates_proper : (kind : ℕ) → kind ≡ date → (l : List Range) → Each (RangeReading.ProperRange kind) l
       → Each (ProperRange dates) l
-  dates-proper kind d [] h = tt
-  dates-proper kind d (x ∷ xs) h = (record { order = h.0.order; low = h.0.low d; high = h.0.high.day d }, dates-proper kind d xs h.1)
+  dates_proper kind d [] h = tt
+  dates_proper kind d (x ∷ xs) h = (record { order = h.0.order; low = h.0.low d; high = h.0.high.day d }, dates_proper kind d xs h.1)
 
   range-leaf : (number from p : ℕ) (l : Ranges) → Listed s undecided number from l p
       → LeafRead s number from (range_leaf l) p
@@ -251,32 +251,32 @@ module _ (s : List ℕ) where
         most = h.most;
         numbers = h.numbers;
         room = h.room;
-        proper = (h.proper.0, dates-proper l.kind (eqb-true _ _ e) l.items h.proper.1);
-        pool = sub-none _;
+        proper = (h.proper.0, dates_proper l.kind (eqb-true _ _ e) l.items h.proper.1);
+        pool = sub_none _;
       }
       by_kind false e = record {
         least = h.least;
         most = h.most;
         numbers = h.numbers;
         room = h.room;
-        proper = (h.proper.0, integers-proper l.kind (eqb-false _ _ e) l.items h.proper.1);
-        pool = sub-none _;
+        proper = (h.proper.0, integers_proper l.kind (eqb-false _ _ e) l.items h.proper.1);
+        pool = sub_none _;
       }
 
   -- a pattern's sort is from 31, 41 or 101 on, and its flag is counted from there
-  pattern-ordered : (sort : SingleSort) (first number from : ℕ) (sound : Bool) (low : ℕ) → 0 < first → from ≤ length s
+  pattern_ordered : (sort : SingleSort) (first number from : ℕ) (sound : Bool) (low : ℕ) → 0 < first → from ≤ length s
       → is_pattern sort first (content_token_at s from) ≡ true → (sound ≡ true → number ≢ record_limit)
       → low ≤ rank (content_token_at s from).start 8
       → Ordered s (Passes s from (LeafRead s number from)) sound low
       (parsed (single sort number (pattern_flag first (content_token_at s from))) (content_token_at s from).end)
-  pattern-ordered sort first number from sound low k h e w b =
+  pattern_ordered sort first number from sound low k h e w b =
       let t = content_token_at s from in
-      let f = content-found s from h in
+      let f = content_found s from h in
       let most = (single_row sort).greatest in
       let l = leb-true (first + 1) t.sort (and_left _ _ e) in
       let m = leb-true t.sort (first + most) (and_right (leb (first + 1) t.sort) _ e) in
       let x = f.strict (λ z. absurd (omega arith)) (λ z. absurd (omega arith)) in
-      single-ordered sort (pattern_flag first t) number from t.end sound low (omega arith) w (omega arith) (omega (arith, f.start)) f.inside
+      single_ordered sort (pattern_flag first t) number from t.end sound low (omega arith) w (omega arith) (omega (arith, f.start)) f.inside
 
   pub leaf-ordered : (number from : ℕ) (sound : Bool) (low : ℕ) → low ≤ rank from 0 → from ≤ length s
       → Ordered s (Passes s from (LeafRead s number from)) sound low (leaf s number from)
@@ -285,24 +285,24 @@ module _ (s : List ℕ) where
       let P = Passes s from (LeafRead s number from) in
       let C = Ordered s P sound low in
       let t = content_token_at s from in
-      let f = content-found s from h in
+      let f = content_found s from h in
       let room : (more : Parse Leaf) → ((o : Bool) (j : ℕ) → (o ≡ true → number ≢ record_limit) → j ≤ rank t.start 8 → Ordered s P o j more) → C (noting (eqb number record_limit) TooManyRecords t.start more) =
       λ more k. ordered-noting s P sound low (eqb number record_limit) TooManyRecords t.start more 8 refl (lit≤ tt) (lit< tt) (omega (arith, f.start)) (omega (arith, f.order, f.inside))
       (λ o j b c. k o j (λ z. eqb-false number record_limit (c z).0) b) in
-      by_cond C (is_boolean t) (λ e. room _ (λ o j w b. boolean-ordered number from o j w b h e)) (λ e.
+      by_cond C (is_boolean t) (λ e. room _ (λ o j w b. boolean_ordered number from o j w b h e)) (λ e.
       by_cond C (eqb t.sort integer || eqb t.sort bar)
-      (λ g. ordered-then s P (Passes s from (Listed s undecided number from)) sound low (ranges s item_limit undecided number [] from) _
+      (λ g. ordered_then s P (Passes s from (Listed s undecided number from)) sound low (ranges s item_limit undecided number [] from) _
       (ranges-ordered s item_limit undecided number [] from sound low (λ m. absurd (m refl)) l h)
-      (λ o j x p c q. ordered-parsed s P o j (range_leaf x) p (record { bound = q.bound; least = q.least; most = q.most; tree = λ z. range-leaf number from p x (q.tree z) })))
+      (λ o j x p c q. ordered_parsed s P o j (range_leaf x) p (record { bound = q.bound; least = q.least; most = q.most; tree = λ z. range-leaf number from p x (q.tree z) })))
       (λ g. by_cond C (eqb t.sort string)
-      (λ x. ordered-then s P (Passes s from (Texts s number from)) sound low (strings s item_limit number [] from) _ (strings-ordered item_limit number [] from sound low l h)
-      (λ o j x p c q. ordered-parsed s P o j (texts x) p (record { bound = q.bound; least = q.least; most = q.most; tree = q.tree })))
-      (λ x. by_cond C (is_pattern date_pattern Spelling.date_pattern t) (λ y. room _ (λ o j w b. pattern-ordered date_pattern Spelling.date_pattern number from o j (lit< tt) h y w b))
-      (λ y. by_cond C (is_pattern time_pattern Spelling.time_pattern t) (λ z. room _ (λ o j w b. pattern-ordered time_pattern Spelling.time_pattern number from o j (lit< tt) h z w b))
-      (λ z. by_cond C (is_pattern duration_pattern Durations.duration_pattern t) (λ v. room _ (λ o j w b. pattern-ordered duration_pattern Durations.duration_pattern number from o j (lit< tt) h v w b))
+      (λ x. ordered_then s P (Passes s from (Texts s number from)) sound low (strings s item_limit number [] from) _ (strings-ordered item_limit number [] from sound low l h)
+      (λ o j x p c q. ordered_parsed s P o j (texts x) p (record { bound = q.bound; least = q.least; most = q.most; tree = q.tree })))
+      (λ x. by_cond C (is_pattern date_pattern Spelling.date_pattern t) (λ y. room _ (λ o j w b. pattern_ordered date_pattern Spelling.date_pattern number from o j (lit< tt) h y w b))
+      (λ y. by_cond C (is_pattern time_pattern Spelling.time_pattern t) (λ z. room _ (λ o j w b. pattern_ordered time_pattern Spelling.time_pattern number from o j (lit< tt) h z w b))
+      (λ z. by_cond C (is_pattern duration_pattern Durations.duration_pattern t) (λ v. room _ (λ o j w b. pattern_ordered duration_pattern Durations.duration_pattern number from o j (lit< tt) h v w b))
       (λ v. ordered-syntax s P sound low from t l f))))))
 
-  pub leaf-holds : (number from : ℕ) → from ≤ length s
+  pub leaf_holds : (number from : ℕ) → from ≤ length s
       → Holds (ConstraintRefusal s) (LeafRead s number from) (Told.leaf s number from)
   unfolding Told.leaf
-  leaf-holds number from h = passes-holds s from _ _ (leaf-ordered number from true 0 (omega arith) h)
+  leaf_holds number from h = passes_holds s from _ _ (leaf-ordered number from true 0 (omega arith) h)

@@ -32,66 +32,66 @@ use Rattle.cadl_items.specs.declared.leaves.SingleSort.TheVariants as single_sor
 use Rattle.cadl_items.specs.declared.leaves.RangeSort.TheVariants as range_sort
 use Rattle.cadl_items.specs.declared.leaves.LeafRead.{LeafRead}
 use Rattle.cadl_items.specs.declared.leaves.LeafRead.TheVariants as leaf_read
-use Rattle.cadl_items.proofs.LeafParts.{second_is, boolean-is, leaf-is}
-use Rattle.cadl_items.proofs.RangeReading.{Listed, ranges-holds}
-use Rattle.cadl_items.proofs.LeafReading.{Texts, strings-holds, leaf-holds}
+use Rattle.cadl_items.proofs.LeafParts.{second_is, boolean_is, leaf_is}
+use Rattle.cadl_items.proofs.RangeReading.{Listed, ranges_holds}
+use Rattle.cadl_items.proofs.LeafReading.{Texts, strings_holds, leaf_holds}
 use Rattle.cadl_items.proofs.LeafReading as reading
 
 -- Booleans
 module _ (t : Token) where
-  pub boolean-true : t.sort ≡ true_word → true ≡ is_boolean t
-  boolean-true k = rw (eq-eqb t.sort true_word k)
+  pub boolean_true : t.sort ≡ true_word → true ≡ is_boolean t
+  boolean_true k = rw (eq-eqb t.sort true_word k)
 
-  pub boolean-else : (t.sort ≡ true_word → ⊥) → eqb t.sort false_word ≡ is_boolean t
-  boolean-else n = rw (ne_eqb t.sort true_word n)
+  pub boolean_else : (t.sort ≡ true_word → ⊥) → eqb t.sort false_word ≡ is_boolean t
+  boolean_else n = rw (ne_eqb t.sort true_word n)
 
   pub flag_true : t.sort ≡ true_word → 1 ≡ boolean_flag t
   flag_true k = rw (eq-eqb t.sort true_word k)
 
-  pub flag-false : (t.sort ≡ true_word → ⊥) → 2 ≡ boolean_flag t
-  flag-false n = rw (ne_eqb t.sort true_word n)
+  pub flag_false : (t.sort ≡ true_word → ⊥) → 2 ≡ boolean_flag t
+  flag_false n = rw (ne_eqb t.sort true_word n)
 
 -- the second Boolean
 module _ (s : List ℕ) (flag at : ℕ) (t : Token) (tok : TokenIs s at (token_at s at) t) (b : Bool)
     (h : b ≡ is_boolean t) where
-  pub second-other : not b ≡ true → (x : Refusal) → x ≡ refusal (syntax_cause t) t.start
+  pub second_other : not b ≡ true → (x : Refusal) → x ≡ refusal (syntax_cause t) t.start
       → EveryIs s (second_by s flag at) (leaf_read.Faulty x)
   unfolding second_by
-  second-other k x e = record { is = λ number scratch. rw (second_is s number flag at, ← tok.is, ← h, not-true b k, e); one = tt }
+  second_other k x e = record { is = λ number scratch. rw (second_is s number flag at, ← tok.is, ← h, not-true b k, e); one = tt }
 
   module _ (k : not b ≡ false) (f : ℕ) (e : f ≡ boolean_flag t) where
-    pub second-same : f ≡ flag → EveryIs s (second_by s flag at) (leaf_read.Faulty (refusal Overlap t.start))
+    pub second_same : f ≡ flag → EveryIs s (second_by s flag at) (leaf_read.Faulty (refusal Overlap t.start))
     unfolding second_by
-    second-same g = record { is = λ number scratch. rw (second_is s number flag at, ← tok.is, ← h, not-false b k, ← e, eq-eqb f flag g); one = tt }
+    second_same g = record { is = λ number scratch. rw (second_is s number flag at, ← tok.is, ← h, not-false b k, ← e, eq-eqb f flag g); one = tt }
 
-    pub second-both : (f ≡ flag → ⊥) → EveryIs s (second_by s flag at) (leaf_read.Single single_sort.Booleans 3 t.end)
+    pub second_both : (f ≡ flag → ⊥) → EveryIs s (second_by s flag at) (leaf_read.Single single_sort.Booleans 3 t.end)
     unfolding second_by
-    second-both n = record { is = λ number scratch. rw (second_is s number flag at, ← tok.is, ← h, not-false b k, ← e, ne_eqb f flag n); one = tt }
+    second_both n = record { is = λ number scratch. rw (second_is s number flag at, ← tok.is, ← h, not-false b k, ← e, ne_eqb f flag n); one = tt }
 
 -- Booleans by comma
 module _ (s : List ℕ) (t : Token) (f : ℕ) (e : f ≡ boolean_flag t) (u : Token)
     (tok : TokenIs s t.end (token_at s t.end) u) where
-  pub list-second : u.sort ≡ comma → (r : LeafRead) → EveryIs s (second_by s f u.end) r
+  pub list_second : u.sort ≡ comma → (r : LeafRead) → EveryIs s (second_by s f u.end) r
       → EveryIs s (booleans_by s t) r
   unfolding booleans_by second_by
-  list-second k r d = record { is = λ number scratch. rw (boolean-is s number t, ← tok.is, eq-eqb u.sort comma k, ← e) (d.is number scratch); one = d.one }
+  list_second k r d = record { is = λ number scratch. rw (boolean_is s number t, ← tok.is, eq-eqb u.sort comma k, ← e) (d.is number scratch); one = d.one }
 
-  pub list-one : (u.sort ≡ comma → ⊥) → EveryIs s (booleans_by s t) (leaf_read.Single single_sort.Booleans f t.end)
+  pub list_one : (u.sort ≡ comma → ⊥) → EveryIs s (booleans_by s t) (leaf_read.Single single_sort.Booleans f t.end)
   unfolding booleans_by second_by
-  list-one n = record { is = λ number scratch. rw (boolean-is s number t, ← tok.is, ne_eqb u.sort comma n, ← e); one = tt }
+  list_one n = record { is = λ number scratch. rw (boolean_is s number t, ← tok.is, ne_eqb u.sort comma n, ← e); one = tt }
 
 -- room for the leaf's record
 module _ (number place : ℕ) (l : LeafRead) where
-  pub roomed-none : number ≡ record_limit → leaf_read.Faulty (refusal TooManyRecords place) ≡ roomed number place l
-  roomed-none k = rw (eq-eqb number record_limit k)
+  pub roomed_none : number ≡ record_limit → leaf_read.Faulty (refusal TooManyRecords place) ≡ roomed number place l
+  roomed_none k = rw (eq-eqb number record_limit k)
 
-  pub roomed-some : (number ≡ record_limit → ⊥) → l ≡ roomed number place l
-  roomed-some n = rw (ne_eqb number record_limit n)
+  pub roomed_some : (number ≡ record_limit → ⊥) → l ≡ roomed number place l
+  roomed_some n = rw (ne_eqb number record_limit n)
 
-  roomed-is : (s : List ℕ) (reading : Reading Leaf) → ((scratch : List ℕ) → leaf_reading s number scratch l ≡ reading)
+  roomed_is : (s : List ℕ) (reading : Reading Leaf) → ((scratch : List ℕ) → leaf_reading s number scratch l ≡ reading)
       → OneRecord l
       → OneIs s number (read_unless (eqb number record_limit) TooManyRecords place reading) (roomed number place l)
-  roomed-is s reading e o = by (eqb number record_limit)
+  roomed_is s reading e o = by (eqb number record_limit)
     where
       by : (b : Bool)
           → OneIs s number (cond b (refuse TooManyRecords place) reading)
@@ -99,11 +99,11 @@ module _ (number place : ℕ) (l : LeafRead) where
       by true = record { is = λ scratch. refl; one = tt }
       by false = record { is = e; one = o }
 
-within-true : (low high n : ℕ) → low ≤ n → n ≤ high → within low high n ≡ true
-within-true low high n a b = rw (le-leb low n a, le-leb n high b)
+within_true : (low high n : ℕ) → low ≤ n → n ≤ high → within low high n ≡ true
+within_true low high n a b = rw (le-leb low n a, le-leb n high b)
 
-within-false : (low high n : ℕ) → (low ≤ n → n ≤ high → ⊥) → within low high n ≡ false
-within-false low high n f = by (leb low n) (leb n high) refl refl
+within_false : (low high n : ℕ) → (low ≤ n → n ≤ high → ⊥) → within low high n ≡ false
+within_false low high n f = by (leb low n) (leb n high) refl refl
   where
     by : (a b : Bool) → leb low n ≡ a → leb n high ≡ b → within low high n ≡ false
     by true true x y = absurd (f (leb-true low n x) (leb-true n high y))
@@ -112,56 +112,56 @@ within-false low high n f = by (leb low n) (leb n high) refl refl
 
 -- a leaf of one record
 module _ (s : List ℕ) (number : ℕ) (t : Token) (b : Bool) (h : b ≡ is_boolean t) where
-  pub single-boolean : b ≡ true → (l r : LeafRead) → EveryIs s (booleans_by s t) l → r ≡ roomed number t.start l
+  pub single_boolean : b ≡ true → (l r : LeafRead) → EveryIs s (booleans_by s t) l → r ≡ roomed number t.start l
       → OneIs s number (single_leaf s number t) r
   unfolding single_leaf booleans_by
-  single-boolean k l r e g = rw (g, ← h, k) (roomed-is number t.start l s (boolean_list s number t) (e.is number) e.one)
+  single_boolean k l r e g = rw (g, ← h, k) (roomed_is number t.start l s (boolean_list s number t) (e.is number) e.one)
 
   module _ (k : b ≡ false) where
-    pub single-date : 31 ≤ t.sort → t.sort < 36 → (r : LeafRead)
+    pub single_date : 31 ≤ t.sort → t.sort < 36 → (r : LeafRead)
         → r ≡ roomed number t.start (leaf_read.Single single_sort.DatePattern (t.sort - 30) t.end)
         → OneIs s number (single_leaf s number t) r
     unfolding single_leaf
-    single-date x y r g =
-        let w = within-true 31 35 t.sort x (omega arith) in
-        rw (g, ← h, k, w) (roomed-is number t.start (leaf_read.Single single_sort.DatePattern (t.sort - 30) t.end) s _ (λ scratch. refl) tt)
+    single_date x y r g =
+        let w = within_true 31 35 t.sort x (omega arith) in
+        rw (g, ← h, k, w) (roomed_is number t.start (leaf_read.Single single_sort.DatePattern (t.sort - 30) t.end) s _ (λ scratch. refl) tt)
 
-    pub single-time : 41 ≤ t.sort → t.sort < 45 → (r : LeafRead)
+    pub single_time : 41 ≤ t.sort → t.sort < 45 → (r : LeafRead)
         → r ≡ roomed number t.start (leaf_read.Single single_sort.TimePattern (t.sort - 40) t.end)
         → OneIs s number (single_leaf s number t) r
     unfolding single_leaf
-    single-time x y r g =
-        let v = within-false 31 35 t.sort (λ a c. omega arith) in
-        let w = within-true 41 44 t.sort x (omega arith) in
-        rw (g, ← h, k, v, w) (roomed-is number t.start (leaf_read.Single single_sort.TimePattern (t.sort - 40) t.end) s _ (λ scratch. refl) tt)
+    single_time x y r g =
+        let v = within_false 31 35 t.sort (λ a c. omega arith) in
+        let w = within_true 41 44 t.sort x (omega arith) in
+        rw (g, ← h, k, v, w) (roomed_is number t.start (leaf_read.Single single_sort.TimePattern (t.sort - 40) t.end) s _ (λ scratch. refl) tt)
 
-    pub single-duration : 101 ≤ t.sort → t.sort < 228 → (r : LeafRead)
+    pub single_duration : 101 ≤ t.sort → t.sort < 228 → (r : LeafRead)
         → r ≡ roomed number t.start (leaf_read.Single single_sort.DurationPattern (t.sort - 100) t.end)
         → OneIs s number (single_leaf s number t) r
     unfolding single_leaf
-    single-duration x y r g =
-        let u = within-false 31 35 t.sort (λ a c. omega arith) in
-        let v = within-false 41 44 t.sort (λ a c. omega arith) in
-        let w = within-true 101 227 t.sort x (omega arith) in
-        rw (g, ← h, k, u, v, w) (roomed-is number t.start (leaf_read.Single single_sort.DurationPattern (t.sort - 100) t.end) s _ (λ scratch. refl) tt)
+    single_duration x y r g =
+        let u = within_false 31 35 t.sort (λ a c. omega arith) in
+        let v = within_false 41 44 t.sort (λ a c. omega arith) in
+        let w = within_true 101 227 t.sort x (omega arith) in
+        rw (g, ← h, k, u, v, w) (roomed_is number t.start (leaf_read.Single single_sort.DurationPattern (t.sort - 100) t.end) s _ (λ scratch. refl) tt)
 
-    pub single-other : (31 ≤ t.sort → t.sort ≤ 35 → ⊥) → (41 ≤ t.sort → t.sort ≤ 44 → ⊥)
+    pub single_other : (31 ≤ t.sort → t.sort ≤ 35 → ⊥) → (41 ≤ t.sort → t.sort ≤ 44 → ⊥)
         → (101 ≤ t.sort → t.sort ≤ 227 → ⊥) → (x : Refusal)
         → x ≡ refusal (syntax_cause t) t.start → OneIs s number (single_leaf s number t) (leaf_read.Faulty x)
     unfolding single_leaf
-    single-other l m n x e =
-        let u = within-false 31 35 t.sort l in
-        let v = within-false 41 44 t.sort m in
-        let w = within-false 101 227 t.sort n in
+    single_other l m n x e =
+        let u = within_false 31 35 t.sort l in
+        let v = within_false 41 44 t.sort m in
+        let w = within_false 101 227 t.sort n in
         record { is = λ scratch. rw (← h, k, u, v, w, e); one = tt }
 
 -- a list of integers or of dates
 module _ (s : List ℕ) (number at : ℕ) (scratch : List ℕ) (d : ListRoom s number at) (r : RangesRead)
     (e : RangesIs s number at scratch r) where
-  pub range-faulty : (x : Refusal) → r ≡ ranges_read.Faulty x
+  pub range_faulty : (x : Refusal) → r ≡ ranges_read.Faulty x
       → LeafIs s number at (ranges_leaf s number at) scratch (leaf_read.Faulty x)
   unfolding ranges_leaf
-  range-faulty x g = let h : ranges s item_limit undecided number [] at ≡ refused x = sym e.is ∙ ap (ranges_reading number scratch) g in record { is = rw h; past = tt }
+  range_faulty x g = let h : ranges s item_limit undecided number [] at ≡ refused x = sym e.is ∙ ap (ranges_reading number scratch) g in record { is = rw h; past = tt }
 
   module _ (kind count p : ℕ) (g : r ≡ ranges_read.Ranges kind count p) where
     listed : ranges s item_limit undecided number [] at
@@ -170,23 +170,23 @@ module _ (s : List ℕ) (number at : ℕ) (scratch : List ℕ) (d : ListRoom s n
 
     lies : Listed s undecided number at (record { kind = kind; items = items_from (range_at scratch) number 0 count }) p
     unfolding Holds
-    lies = rw listed at (ranges-holds s item_limit undecided number [] at (λ m. absurd (m refl)) d.inside)
+    lies = rw listed at (ranges_holds s item_limit undecided number [] at (λ m. absurd (m refl)) d.inside)
 
     few : RangesPast s number (ranges_read.Ranges kind count p)
     few = rw g at e.past
 
-    pub range-dates : kind ≡ date
+    pub range_dates : kind ≡ date
         → LeafIs s number at (ranges_leaf s number at) scratch (leaf_read.Ranges range_sort.Dates count p)
     unfolding ranges_leaf
-    range-dates k =
+    range_dates k =
         let l = lies in
         let f = few in
         record { is = rw (listed, eq-eqb kind date k); past = record { order = omega arith; inside = l.most; some = f.0; few = f.1; records = f.2 } }
 
-    pub range-integers : (kind ≡ date → ⊥)
+    pub range_integers : (kind ≡ date → ⊥)
         → LeafIs s number at (ranges_leaf s number at) scratch (leaf_read.Ranges range_sort.Integers count p)
     unfolding ranges_leaf
-    range-integers n =
+    range_integers n =
         let l = lies in
         let f = few in
         record { is = rw (listed, ne_eqb kind date n); past = record { order = omega arith; inside = l.most; some = f.0; few = f.1; records = f.2 } }
@@ -194,47 +194,47 @@ module _ (s : List ℕ) (number at : ℕ) (scratch : List ℕ) (d : ListRoom s n
 -- a list of strings
 module _ (s : List ℕ) (number at : ℕ) (scratch : List ℕ) (d : LeafRoom s number at) (r : StringsRead)
     (e : StringsIs s number at scratch r) where
-  pub strings-faulty : (x : Refusal) → r ≡ strings_read.Faulty x
+  pub strings_faulty : (x : Refusal) → r ≡ strings_read.Faulty x
       → LeafIs s number at (string_leaf s number at) scratch (leaf_read.Faulty x)
   unfolding string_leaf
-  strings-faulty x g = let h : strings s item_limit number [] at ≡ refused x = sym e.is ∙ ap (strings_reading s number scratch) g in record { is = rw h; past = tt }
+  strings_faulty x g = let h : strings s item_limit number [] at ≡ refused x = sym e.is ∙ ap (strings_reading s number scratch) g in record { is = rw h; past = tt }
 
-  pub strings-there : (count p : ℕ) → r ≡ strings_read.Strings count p
+  pub strings_there : (count p : ℕ) → r ≡ strings_read.Strings count p
       → LeafIs s number at (string_leaf s number at) scratch (leaf_read.Strings count p)
   unfolding string_leaf Holds
-  strings-there count p g =
+  strings_there count p g =
       let h : strings s item_limit number [] at ≡ got (items_from (text_at s scratch) number 0 count) p = sym e.is ∙ ap (strings_reading s number scratch) g in
-      let l : Texts s number at (items_from (text_at s scratch) number 0 count) p = rw h at (strings-holds s item_limit number [] at d.inside) in
+      let l : Texts s number at (items_from (text_at s scratch) number 0 count) p = rw h at (strings_holds s item_limit number [] at d.inside) in
       let f : StringsPast s number scratch (strings_read.Strings count p) = rw g at e.past in
       record { is = rw h; past = record { order = omega arith; inside = l.most; texts = f } }
 
 -- a leaf of one record lies in the text, and there is room for it
-one-past : (s : List ℕ) (number at : ℕ) (scratch : List ℕ) → LeafRoom s number at → (r : LeafRead) → OneRecord r
+one_past : (s : List ℕ) (number at : ℕ) (scratch : List ℕ) → LeafRoom s number at → (r : LeafRead) → OneRecord r
     → leaf_reading s number scratch r ≡ leaf s number at → LeafPast s number at scratch r
 unfolding Holds
-one-past s number at scratch d (leaf_read.Faulty x) o e = tt
-one-past s number at scratch d (leaf_read.Single sort flag p) o e =
-    let l : reading.LeafRead s number at (single (single_of sort) number flag) p = rw (sym e) at (leaf-holds s number at d.inside) in
+one_past s number at scratch d (leaf_read.Faulty x) o e = tt
+one_past s number at scratch d (leaf_read.Single sort flag p) o e =
+    let l : reading.LeafRead s number at (single (single_of sort) number flag) p = rw (sym e) at (leaf_holds s number at d.inside) in
     let m = l.room d.records in
     record { order = omega arith; inside = l.most; records = omega arith }
-one-past s number at scratch d (leaf_read.Ranges sort count p) o e = absurd o
-one-past s number at scratch d (leaf_read.Strings count p) o e = absurd o
+one_past s number at scratch d (leaf_read.Ranges sort count p) o e = absurd o
+one_past s number at scratch d (leaf_read.Strings count p) o e = absurd o
 
 -- a leaf, by its first token
 module _ (s : List ℕ) (number at : ℕ) (t : Token) (tok : TokenIs s at (content_token_at s at) t) where
-  pub leaf-integers : t.sort ≡ integer → (scratch : List ℕ) (r : LeafRead)
+  pub leaf_integers : t.sort ≡ integer → (scratch : List ℕ) (r : LeafRead)
       → LeafIs s number at (ranges_leaf s number at) scratch r → LeafIs s number at (leaf s number at) scratch r
   unfolding ranges_leaf
-  leaf-integers k scratch r e = record {
-    is = rw (leaf-is s number at, ← tok.is, ne_eqb t.sort true_word (λ z. omega arith), ne_eqb t.sort false_word (λ z. omega arith), eq-eqb t.sort integer k) e.is;
+  leaf_integers k scratch r e = record {
+    is = rw (leaf_is s number at, ← tok.is, ne_eqb t.sort true_word (λ z. omega arith), ne_eqb t.sort false_word (λ z. omega arith), eq-eqb t.sort integer k) e.is;
     past = e.past;
   }
 
-  pub leaf-intervals : t.sort ≡ bar → (scratch : List ℕ) (r : LeafRead)
+  pub leaf_intervals : t.sort ≡ bar → (scratch : List ℕ) (r : LeafRead)
       → LeafIs s number at (ranges_leaf s number at) scratch r → LeafIs s number at (leaf s number at) scratch r
   unfolding ranges_leaf
-  leaf-intervals k scratch r e = record {
-    is = rw (leaf-is s number at, ← tok.is, ne_eqb t.sort true_word (λ z. omega arith), ne_eqb t.sort false_word (λ z. omega arith), ne_eqb t.sort integer (λ z. omega arith), eq-eqb t.sort bar k) e.is;
+  leaf_intervals k scratch r e = record {
+    is = rw (leaf_is s number at, ← tok.is, ne_eqb t.sort true_word (λ z. omega arith), ne_eqb t.sort false_word (λ z. omega arith), ne_eqb t.sort integer (λ z. omega arith), eq-eqb t.sort bar k) e.is;
     past = e.past;
   }
 
@@ -242,14 +242,14 @@ module _ (s : List ℕ) (number at : ℕ) (t : Token) (tok : TokenIs s at (conte
       → LeafIs s number at (string_leaf s number at) scratch r → LeafIs s number at (leaf s number at) scratch r
   unfolding string_leaf
   leaf-strings k scratch r e = record {
-    is = rw (leaf-is s number at, ← tok.is, ne_eqb t.sort true_word (λ z. omega arith), ne_eqb t.sort false_word (λ z. omega arith), ne_eqb t.sort integer (λ z. omega arith), ne_eqb t.sort bar (λ z. omega arith), eq-eqb t.sort string k) e.is;
+    is = rw (leaf_is s number at, ← tok.is, ne_eqb t.sort true_word (λ z. omega arith), ne_eqb t.sort false_word (λ z. omega arith), ne_eqb t.sort integer (λ z. omega arith), ne_eqb t.sort bar (λ z. omega arith), eq-eqb t.sort string k) e.is;
     past = e.past;
   }
 
-  pub leaf-single : (t.sort ≡ integer → ⊥) → (t.sort ≡ bar → ⊥) → (t.sort ≡ string → ⊥)
+  pub leaf_single : (t.sort ≡ integer → ⊥) → (t.sort ≡ bar → ⊥) → (t.sort ≡ string → ⊥)
       → (scratch : List ℕ) (r : LeafRead) → LeafRoom s number at → OneIs s number (single_leaf s number t) r
       → LeafIs s number at (leaf s number at) scratch r
   unfolding single_leaf
-  leaf-single a b c scratch r d e =
-      let z : leaf_reading s number scratch r ≡ leaf s number at = rw (leaf-is s number at, ← tok.is, ne_eqb t.sort integer a, ne_eqb t.sort bar b, ne_eqb t.sort string c) (e.is scratch) in
-      record { is = z; past = one-past s number at scratch d r e.one z }
+  leaf_single a b c scratch r d e =
+      let z : leaf_reading s number scratch r ≡ leaf s number at = rw (leaf_is s number at, ← tok.is, ne_eqb t.sort integer a, ne_eqb t.sort bar b, ne_eqb t.sort string c) (e.is scratch) in
+      record { is = z; past = one_past s number at scratch d r e.one z }

@@ -20,15 +20,15 @@ use Rattle.refusals.specs.declared.Cause.TheVariants.{TooManyItems, TooManyRecor
 use Rattle.refusals.specs.Refusals.{number_of}
 use Rattle.refusals.proofs.Readings.{Holds, ConstraintRefusal, From}
 use Rattle.refusals.proofs.Tokens.{strict_of}
-use Rattle.refusals.proofs.Parses.{rank, Ordered, ordered-parsed, ordered-noting, ordered-syntax, ordered-then, ordered-soundly, ordered-map, Passes, passes-holds}
+use Rattle.refusals.proofs.Parses.{rank, Ordered, ordered_parsed, ordered-noting, ordered-syntax, ordered_then, ordered-soundly, ordered-map, Passes, passes_holds}
 use Rattle.meaning.specs.Constraints.{Range}
 use Rattle.meaning.specs.Clauses.Proper.{Some}
 use Rattle.meaning.specs.Counting.{range_numbers, up_from}
 use Rattle.cadl_intervals.specs.Intervals.{undecided, Interval, interval, literal}
 use Rattle.cadl_items.specs.Ranges.{Start, start, item, overlaps, Ranges, range, go_on_ranges, Items, item_by, further, ranges}
 use Rattle.cadl_items.specs.Clauses.Told
-use Rattle.cadl_intervals.proofs.Pairs.{Kind, kind-strict, ProperPair}
-use Rattle.cadl_intervals.proofs.IntervalReading.{Asked, Literal, Shut, token-past, literal-ordered, interval-ordered}
+use Rattle.cadl_intervals.proofs.Pairs.{Kind, kind_strict, ProperPair}
+use Rattle.cadl_intervals.proofs.IntervalReading.{Asked, Literal, Shut, token_past, literal-ordered, interval-ordered}
 
 -- an item's first token, from a place on: the next fault may come from there on; a value stands in no list of dates
 pub record Started (s : List ℕ) (asked from : ℕ) (sound : Bool) (l : ℕ) (x : Start) (p : ℕ) : Type 0 where
@@ -53,8 +53,8 @@ pub record Listed (s : List ℕ) (asked number from : ℕ) (l : Ranges) (p : ℕ
   pub proper : Some (ProperRange l.kind) l.items
 
 -- a kind that is decided is not open
-undecided-not : (kind : ℕ) → Kind kind → kind ≡ undecided → ⊥
-undecided-not kind k e = let l = kind-strict kind k in omega arith
+undecided_not : (kind : ℕ) → Kind kind → kind ≡ undecided → ⊥
+undecided_not kind k e = let l = kind_strict kind k in omega arith
 
 module _ (s : List ℕ) where
   pub start-ordered : (asked from : ℕ) (sound : Bool) (low : ℕ) → low ≤ rank from 0 → from ≤ length s
@@ -66,18 +66,18 @@ module _ (s : List ℕ) where
       let f = token-found s from h in
       by_cond (Ordered s P sound low) (eqb t.sort bar)
       (λ e. let m = strict_of bar (lit< tt) t s from f (eqb-true _ _ e) in
-      ordered-parsed s P sound low _ t.end
+      ordered_parsed s P sound low _ t.end
       (record { bound = omega (arith, f.start); start = f.start; order = m; most = f.inside; kind = λ z. absurd (false≢true z); value = λ o z. absurd (false≢true z) }))
       (λ e. by_cond (Ordered s P sound low) (eqb t.sort integer && not (eqb asked date))
       (λ g. let d : asked ≢ date = eqb-false asked date (not-true (eqb asked date) (and_right (eqb t.sort integer) _ g)) in
-      ordered-then s P (Literal s integer from) sound low (literal s integer from) _ (literal-ordered s integer from sound low (lit< tt) l h) (λ o k v p c q.
-      ordered-parsed s P o k _ p
+      ordered_then s P (Literal s integer from) sound low (literal s integer from) _ (literal-ordered s integer from sound low (lit< tt) l h) (λ o k v p c q.
+      ordered_parsed s P o k _ p
       (record { bound = q.bound; start = f.start; order = q.order; most = q.most; kind = λ z. d; value = λ z y. (q.value z).number (eqb-false integer date refl) })))
       (λ g. ordered-syntax s P sound low from t l f))
 
   -- a value is a pair of itself
-  single-proper : (v : ℕ) → v ≤ greatest → ProperPair integer (pair v v)
-  single-proper v h =
+  single_proper : (v : ℕ) → v ≤ greatest → ProperPair integer (pair v v)
+  single_proper v h =
       let never : integer ≢ date = eqb-false integer date refl in
       record { order = omega arith; low = λ d. absurd (never d); high = record { day = λ d. absurd (never d); number = λ d. h } }
 
@@ -87,25 +87,25 @@ module _ (s : List ℕ) where
   item-ordered asked sound low x p ok l m d v =
       let P = Shut s asked p in
       by_cond (Ordered s P sound low) x.single
-      (λ e. ordered-parsed s P sound low _ p
-      (record { bound = l; least = omega arith; most = m; kind = λ z. refl; same = λ n. sym (ok n (d e)); proper = λ z. single-proper x.value (v z e) }))
+      (λ e. ordered_parsed s P sound low _ p
+      (record { bound = l; least = omega arith; most = m; kind = λ z. refl; same = λ n. sym (ok n (d e)); proper = λ z. single_proper x.value (v z e) }))
       (λ e. ordered-map s (Shut s asked (p + 1)) P sound low (interval s asked p)
       (λ o k i q y. record { bound = y.bound; least = omega (arith, y.least); most = y.most; kind = y.kind; same = y.same; proper = y.proper }) (interval-ordered s asked ok sound low p l m))
 
   -- behind an item: what holds of the items that follow holds with it
-  more-ordered : (asked number from first p : ℕ) (sound : Bool) (low : ℕ) (i : Interval) (more : ℕ → Parse Ranges)
+  more_ordered : (asked number from first p : ℕ) (sound : Bool) (low : ℕ) (i : Interval) (more : ℕ → Parse Ranges)
       → (sound ≡ true → number ≢ record_limit) → from + 1 ≤ first → Shut s asked first sound low i p
       → ((q : ℕ) → low ≤ rank q 0 → from + 1 ≤ q → q ≤ length s
       → Ordered s (Passes s q (Listed s i.kind (number + 1) q)) sound low (more q))
       → Ordered s (Passes s from (Listed s asked number from)) sound low (go_on_ranges s number i more p)
-  more-ordered asked number from first p sound low i more w a h k =
+  more_ordered asked number from first p sound low i more w a h k =
       let P = Passes s from (Listed s asked number from) in
       by_cond (Ordered s P sound low) (eqb (token_at s p).sort comma)
-      (λ e. let f = token-past s p comma h.most (lit< tt) e in
+      (λ e. let f = token_past s p comma h.most (lit< tt) e in
       let at = (token_at s p).end in
-      ordered-then s P (Passes s at (Listed s i.kind (number + 1) at)) sound low (more at) _ (k at (omega (arith, f.least, h.bound)) (omega (arith, f.least, h.least)) f.most) (λ o j l q c x.
-      ordered-parsed s P o j _ q (record { bound = x.bound; least = omega (arith, x.least, f.least, h.least); most = x.most; tree = λ z. joined f (c z) l q (x.tree z) })))
-      (λ e. ordered-parsed s P sound low _ p (record {
+      ordered_then s P (Passes s at (Listed s i.kind (number + 1) at)) sound low (more at) _ (k at (omega (arith, f.least, h.bound)) (omega (arith, f.least, h.least)) f.most) (λ o j l q c x.
+      ordered_parsed s P o j _ q (record { bound = x.bound; least = omega (arith, x.least, f.least, h.least); most = x.most; tree = λ z. joined f (c z) l q (x.tree z) })))
+      (λ e. ordered_parsed s P sound low _ p (record {
         bound = h.bound;
         least = omega (arith, h.least);
         most = h.most;
@@ -117,7 +117,7 @@ module _ (s : List ℕ) where
           → Listed s asked number from (record { kind = l.kind; items = range number i.pair ∷ l.items }) q
       joined f z l q x =
           let n = w z in
-          let c : l.kind ≡ i.kind = x.same (λ y. absurd (undecided-not i.kind h.kind y)) in
+          let c : l.kind ≡ i.kind = x.same (λ y. absurd (undecided_not i.kind h.kind y)) in
           record {
             least = omega (arith, x.least, f.least, h.least);
             most = x.most;
@@ -129,13 +129,13 @@ module _ (s : List ℕ) where
           }
 
   -- an item, and those behind it
-  by-ordered : (full : Bool) (more : Items) (asked number : ℕ) (seen : List Pair) (from : ℕ) (sound : Bool) (low : ℕ)
+  by_ordered : (full : Bool) (more : Items) (asked number : ℕ) (seen : List Pair) (from : ℕ) (sound : Bool) (low : ℕ)
       → Asked asked → low ≤ rank from 0 → from ≤ length s
       → ((kind n : ℕ) (xs : List Pair) (q : ℕ) (o : Bool) (l : ℕ) → Asked kind → l ≤ rank q 0 → from + 1 ≤ q
       → q ≤ length s → Ordered s (Passes s q (Listed s kind n q)) o l (more kind n xs q))
       → Ordered s (Passes s from (Listed s asked number from)) sound low (item_by s full more asked number seen from)
   unfolding number_of
-  by-ordered full more asked number seen from sound low ok l h k =
+  by_ordered full more asked number seen from sound low ok l h k =
       ordered-soundly s P (Started s asked from) sound low (start s asked from) _ (start-ordered asked from sound low l h) (λ x p q. rest sound low true x p q) (λ j x p q. rest false j false x p q)
     where
       P : Bool → ℕ → Ranges → ℕ → Type 0
@@ -144,7 +144,7 @@ module _ (s : List ℕ) where
       last : (o : Bool) (j : ℕ) (keeps : List Pair) (i : Interval) (p q : ℕ) → (o ≡ true → number ≢ record_limit)
           → from + 1 ≤ p → Shut s asked p o j i q
           → Ordered s P o j (go_on_ranges s number i (more i.kind (number + 1) keeps) q)
-      last o j keeps i p q w x y = more-ordered asked number from p q o j i (more i.kind (number + 1) keeps) w x y (λ r a c d. k i.kind (number + 1) keeps r o j (λ m. y.kind) a c d)
+      last o j keeps i p q w x y = more_ordered asked number from p q o j i (more i.kind (number + 1) keeps) w x y (λ r a c d. k i.kind (number + 1) keeps r o j (λ m. y.kind) a c d)
 
       rest : (o : Bool) (j : ℕ) (begun : Bool) (x : Start) (p : ℕ) → Started s asked from o j x p
           → Ordered s P o j
@@ -168,18 +168,18 @@ module _ (s : List ℕ) where
   unfolding further
   further-ordered zero asked number seen from sound low ok l h e = absurd (omega arith)
   further-ordered (suc fuel) asked number seen from sound low ok l h e =
-      by-ordered false (further s fuel) asked number seen from sound low ok l h (λ kind n xs q o j a b c d. further-ordered fuel kind n xs q o j a b d (omega arith))
+      by_ordered false (further s fuel) asked number seen from sound low ok l h (λ kind n xs q o j a b c d. further-ordered fuel kind n xs q o j a b d (omega arith))
 
   pub ranges-ordered : (left asked number : ℕ) (seen : List Pair) (from : ℕ) (sound : Bool) (low : ℕ) → Asked asked
       → low ≤ rank from 0 → from ≤ length s
       → Ordered s (Passes s from (Listed s asked number from)) sound low (ranges s left asked number seen from)
   unfolding ranges
   ranges-ordered zero asked number seen from sound low ok l h =
-      by-ordered true (further s (length s + 1)) asked number seen from sound low ok l h (λ kind n xs q o j a b c d. further-ordered (length s + 1) kind n xs q o j a b d (omega arith))
+      by_ordered true (further s (length s + 1)) asked number seen from sound low ok l h (λ kind n xs q o j a b c d. further-ordered (length s + 1) kind n xs q o j a b d (omega arith))
   ranges-ordered (suc left) asked number seen from sound low ok l h =
-      by-ordered false (ranges s left) asked number seen from sound low ok l h (λ kind n xs q o j a b c d. ranges-ordered left kind n xs q o j a b d)
+      by_ordered false (ranges s left) asked number seen from sound low ok l h (λ kind n xs q o j a b c d. ranges-ordered left kind n xs q o j a b d)
 
-  pub ranges-holds : (left asked number : ℕ) (seen : List Pair) (from : ℕ) → Asked asked → from ≤ length s
+  pub ranges_holds : (left asked number : ℕ) (seen : List Pair) (from : ℕ) → Asked asked → from ≤ length s
       → Holds (ConstraintRefusal s) (Listed s asked number from) (Told.ranges s left asked number seen from)
   unfolding Told.ranges
-  ranges-holds left asked number seen from ok h = passes-holds s from _ _ (ranges-ordered left asked number seen from true 0 ok (omega arith) h)
+  ranges_holds left asked number seen from ok h = passes_holds s from _ _ (ranges-ordered left asked number seen from true 0 ok (omega arith) h)

@@ -19,7 +19,7 @@ use Rattle.refusals.specs.Expecting.{syntax_cause}
 use Rattle.refusals.specs.declared.Cause.TheVariants.{TooManyItems, TooManyRecords, Overlap}
 use Rattle.refusals.specs.declared.Refusal.{Refusal}
 use Rattle.refusals.proofs.Readings.{Holds}
-use Rattle.refusals.proofs.Parses.{ordered-holds}
+use Rattle.refusals.proofs.Parses.{ordered_holds}
 use Rattle.meaning.specs.Constraints.{Range}
 use Rattle.cadl_intervals.specs.Intervals.{undecided}
 use Rattle.cadl_intervals.specs.Clauses.Told.{interval}
@@ -38,17 +38,17 @@ use Rattle.cadl_items.specs.declared.ranges.StartRead.TheVariants as start_read
 use Rattle.cadl_items.specs.declared.ranges.RangeRead.{RangeRead}
 use Rattle.cadl_items.specs.declared.ranges.RangeRead.TheVariants as range_read
 use Rattle.cadl_items.specs.declared.ranges.RangesRead.TheVariants as ranges_read
-use Rattle.cadl_items.proofs.LeafParts.{start_is, ranges-none, ranges-some}
+use Rattle.cadl_items.proofs.LeafParts.{start_is, ranges_none, ranges_some}
 use Rattle.cadl_items.proofs.RangeReading.{Started, start-ordered}
-use Rattle.cadl_intervals.proofs.IntervalSteps.{literal-refused, literal-got}
-use Rattle.cadl_items.proofs.ItemLaws.{item-first, item-second, item-kept, all-kept, first-kept, second-kept, latest-more, latest-same, items-last, items-same, roomy-none, roomy-some}
+use Rattle.cadl_intervals.proofs.IntervalSteps.{literal_refused, literal_got}
+use Rattle.cadl_items.proofs.ItemLaws.{item_first, item_second, item_kept, all_kept, first_kept, second_kept, latest_more, latest_same, items_last, items_same, roomy_none, roomy_some}
 
 -- a value that may stand in the list
-pub follows-other : (sort kind : ℕ) → (sort ≡ integer → ⊥) → false ≡ (eqb sort integer && not (eqb kind date))
-follows-other sort kind n = rw (ne_eqb sort integer n)
+pub follows_other : (sort kind : ℕ) → (sort ≡ integer → ⊥) → false ≡ (eqb sort integer && not (eqb kind date))
+follows_other sort kind n = rw (ne_eqb sort integer n)
 
-pub follows-kind : (sort kind : ℕ) → sort ≡ integer → not (eqb kind date) ≡ (eqb sort integer && not (eqb kind date))
-follows-kind sort kind k = rw (eq-eqb sort integer k)
+pub follows_kind : (sort kind : ℕ) → sort ≡ integer → not (eqb kind date) ≡ (eqb sort integer && not (eqb kind date))
+follows_kind sort kind k = rw (eq-eqb sort integer k)
 
 -- an item's first token
 module _ (s : List ℕ) (kind at : ℕ) (t : Token) (tok : TokenIs s at (token_at s at) t) where
@@ -61,18 +61,18 @@ module _ (s : List ℕ) (kind at : ℕ) (t : Token) (tok : TokenIs s at (token_a
     start-other k x e = rw (start_is s kind at, ← tok.is, ne_eqb t.sort bar n, ← h, not-true b k, e)
 
     module _ (k : not b ≡ false) (r : LiteralRead) (e : LiteralIs s integer at r) where
-      pub start-faulty : (x : Refusal) → r ≡ literal_read.Faulty x → start_reading (start_read.Faulty x) ≡ start s kind at
-      start-faulty x g = rw (start_is s kind at, ← tok.is, ne_eqb t.sort bar n, ← h, not-false b k, literal-refused e x g)
+      pub start_faulty : (x : Refusal) → r ≡ literal_read.Faulty x → start_reading (start_read.Faulty x) ≡ start s kind at
+      start_faulty x g = rw (start_is s kind at, ← tok.is, ne_eqb t.sort bar n, ← h, not-false b k, literal_refused e x g)
 
       pub start-value : (v p : ℕ) → r ≡ literal_read.Literal v p
           → start_reading (start_read.Start t.start true v p) ≡ start s kind at
-      start-value v p g = rw (start_is s kind at, ← tok.is, ne_eqb t.sort bar n, ← h, not-false b k, literal-got e v p g)
+      start-value v p g = rw (start_is s kind at, ← tok.is, ne_eqb t.sort bar n, ← h, not-false b k, literal_got e v p g)
 
 -- room for it
 module _ (s : List ℕ) (kind number count at : ℕ) (r : StartRead) (e : start_reading r ≡ start s kind at) where
-  pub room-faulty : (x : Refusal) → r ≡ start_read.Faulty x → StartIs s kind number count at (start_read.Faulty x)
+  pub room_faulty : (x : Refusal) → r ≡ start_read.Faulty x → StartIs s kind number count at (start_read.Faulty x)
   unfolding roomy
-  room-faulty x g = let h : start s kind at ≡ refused x = sym e ∙ ap start_reading g in record { is = rw h; past = tt }
+  room_faulty x g = let h : start s kind at ≡ refused x = sym e ∙ ap start_reading g in record { is = rw h; past = tt }
 
   module _ (place v p : ℕ) (single : Bool) (g : r ≡ start_read.Start place single v p) where
     begun : start s kind at ≡ got (record { place = place; single = single; value = v }) p
@@ -83,16 +83,16 @@ module _ (s : List ℕ) (kind number count at : ℕ) (r : StartRead) (e : start_
     room-items k = record { is = rw (begun, eq-eqb count item_limit k); past = tt }
 
     module _ (n : count ≡ item_limit → ⊥) where
-      pub room-records : number ≡ record_limit
+      pub room_records : number ≡ record_limit
           → StartIs s kind number count at (start_read.Faulty (refusal TooManyRecords place))
       unfolding roomy
-      room-records k = record { is = rw (begun, ne_eqb count item_limit n, eq-eqb number record_limit k); past = tt }
+      room_records k = record { is = rw (begun, ne_eqb count item_limit n, eq-eqb number record_limit k); past = tt }
 
-      pub room-there : (number ≡ record_limit → ⊥) → Before s number count at
+      pub room_there : (number ≡ record_limit → ⊥) → Before s number count at
           → StartIs s kind number count at (start_read.Start place single v p)
       unfolding start roomy Holds
-      room-there k b =
-          let h : Started s kind at true 0 (record { place = place; single = single; value = v }) p = rw begun at (ordered-holds s _ true 0 _ (start-ordered s kind at true 0 (omega arith) b.inside)) in
+      room_there k b =
+          let h : Started s kind at true 0 (record { place = place; single = single; value = v }) p = rw begun at (ordered_holds s _ true 0 _ (start-ordered s kind at true 0 (omega arith) b.inside)) in
           record { is = rw (begun, ne_eqb count item_limit n, ne_eqb number record_limit k); past = (h.most, omega arith, omega arith) }
 
 -- the whole item
@@ -110,12 +110,12 @@ module _ (low high a b : ℕ) where
   pub meet_below : b < low → false ≡ meet (pair low high) (pair a b)
   meet_below l = rw (lt-leb low b l)
 
-  pub meet-rest : low ≤ b → leb a high ≡ meet (pair low high) (pair a b)
-  meet-rest l = rw (le-leb low b l)
+  pub meet_rest : low ≤ b → leb a high ≡ meet (pair low high) (pair a b)
+  meet_rest l = rw (le-leb low b l)
 
 -- the latest of some items, and the others
 from_one : {A : Type 0} (f : ℕ → A) (n : ℕ) → 0 < n → latest f 0 n ≡ f (n - 1) ∷ latest f 0 (n - 1)
-from_one f n l = let e : n ≡ n - 1 + 1 = omega arith in ap (latest f 0) e ∙ latest-more f (n - 1)
+from_one f n l = let e : n ≡ n - 1 + 1 = omega arith in ap (latest f 0) e ∙ latest_more f (n - 1)
 
 -- the pairs before n are left to look at
 pub record InPairs (scratch : List ℕ) (count low high n : ℕ) : Type 0 where
@@ -139,11 +139,11 @@ module _ (scratch : List ℕ) (count low high n : ℕ) (inv : InPairs scratch co
         let m : latest (pair_at scratch) 0 n ≡ pair_at scratch (n - 1) ∷ latest (pair_at scratch) 0 (n - 1) = from_one (pair_at scratch) n l in
         rw h (rw m at inv.is)
 
-    pub pairs-meet : b ≡ true → true ≡ overlaps (pair low high) (pairs_of scratch count)
-    pairs-meet k = rw k at one_more
+    pub pairs_meet : b ≡ true → true ≡ overlaps (pair low high) (pairs_of scratch count)
+    pairs_meet k = rw k at one_more
 
-    pub pairs-on : b ≡ false → InPairs scratch count low high (n - 1)
-    pairs-on k = let m = inv.most in record { most = omega arith; room = inv.room; is = rw k at one_more }
+    pub pairs_on : b ≡ false → InPairs scratch count low high (n - 1)
+    pairs_on k = let m = inv.most in record { most = omega arith; room = inv.room; is = rw k at one_more }
 
 -- an item that was read
 module _ (s : List ℕ) (number count place kind low high at : ℕ) (before : List ℕ) (o : Bool)
@@ -151,9 +151,9 @@ module _ (s : List ℕ) (number count place kind low high at : ℕ) (before : Li
   abbrev Reads : List ℕ → RangeRead → Type 0
   Reads after r = RangeIs s number count (kept_range s number count (pairs_of before count) place (shut kind (pair low high)) at) before after r
 
-  pub keep-overlap : o ≡ true → Reads before (range_read.Faulty (refusal Overlap place))
+  pub keep_overlap : o ≡ true → Reads before (range_read.Faulty (refusal Overlap place))
   unfolding kept_range
-  keep-overlap k = record { is = rw (← h, k); kept = all-kept before count; past = tt }
+  keep_overlap k = record { is = rw (← h, k); kept = all_kept before count; past = tt }
 
   module _ (k : o ≡ false) (room : KeepRoom s kind number count at) (long : length before ≡ 32) (t : Token)
       (tok : TokenIs s at (token_at s at) t) (after : List ℕ) (e : after ≡ with_item before count low high) where
@@ -161,44 +161,44 @@ module _ (s : List ℕ) (number count place kind low high at : ℕ) (before : Li
     roomy-count = let f = room.few in omega arith
 
     put_low : first_of after count ≡ low
-    put_low = rw e (item-first before count low high roomy-count)
+    put_low = rw e (item_first before count low high roomy-count)
 
-    put-high : second_of after count ≡ high
-    put-high = rw e (item-second before count low high roomy-count)
+    put_high : second_of after count ≡ high
+    put_high = rw e (item_second before count low high roomy-count)
 
-    put-here : pair_at after count ≡ pair low high
-    put-here = λ i. pair (put_low i) (put-high i)
+    put_here : pair_at after count ≡ pair low high
+    put_here = λ i. pair (put_low i) (put_high i)
 
     still : Kept count before after
-    still = rw e (item-kept before count low high)
+    still = rw e (item_kept before count low high)
 
-    pairs-more : pairs_of after (count + 1) ≡ pair low high ∷ pairs_of before count
-    pairs-more =
-        let b = latest-same (pair_at after) (pair_at before) count (λ j l. λ i. pair (first-kept count before after still j l i) (second-kept count before after still j l i)) in
-        latest-more (pair_at after) count ∙ rw (put-here, b)
+    pairs_more : pairs_of after (count + 1) ≡ pair low high ∷ pairs_of before count
+    pairs_more =
+        let b = latest_same (pair_at after) (pair_at before) count (λ j l. λ i. pair (first_kept count before after still j l i) (second_kept count before after still j l i)) in
+        latest_more (pair_at after) count ∙ rw (put_here, b)
 
-    pub keep-more : t.sort ≡ comma → Reads after (range_read.More kind t.end)
+    pub keep_more : t.sort ≡ comma → Reads after (range_read.More kind t.end)
     unfolding kept_range
-    keep-more c =
-        let b = pairs-more in
+    keep_more c =
+        let b = pairs_more in
         record {
-          is = rw (← h, k, ← tok.is, eq-eqb t.sort comma c, b, put_low, put-high);
+          is = rw (← h, k, ← tok.is, eq-eqb t.sort comma c, b, put_low, put_high);
           kept = still;
           past = (room.few, room.records, tok.inside, room.asked);
         }
 
-    pub keep-last : (t.sort ≡ comma → ⊥) → Reads after (range_read.Last kind at)
+    pub keep_last : (t.sort ≡ comma → ⊥) → Reads after (range_read.Last kind at)
     unfolding kept_range
-    keep-last n =
-        record { is = rw (← h, k, ← tok.is, ne_eqb t.sort comma n, put_low, put-high); kept = still; past = (room.few, room.records, room.inside) }
+    keep_last n =
+        record { is = rw (← h, k, ← tok.is, ne_eqb t.sort comma n, put_low, put_high); kept = still; past = (room.few, room.records, room.inside) }
 
 -- a list from an item on
-ranges-step : (s : List ℕ) (kind number count at : ℕ) (seen : List Pair) → count ≤ item_limit
+ranges_step : (s : List ℕ) (kind number count at : ℕ) (seen : List Pair) → count ≤ item_limit
     → read_then (roomy (λ x. x.place) number count (start s kind at))
     (λ x p. read_then (item s kind x p) (λ i q. kept_range s number count seen x.place i q))
     ≡ ranges s (item_limit - count) kind number seen at
 unfolding kept_range
-ranges-step s kind number count at seen l = by (eqb count item_limit) refl
+ranges_step s kind number count at seen l = by (eqb count item_limit) refl
   where
     go : Start → ℕ → Reading Ranges
     go x p = read_then (item s kind x p) (λ i q. kept_range s number count seen x.place i q)
@@ -209,11 +209,11 @@ ranges-step s kind number count at seen l = by (eqb count item_limit) refl
     by true e =
         let c = eqb-true count item_limit e in
         let z : item_limit - count ≡ zero = omega arith in
-        rw (z, ranges-none s kind number seen at) (roomy-none (λ x. x.place) number count go (start s kind at) e)
+        rw (z, ranges_none s kind number seen at) (roomy_none (λ x. x.place) number count go (start s kind at) e)
     by false e =
         let c = eqb-false count item_limit e in
         let z : item_limit - count ≡ suc (item_limit - (count + 1)) = omega arith in
-        rw (z, ranges-some s (item_limit - (count + 1)) kind number seen at) (roomy-some (λ x. x.place) number count go (start s kind at) e)
+        rw (z, ranges_some s (item_limit - (count + 1)) kind number seen at) (roomy_some (λ x. x.place) number count go (start s kind at) e)
 
 module _ (s : List ℕ) (kind number count at : ℕ) (before : List ℕ) (d : ItemRoom s kind number count at) (r : StartRead)
     (e : StartIs s kind number count at r) where
@@ -223,28 +223,28 @@ module _ (s : List ℕ) (kind number count at : ℕ) (before : List ℕ) (d : It
   step : read_then (start_reading r)
       (λ x p. read_then (item s kind x p) (λ i q. kept_range s number count (pairs_of before count) x.place i q))
       ≡ ranges s (item_limit - count) kind number (pairs_of before count) at
-  step = rw e.is (ranges-step s kind number count at (pairs_of before count) d.before.few)
+  step = rw e.is (ranges_step s kind number count at (pairs_of before count) d.before.few)
 
-  pub step-faulty : (x : Refusal) → r ≡ start_read.Faulty x → Steps before (range_read.Faulty x)
-  step-faulty x g = record { is = rw g at step; kept = all-kept before count; past = tt }
+  pub step_faulty : (x : Refusal) → r ≡ start_read.Faulty x → Steps before (range_read.Faulty x)
+  step_faulty x g = record { is = rw g at step; kept = all_kept before count; past = tt }
 
   module _ (place v p : ℕ) (single : Bool) (g : r ≡ start_read.Start place single v p) where
-    start-past : StartPast s kind number count (start_read.Start place single v p)
-    start-past = rw g at e.past
+    start_past : StartPast s kind number count (start_read.Start place single v p)
+    start_past = rw g at e.past
 
-    pub step-at : At s kind p
-    step-at = record { inside = start-past.0; asked = d.asked }
+    pub step_at : At s kind p
+    step_at = record { inside = start_past.0; asked = d.asked }
 
-    begun-step : read_then (item s kind (started single v) p)
+    begun_step : read_then (item s kind (started single v) p)
         (λ i q. kept_range s number count (pairs_of before count) place i q)
         ≡ ranges s (item_limit - count) kind number (pairs_of before count) at
-    begun-step = rw g at step
+    begun_step = rw g at step
 
     module _ (i : IntervalRead) (f : IntervalIs s (item s kind (started single v) p) i) where
-      pub step-bad : (x : Refusal) → i ≡ interval_read.Faulty x → Steps before (range_read.Faulty x)
-      step-bad x k =
+      pub step_bad : (x : Refusal) → i ≡ interval_read.Faulty x → Steps before (range_read.Faulty x)
+      step_bad x k =
           let h : item s kind (started single v) p ≡ refused x = sym f.is ∙ ap interval_reading k in
-          record { is = rw h at begun-step; kept = all-kept before count; past = tt }
+          record { is = rw h at begun_step; kept = all_kept before count; past = tt }
 
       module _ (q low high next : ℕ) (k : i ≡ interval_read.Interval q low high next) where
         read : item s kind (started single v) p ≡ got (shut q (pair low high)) next
@@ -253,14 +253,14 @@ module _ (s : List ℕ) (kind number count at : ℕ) (before : List ℕ) (d : It
         pub step_room : KeepRoom s q number count next
         step_room =
             let a : IntervalPast s (interval_read.Interval q low high next) = rw k at f.past in
-            let b = start-past in
+            let b = start_past in
             record { inside = a.0; asked = a.1; few = b.1; records = b.2 }
 
         pub step_kept : (after : List ℕ) (o : RangeRead)
             → RangeIs s number count
             (kept_range s number count (pairs_of before count) place (shut q (pair low high)) next) before after o
             → Steps after o
-        step_kept after o b = record { is = b.is ∙ rw read at begun-step; kept = b.kept; past = b.past }
+        step_kept after o b = record { is = b.is ∙ rw read at begun_step; kept = b.kept; past = b.past }
 
 -- items before the others of a list
 abbrev with_items : List Range → Reading Ranges → Reading Ranges
@@ -304,19 +304,19 @@ module _ (s : List ℕ) (number from : ℕ) (before : List ℕ) (kind count at :
     whole : with_items (items_from (range_at after) number 0 count)
         (range_reading s (number + count) count after r) ≡ ranges s item_limit undecided number [] from
     whole =
-        let h = items-same (range_at after) (range_at before) number 0 count (λ m j l i. range m (pair (first-kept count before after e.kept j (omega arith) i) (second-kept count before after e.kept j (omega arith) i))) in
+        let h = items_same (range_at after) (range_at before) number 0 count (λ m j l i. range m (pair (first_kept count before after e.kept j (omega arith) i) (second_kept count before after e.kept j (omega arith) i))) in
         rw (h, e.is) inv.is
 
-    pub ranges-faulty : (x : Refusal) → r ≡ range_read.Faulty x → RangesIs s number from after (ranges_read.Faulty x)
-    ranges-faulty x g = record { is = rw g at whole; past = tt }
+    pub ranges_faulty : (x : Refusal) → r ≡ range_read.Faulty x → RangesIs s number from after (ranges_read.Faulty x)
+    ranges_faulty x g = record { is = rw g at whole; past = tt }
 
     more : items_from (range_at after) number 0 (count + 1)
         ≡ items_from (range_at after) number 0 count ++ (range_at after (number + count) count ∷ [])
-    more = items-last (range_at after) number count
+    more = items_last (range_at after) number count
 
-    pub ranges-last : (k p : ℕ) → r ≡ range_read.Last k p
+    pub ranges_last : (k p : ℕ) → r ≡ range_read.Last k p
         → RangesIs s number from after (ranges_read.Ranges k (count + 1) p)
-    ranges-last k p g =
+    ranges_last k p g =
         let q : RangePast s (number + count) count (range_read.Last k p) = rw g at e.past in
         record { is = rw more (rw g at whole); past = (omega arith, omega arith, omega arith) }
 

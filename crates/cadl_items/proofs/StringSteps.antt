@@ -13,7 +13,7 @@ use Rattle.lexis.specs.Tokens.{number, token_at, string, inner}
 use Rattle.lexis.specs.Clauses.Answers.{TokenIs}
 use Rattle.lexis.specs.declared.Token.{Token}
 use native.Mathlib.Decide.{dec_lt}
-use Rattle.lexis.proofs.Enclosed.{token-two}
+use Rattle.lexis.proofs.Enclosed.{token_two}
 use Rattle.refusals.specs.Limits.{item_limit, record_limit, string_limit, text_limit}
 use Rattle.refusals.specs.Reading.{Reading, refused, got, refuse, read_then, read_unless}
 use Rattle.refusals.specs.Refusals.{refusal}
@@ -23,7 +23,7 @@ use Rattle.refusals.specs.declared.Cause.TheVariants.{TooLong, TooManyItems, Too
 use Rattle.refusals.specs.declared.Refusal.{Refusal}
 use Rattle.refusals.specs.declared.steps.Expected.{Expected}
 use Rattle.refusals.specs.declared.steps.Expected.TheVariants.{Fault, Taken}
-use Rattle.refusals.proofs.StepLaws.{expected-fault, expected-token, expected-past}
+use Rattle.refusals.proofs.StepLaws.{expected_fault, expected_token, expected_past}
 use Rattle.meaning.specs.Constraints.{Text}
 use Rattle.cadl_items.specs.Clauses.Told.{start_string, with_text, strings}
 use Rattle.cadl_items.specs.Clauses.Spans.{with_item, first_of, second_of, span_at, latest, earlier, Within, SpansIn}
@@ -33,33 +33,33 @@ use Rattle.cadl_items.specs.declared.strings.StringRead.{StringRead}
 use Rattle.cadl_items.specs.declared.strings.StringRead.TheVariants as string_read
 use Rattle.cadl_items.specs.declared.strings.StringsRead.TheVariants as strings_read
 use Rattle.lexis.proofs.Parts.{part_length}
-use Rattle.cadl_items.proofs.LeafParts.{start-string-is, strings-none, strings-some}
-use Rattle.cadl_items.proofs.ItemLaws.{item-first, item-second, item-kept, all-kept, first-kept, second-kept, latest-more, latest-same, items-last, items-same, roomy-none, roomy-some}
+use Rattle.cadl_items.proofs.LeafParts.{start-string_is, strings_none, strings_some}
+use Rattle.cadl_items.proofs.ItemLaws.{item_first, item_second, item_kept, all_kept, first_kept, second_kept, latest_more, latest_same, items_last, items_same, roomy_none, roomy_some}
 
 -- a string that is not too long
 module _ (s : List ℕ) (at : ℕ) (r : Expected) (e : ExpectIs s string at (expect s string at) r) where
-  pub string-missing : (x : Refusal) → r ≡ Fault x → ExpectIs s string at (start_string s at) (Fault x)
-  string-missing x g = record { is = rw (start-string-is s at, expected-fault e x g); past = tt }
+  pub string_missing : (x : Refusal) → r ≡ Fault x → ExpectIs s string at (start_string s at) (Fault x)
+  string_missing x g = record { is = rw (start-string_is s at, expected_fault e x g); past = tt }
 
   module _ (t : Token) (g : r ≡ Taken t) where
-    pub string-order : t.start ≤ t.end
-    string-order = let p = expected-past e t g in omega arith
+    pub string_order : t.start ≤ t.end
+    string_order = let p = expected_past e t g in omega arith
 
     inner-length : length (inner s t) ≡ t.end - 1 - (t.start + 1)
-    inner-length = let p = expected-past e t g in part_length s (t.start + 1) (t.end - 1) (omega arith)
+    inner-length = let p = expected_past e t g in part_length s (t.start + 1) (t.end - 1) (omega arith)
 
-    pub string-long : string_limit + 2 < t.end - t.start → (x : Refusal) → x ≡ refusal TooLong t.start
+    pub string_long : string_limit + 2 < t.end - t.start → (x : Refusal) → x ≡ refusal TooLong t.start
         → ExpectIs s string at (start_string s at) (Fault x)
-    string-long l x h = record { is = rw (start-string-is s at, expected-token e t g, inner-length, lt-ltb string_limit (t.end - 1 - (t.start + 1)) (omega arith), h); past = tt }
+    string_long l x h = record { is = rw (start-string_is s at, expected_token e t g, inner-length, lt-ltb string_limit (t.end - 1 - (t.start + 1)) (omega arith), h); past = tt }
 
-    pub string-there : t.end - t.start ≤ string_limit + 2 → ExpectIs s string at (start_string s at) (Taken t)
-    string-there l = record { is = rw (start-string-is s at, expected-token e t g, inner-length, le-ltb string_limit (t.end - 1 - (t.start + 1)) (omega arith)); past = expected-past e t g }
+    pub string_there : t.end - t.start ≤ string_limit + 2 → ExpectIs s string at (start_string s at) (Taken t)
+    string_there l = record { is = rw (start-string_is s at, expected_token e t g, inner-length, le-ltb string_limit (t.end - 1 - (t.start + 1)) (omega arith)); past = expected_past e t g }
 
 -- what was taken, and not too long, was taken
-short-got : (r : Reading Token) (f : Token → Bool) (t : Token) (p : ℕ)
+short_got : (r : Reading Token) (f : Token → Bool) (t : Token) (p : ℕ)
     → read_then r (λ u q. read_unless (f u) TooLong u.start (got u q)) ≡ got t p → r ≡ got t p
-short-got (refused x) f t p h = let z : ◌≡◌ {A = ℕ} 0 1 = cc in absurd (omega arith)
-short-got (got u q) f t p h = by (f u) h
+short_got (refused x) f t p h = let z : ◌≡◌ {A = ℕ} 0 1 = cc in absurd (omega arith)
+short_got (got u q) f t p h = by (f u) h
   where
     by : (b : Bool) → cond b (refuse TooLong u.start) (got u q) ≡ got t p → got u q ≡ got t p
     by true h = let z : ◌≡◌ {A = ℕ} 0 1 = cc in absurd (omega arith)
@@ -72,36 +72,36 @@ expect-quoted s at t p h = by (eqb (token_at s at).sort string) refl h
   where
     by : (b : Bool) → eqb (token_at s at).sort string ≡ b
         → cond b (got (token_at s at) (token_at s at).end) (syntax_fault (token_at s at)) ≡ got t p → t.start + 2 ≤ t.end
-    by true e h = let z : token_at s at ≡ t = cc in rw z at (token-two s at (rw e))
+    by true e h = let z : token_at s at ≡ t = cc in rw z at (token_two s at (rw e))
     by false e h = let z : ◌≡◌ {A = ℕ} 0 1 = cc in absurd (omega arith)
 
 start-quoted : (s : List ℕ) (at : ℕ) (t : Token) (p : ℕ) → start_string s at ≡ got t p → t.start + 2 ≤ t.end
-start-quoted s at t p e = expect-quoted s at t p (short-got (expect s string at) (λ u. ltb string_limit (length (inner s u))) t p (sym (start-string-is s at) ∙ e))
+start-quoted s at t p e = expect-quoted s at t p (short_got (expect s string at) (λ u. ltb string_limit (length (inner s u))) t p (sym (start-string_is s at) ∙ e))
 
 -- room for it
 module _ (s : List ℕ) (number count at : ℕ) (r : Expected) (e : ExpectIs s string at (start_string s at) r) where
-  pub text-faulty : (x : Refusal) → r ≡ Fault x → StringStartIs s number count at (Fault x)
+  pub text_faulty : (x : Refusal) → r ≡ Fault x → StringStartIs s number count at (Fault x)
   unfolding roomy
-  text-faulty x g = record { is = rw (expected-fault e x g); past = tt }
+  text_faulty x g = record { is = rw (expected_fault e x g); past = tt }
 
   module _ (t : Token) (g : r ≡ Taken t) where
-    pub text-items : count ≡ item_limit → StringStartIs s number count at (Fault (refusal TooManyItems t.start))
+    pub text_items : count ≡ item_limit → StringStartIs s number count at (Fault (refusal TooManyItems t.start))
     unfolding roomy
-    text-items k = record { is = rw (expected-token e t g, eq-eqb count item_limit k); past = tt }
+    text_items k = record { is = rw (expected_token e t g, eq-eqb count item_limit k); past = tt }
 
     module _ (n : count ≡ item_limit → ⊥) where
-      pub text-records : number ≡ record_limit
+      pub text_records : number ≡ record_limit
           → StringStartIs s number count at (Fault (refusal TooManyRecords t.start))
       unfolding roomy
-      text-records k = record { is = rw (expected-token e t g, ne_eqb count item_limit n, eq-eqb number record_limit k); past = tt }
+      text_records k = record { is = rw (expected_token e t g, ne_eqb count item_limit n, eq-eqb number record_limit k); past = tt }
 
-      pub text-there : (number ≡ record_limit → ⊥) → Before s number count at → StringStartIs s number count at (Taken t)
+      pub text_there : (number ≡ record_limit → ⊥) → Before s number count at → StringStartIs s number count at (Taken t)
       unfolding roomy
-      text-there k b =
-          let q = expected-past e t g in
+      text_there k b =
+          let q = expected_past e t g in
           record {
-            is = rw (expected-token e t g, ne_eqb count item_limit n, ne_eqb number record_limit k);
-            past = (record { order = start-quoted s at t t.end (expected-token e t g); inside = q.2 }, omega arith, omega arith);
+            is = rw (expected_token e t g, ne_eqb count item_limit n, ne_eqb number record_limit k);
+            past = (record { order = start-quoted s at t t.end (expected_token e t g); inside = q.2 }, omega arith, omega arith);
           }
 
 -- a string that was read
@@ -110,9 +110,9 @@ module _ (s : List ℕ) (number count : ℕ) (t : Token) (before : List ℕ) (ro
   abbrev Reads : List ℕ → StringRead → Type 0
   Reads after r = StringIs s number count (kept_string s number count (earlier s before 0 count) t t.end) before after r
 
-  pub keep-equal : o ≡ true → Reads before (string_read.Faulty (refusal Overlap t.start))
+  pub keep_equal : o ≡ true → Reads before (string_read.Faulty (refusal Overlap t.start))
   unfolding kept_string
-  keep-equal k = record { is = rw (← h, k); kept = all-kept before count; past = tt }
+  keep_equal k = record { is = rw (← h, k); kept = all_kept before count; past = tt }
 
   module _ (k : o ≡ false) where
     module _ (long : length before ≡ 32) (u : Token) (tok : TokenIs s t.end (token_at s t.end) u) (a b : ℕ)
@@ -121,32 +121,32 @@ module _ (s : List ℕ) (number count : ℕ) (t : Token) (before : List ℕ) (ro
       roomy-count = let f = room.few in omega arith
 
       put-start : first_of after count ≡ t.start + 1
-      put-start = rw e (item-first before count a b roomy-count) ∙ ea
+      put-start = rw e (item_first before count a b roomy-count) ∙ ea
 
-      put-stop : second_of after count ≡ t.end - 1
-      put-stop = rw e (item-second before count a b roomy-count) ∙ eb
+      put_stop : second_of after count ≡ t.end - 1
+      put_stop = rw e (item_second before count a b roomy-count) ∙ eb
 
-      put-here : span_at s after count ≡ inner s t
-      put-here = λ i. part s (put-start i) (put-stop i)
+      put_here : span_at s after count ≡ inner s t
+      put_here = λ i. part s (put-start i) (put_stop i)
 
       still : Kept count before after
-      still = rw e (item-kept before count a b)
+      still = rw e (item_kept before count a b)
 
-      spans-more : earlier s after 0 (count + 1) ≡ inner s t ∷ earlier s before 0 count
-      spans-more =
-          let c = latest-same (span_at s after) (span_at s before) count (λ j l i. part s (first-kept count before after still j l i) (second-kept count before after still j l i)) in
+      spans_more : earlier s after 0 (count + 1) ≡ inner s t ∷ earlier s before 0 count
+      spans_more =
+          let c = latest_same (span_at s after) (span_at s before) count (λ j l i. part s (first_kept count before after still j l i) (second_kept count before after still j l i)) in
           let y : count + 1 - 0 ≡ count + 1 = omega arith in
           let z : count - 0 ≡ count = omega arith in
-          rw (y, z) (latest-more (span_at s after) count ∙ rw (put-here, c))
+          rw (y, z) (latest_more (span_at s after) count ∙ rw (put_here, c))
 
       lies : (i : ℕ) → Dec (i < count) → i < count + 1 → Within s (first_of after i) (second_of after i)
       lies i (yes l) m =
           let w = room.spans.within i (omega arith) l in
-          rw (first-kept count before after still i l, second-kept count before after still i l) w
+          rw (first_kept count before after still i l, second_kept count before after still i l) w
       lies i (no n) m =
           let z : i ≡ count = omega arith in
           let q = room.quoted in
-          rw (z, put-start, put-stop) (record { order = omega arith; inside = omega arith })
+          rw (z, put-start, put_stop) (record { order = omega arith; inside = omega arith })
 
       kept : (next : ℕ) → next ≤ length s → StringKept s number count after next
       kept next m =
@@ -160,30 +160,30 @@ module _ (s : List ℕ) (number count : ℕ) (t : Token) (before : List ℕ) (ro
             inside = m;
           }
 
-      pub keep-comma : u.sort ≡ comma → Reads after (string_read.More u.end)
+      pub keep_comma : u.sort ≡ comma → Reads after (string_read.More u.end)
       unfolding kept_string
-      keep-comma c =
+      keep_comma c =
           record {
-            is = rw (← h, k, ← tok.is, eq-eqb u.sort comma c, put-here, spans-more);
+            is = rw (← h, k, ← tok.is, eq-eqb u.sort comma c, put_here, spans_more);
             kept = still;
             past = kept u.end tok.inside;
           }
 
-      pub keep-end : (u.sort ≡ comma → ⊥) → Reads after (string_read.Last t.end)
+      pub keep_end : (u.sort ≡ comma → ⊥) → Reads after (string_read.Last t.end)
       unfolding kept_string
-      keep-end n =
+      keep_end n =
           record {
-            is = rw (← h, k, ← tok.is, ne_eqb u.sort comma n, put-here);
+            is = rw (← h, k, ← tok.is, ne_eqb u.sort comma n, put_here);
             kept = still;
             past = kept t.end room.quoted.inside;
           }
 
 -- a list from a string on
-strings-step : (s : List ℕ) (number count at : ℕ) (seen : List (List ℕ)) → count ≤ item_limit
+strings_step : (s : List ℕ) (number count at : ℕ) (seen : List (List ℕ)) → count ≤ item_limit
     → read_then (roomy (λ t. t.start) number count (start_string s at)) (λ t p. kept_string s number count seen t p)
     ≡ strings s (item_limit - count) number seen at
 unfolding kept_string
-strings-step s number count at seen l = by (eqb count item_limit) refl
+strings_step s number count at seen l = by (eqb count item_limit) refl
   where
     go : Token → ℕ → Reading (List Text)
     go t p = kept_string s number count seen t p
@@ -194,11 +194,11 @@ strings-step s number count at seen l = by (eqb count item_limit) refl
     by true e =
         let c = eqb-true count item_limit e in
         let z : item_limit - count ≡ zero = omega arith in
-        rw (z, strings-none s number seen at) (roomy-none (λ t. t.start) number count go (start_string s at) e)
+        rw (z, strings_none s number seen at) (roomy_none (λ t. t.start) number count go (start_string s at) e)
     by false e =
         let c = eqb-false count item_limit e in
         let z : item_limit - count ≡ suc (item_limit - (count + 1)) = omega arith in
-        rw (z, strings-some s (item_limit - (count + 1)) number seen at) (roomy-some (λ t. t.start) number count go (start_string s at) e)
+        rw (z, strings_some s (item_limit - (count + 1)) number seen at) (roomy_some (λ t. t.start) number count go (start_string s at) e)
 
 module _ (s : List ℕ) (number count at : ℕ) (before : List ℕ) (d : StringRoom s number count at before) (r : Expected)
     (e : StringStartIs s number count at r) where
@@ -208,10 +208,10 @@ module _ (s : List ℕ) (number count at : ℕ) (before : List ℕ) (d : StringR
   step : read_then (token_reading r)
       (λ t p. kept_string s number count (earlier s before 0 count) t p)
       ≡ strings s (item_limit - count) number (earlier s before 0 count) at
-  step = rw e.is (strings-step s number count at (earlier s before 0 count) d.before.few)
+  step = rw e.is (strings_step s number count at (earlier s before 0 count) d.before.few)
 
-  pub step-faulty : (x : Refusal) → r ≡ Fault x → Steps before (string_read.Faulty x)
-  step-faulty x g = record { is = rw g at step; kept = all-kept before count; past = tt }
+  pub step_faulty : (x : Refusal) → r ≡ Fault x → Steps before (string_read.Faulty x)
+  step_faulty x g = record { is = rw g at step; kept = all_kept before count; past = tt }
 
   module _ (t : Token) (g : r ≡ Taken t) where
     pub step_room : KeepString s number count t before
@@ -228,10 +228,10 @@ module _ (s : List ℕ) (number count at : ℕ) (before : List ℕ) (d : StringR
 abbrev with_texts : List Text → Reading (List Text) → Reading (List Text)
 with_texts xs r = read_then r (λ l p. got (xs ++ l) p)
 
-with-text : (xs : List Text) (x : Text) (r : Reading (List Text))
+with_text_lem : (xs : List Text) (x : Text) (r : Reading (List Text))
     → with_texts xs (with_text x r) ≡ with_texts (xs ++ (x ∷ [])) r
-with-text xs x (refused y) = refl
-with-text xs x (got l p) = let h = append_assoc xs (x ∷ []) l in λ i. got (sym h i) p
+with_text_lem xs x (refused y) = refl
+with_text_lem xs x (got l p) = let h = append_assoc xs (x ∷ []) l in λ i. got (sym h i) p
 
 with_none : (r : Reading (List Text)) → with_texts [] r ≡ r
 with_none (refused y) = refl
@@ -271,37 +271,37 @@ module _ (s : List ℕ) (number from : ℕ) (before : List ℕ) (count at : ℕ)
   module _ (after : List ℕ) (r : StringRead)
       (e : StringIs s (number + count) count
       (strings s (item_limit - count) (number + count) (earlier s before 0 count) at) before after r) where
-    same-items : items_from (text_at s after) number 0 count ≡ items_from (text_at s before) number 0 count
-    same-items =
-        items-same (text_at s after) (text_at s before) number 0 count
-        (λ m j l i. record { number = m; text = part s (first-kept count before after e.kept j (omega arith) i) (second-kept count before after e.kept j (omega arith) i) })
+    same_items : items_from (text_at s after) number 0 count ≡ items_from (text_at s before) number 0 count
+    same_items =
+        items_same (text_at s after) (text_at s before) number 0 count
+        (λ m j l i. record { number = m; text = part s (first_kept count before after e.kept j (omega arith) i) (second_kept count before after e.kept j (omega arith) i) })
 
     whole : with_texts (items_from (text_at s after) number 0 count)
         (string_reading s (number + count) count after r) ≡ strings s item_limit number [] from
-    whole = rw (same-items, e.is) inv.is
+    whole = rw (same_items, e.is) inv.is
 
-    pub strings-faulty : (x : Refusal) → r ≡ string_read.Faulty x → StringsIs s number from after (strings_read.Faulty x)
-    strings-faulty x g = record { is = rw g at whole; past = tt }
+    pub strings_faulty : (x : Refusal) → r ≡ string_read.Faulty x → StringsIs s number from after (strings_read.Faulty x)
+    strings_faulty x g = record { is = rw g at whole; past = tt }
 
     more : items_from (text_at s after) number 0 (count + 1)
         ≡ items_from (text_at s after) number 0 count ++ (text_at s after (number + count) count ∷ [])
-    more = items-last (text_at s after) number count
+    more = items_last (text_at s after) number count
 
-    pub strings-last : (p : ℕ) → r ≡ string_read.Last p
+    pub strings_last : (p : ℕ) → r ≡ string_read.Last p
         → StringsIs s number from after (strings_read.Strings (count + 1) p)
-    strings-last p g =
+    strings_last p g =
         let q : StringKept s (number + count) count after p = rw g at e.past in
         record {
           is = rw more (rw g at whole);
           past = record { some = omega arith; few = omega arith; records = omega arith; spans = q.spans };
         }
 
-    pub strings-more : (p : ℕ) → r ≡ string_read.More p → InStrings s number from after (count + 1) p
-    strings-more p g =
+    pub strings_more : (p : ℕ) → r ≡ string_read.More p → InStrings s number from after (count + 1) p
+    strings_more p g =
         let q : StringKept s (number + count) count after p = rw g at e.past in
         let w = rw g at whole in
         let m : number + (count + 1) ≡ number + count + 1 = omega arith in
-        let n = with-text (items_from (text_at s after) number 0 count) (text_at s after (number + count) count) (strings s (item_limit - (count + 1)) (number + count + 1) (earlier s after 0 (count + 1)) p) in
+        let n = with_text_lem (items_from (text_at s after) number 0 count) (text_at s after (number + count) count) (strings s (item_limit - (count + 1)) (number + count + 1) (earlier s after 0 (count + 1)) p) in
         record {
           inside = q.inside;
           short = inv.short;

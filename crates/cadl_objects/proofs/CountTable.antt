@@ -32,6 +32,6 @@ cases =
     ∷ refuses_from (bytes "B matches {b matches {Pd matches {*}}}") 2046 8 22
     ∷ []
 
-pub none-wrong : wrong right 0 cases ≡ []
+pub none_wrong : wrong right 0 cases ≡ []
 unfolding wrong right cases object_list constraint_computes
-none-wrong = refl
+none_wrong = refl

@@ -21,7 +21,7 @@ use Rattle.refusals.specs.Clauses.Answers.{TokenPast, ExpectIs}
 use Rattle.refusals.specs.declared.Refusal.{Refusal}
 use Rattle.refusals.specs.declared.steps.Expected.{Expected}
 use Rattle.refusals.specs.declared.steps.Expected.TheVariants.{Fault, Taken}
-use Rattle.refusals.proofs.StepLaws.{taken-there, taken_not, expect-is, expected-fault, expected-token, expected-past}
+use Rattle.refusals.proofs.StepLaws.{taken_there, taken_not, expect_is, expected_fault, expected_token, expected_past}
 use Rattle.cadl_items.specs.Clauses.Spans.{Within}
 use Rattle.cadl_objects.specs.Existence.{opening, from_nought, from_one, bounds, existence_from}
 use Rattle.cadl_objects.specs.Clauses.Answers.{ExistencePast, ExistenceIs, existence_closed, braced}
@@ -42,39 +42,39 @@ existence-earlier s from later (Existence flag next) h p = (p.0, omega arith, p.
 
 -- `matches {`
 module _ (s : List ℕ) (from : ℕ) (r : Expected) (e : ExpectIs s matches from (expect s matches from) r) where
-  opening-fault : (x : Refusal) → r ≡ Fault x → ExpectIs s open_brace from (opening s from) (Fault x)
+  opening_fault : (x : Refusal) → r ≡ Fault x → ExpectIs s open_brace from (opening s from) (Fault x)
   unfolding opening
-  opening-fault x g = record { is = rw (expected-fault e x g); past = tt }
+  opening_fault x g = record { is = rw (expected_fault e x g); past = tt }
 
   module _ (t : Token) (g : r ≡ Taken t) where
-    opening-rest : (q : Expected) → ExpectIs s open_brace t.end (expect s open_brace t.end) q
+    opening_rest : (q : Expected) → ExpectIs s open_brace t.end (expect s open_brace t.end) q
         → ExpectIs s open_brace from (opening s from) q
     unfolding opening
-    opening-rest q h =
-        let p = expected-past e t g in
-        record { is = rw (expected-token e t g) h.is; past = token-earlier s open_brace from t.end q (omega arith) h.past }
+    opening_rest q h =
+        let p = expected_past e t g in
+        record { is = rw (expected_token e t g) h.is; past = token-earlier s open_brace from t.end q (omega arith) h.past }
 
 module _ (s : List ℕ) (from : ℕ) (t : Token) (tok : TokenIs s from (token_at s from) t) where
   pub opening-other : (t.sort ≡ matches → ⊥) → (x : Refusal) → x ≡ refusal (syntax_cause t) t.start
       → ExpectIs s open_brace from (opening s from) (Fault x)
-  opening-other n x e = opening-fault s from (Fault x) (expect-is s matches from t tok (Fault x) (taken_not t matches n x e)) x refl
+  opening-other n x e = opening_fault s from (Fault x) (expect_is s matches from t tok (Fault x) (taken_not t matches n x e)) x refl
 
-  pub opening-opens : t.sort ≡ matches → (q : Expected) → ExpectIs s open_brace t.end (expect s open_brace t.end) q
+  pub opening_opens : t.sort ≡ matches → (q : Expected) → ExpectIs s open_brace t.end (expect s open_brace t.end) q
       → ExpectIs s open_brace from (opening s from) q
-  opening-opens k q h = opening-rest s from (Taken t) (expect-is s matches from t tok (Taken t) (taken-there t matches k)) t refl q h
+  opening_opens k q h = opening_rest s from (Taken t) (expect_is s matches from t tok (Taken t) (taken_there t matches k)) t refl q h
 
   -- the same place has the same token
-  pub token-same : (place : ℕ) → place ≡ from → TokenIs s place (token_at s place) t
-  token-same place e = rw e tok
+  pub token_same : (place : ℕ) → place ≡ from → TokenIs s place (token_at s place) t
+  token_same place e = rw e tok
 
 -- an integer that is spelled so
 module _ (s w : List ℕ) (t : Token) where
-  pub spells-not : (t.sort ≡ integer → ⊥) → false ≡ (eqb t.sort integer && same w (spelling s t))
-  spells-not n = rw (ne_eqb t.sort integer n)
+  pub spells_not : (t.sort ≡ integer → ⊥) → false ≡ (eqb t.sort integer && same w (spelling s t))
+  spells_not n = rw (ne_eqb t.sort integer n)
 
-  pub spells-is : (r : Bool) → t.sort ≡ integer → r ≡ same w (part s t.start t.end)
+  pub spells_is : (r : Bool) → t.sort ≡ integer → r ≡ same w (part s t.start t.end)
       → r ≡ (eqb t.sort integer && same w (spelling s t))
-  spells-is r e q = rw (eq-eqb t.sort integer e) q
+  spells_is r e q = rw (eq-eqb t.sort integer e) q
 
 abbrev spelled : List ℕ → List ℕ → Token → Bool
 spelled s w t = eqb t.sort integer && same w (spelling s t)
@@ -86,13 +86,13 @@ token-within s from x t tok = record { order = tok.order; inside = tok.inside }
 module _ (s : List ℕ) (from : ℕ) (t : Token) (tok : TokenIs s from (token_at s from) t) where
   -- behind the first number: nothing more
   module _ (n : t.sort ≡ dots → ⊥) (h : from ≤ length s) where
-    pub nought-alone : ExistenceIs s from (from_nought s from) (Existence 0 from)
+    pub nought_alone : ExistenceIs s from (from_nought s from) (Existence 0 from)
     unfolding from_nought
-    nought-alone = record { is = rw (← tok.is, ne_eqb t.sort dots n); past = (omega arith, omega arith, h) }
+    nought_alone = record { is = rw (← tok.is, ne_eqb t.sort dots n); past = (omega arith, omega arith, h) }
 
-    pub one-alone : ExistenceIs s from (from_one s from) (Existence 2 from)
+    pub one_alone : ExistenceIs s from (from_one s from) (Existence 2 from)
     unfolding from_one
-    one-alone = record { is = rw (← tok.is, ne_eqb t.sort dots n); past = (omega arith, omega arith, h) }
+    one_alone = record { is = rw (← tok.is, ne_eqb t.sort dots n); past = (omega arith, omega arith, h) }
 
   -- behind `..`
   module _ (d : t.sort ≡ dots) (u : Token) (next : TokenIs s t.end (token_at s t.end) u) where
@@ -101,25 +101,25 @@ module _ (s : List ℕ) (from : ℕ) (t : Token) (tok : TokenIs s from (token_at
     unfolding from_nought
     nought-nought a p h = record { is = rw (← tok.is, eq-eqb t.sort dots d, ← next.is, ← p, h); past = (omega arith, omega arith, next.inside) }
 
-    pub nought-one : (a b : Bool) → a ≡ spelled s (bytes "0") u → a ≡ false → b ≡ spelled s (bytes "1") u → b ≡ true
+    pub nought_one : (a b : Bool) → a ≡ spelled s (bytes "0") u → a ≡ false → b ≡ spelled s (bytes "1") u → b ≡ true
         → ExistenceIs s from (from_nought s from) (Existence 1 u.end)
     unfolding from_nought
-    nought-one a b p h q k = record { is = rw (← tok.is, eq-eqb t.sort dots d, ← next.is, ← p, h, ← q, k); past = (omega arith, omega arith, next.inside) }
+    nought_one a b p h q k = record { is = rw (← tok.is, eq-eqb t.sort dots d, ← next.is, ← p, h, ← q, k); past = (omega arith, omega arith, next.inside) }
 
-    pub nought-fault : (a b : Bool) → a ≡ spelled s (bytes "0") u → a ≡ false → b ≡ spelled s (bytes "1") u → b ≡ false
+    pub nought_fault : (a b : Bool) → a ≡ spelled s (bytes "0") u → a ≡ false → b ≡ spelled s (bytes "1") u → b ≡ false
         → (x : Refusal) → x ≡ refusal (syntax_cause u) u.start → ExistenceIs s from (from_nought s from) (Faulty x)
     unfolding from_nought
-    nought-fault a b p h q k x e = record { is = rw (← tok.is, eq-eqb t.sort dots d, ← next.is, ← p, h, ← q, k, e); past = tt }
+    nought_fault a b p h q k x e = record { is = rw (← tok.is, eq-eqb t.sort dots d, ← next.is, ← p, h, ← q, k, e); past = tt }
 
-    pub one-one : (b : Bool) → b ≡ spelled s (bytes "1") u → b ≡ true
+    pub one_one : (b : Bool) → b ≡ spelled s (bytes "1") u → b ≡ true
         → ExistenceIs s from (from_one s from) (Existence 2 u.end)
     unfolding from_one
-    one-one b q k = record { is = rw (← tok.is, eq-eqb t.sort dots d, ← next.is, ← q, k); past = (omega arith, omega arith, next.inside) }
+    one_one b q k = record { is = rw (← tok.is, eq-eqb t.sort dots d, ← next.is, ← q, k); past = (omega arith, omega arith, next.inside) }
 
-    pub one-fault : (b : Bool) → b ≡ spelled s (bytes "1") u → b ≡ false → (x : Refusal)
+    pub one_fault : (b : Bool) → b ≡ spelled s (bytes "1") u → b ≡ false → (x : Refusal)
         → x ≡ refusal (syntax_cause u) u.start → ExistenceIs s from (from_one s from) (Faulty x)
     unfolding from_one
-    one-fault b q k x e = record { is = rw (← tok.is, eq-eqb t.sort dots d, ← next.is, ← q, k, e); past = tt }
+    one_fault b q k x e = record { is = rw (← tok.is, eq-eqb t.sort dots d, ← next.is, ← q, k, e); past = tt }
 
   -- between the braces
   pub bounds-nought : (a : Bool) → a ≡ spelled s (bytes "0") t → a ≡ true → (r : ExistenceRead)
@@ -127,105 +127,105 @@ module _ (s : List ℕ) (from : ℕ) (t : Token) (tok : TokenIs s from (token_at
   unfolding bounds
   bounds-nought a p h r e = record { is = rw (← tok.is, ← p, h) e.is; past = existence-earlier s from t.end r (omega arith) e.past }
 
-  pub bounds-one : (a b : Bool) → a ≡ spelled s (bytes "0") t → a ≡ false → b ≡ spelled s (bytes "1") t → b ≡ true
+  pub bounds_one : (a b : Bool) → a ≡ spelled s (bytes "0") t → a ≡ false → b ≡ spelled s (bytes "1") t → b ≡ true
       → (r : ExistenceRead) → ExistenceIs s t.end (from_one s t.end) r → ExistenceIs s from (bounds s from) r
   unfolding bounds
-  bounds-one a b p h q k r e = record { is = rw (← tok.is, ← p, h, ← q, k) e.is; past = existence-earlier s from t.end r (omega arith) e.past }
+  bounds_one a b p h q k r e = record { is = rw (← tok.is, ← p, h, ← q, k) e.is; past = existence-earlier s from t.end r (omega arith) e.past }
 
-  pub bounds-fault : (a b : Bool) → a ≡ spelled s (bytes "0") t → a ≡ false → b ≡ spelled s (bytes "1") t → b ≡ false
+  pub bounds_fault : (a b : Bool) → a ≡ spelled s (bytes "0") t → a ≡ false → b ≡ spelled s (bytes "1") t → b ≡ false
       → (x : Refusal) → x ≡ refusal (syntax_cause t) t.start → ExistenceIs s from (bounds s from) (Faulty x)
   unfolding bounds
-  bounds-fault a b p h q k x e = record { is = rw (← tok.is, ← p, h, ← q, k, e); past = tt }
+  bounds_fault a b p h q k x e = record { is = rw (← tok.is, ← p, h, ← q, k, e); past = tt }
 
   -- with `existence`, and without
-  pub existence-there : t.sort ≡ Spelling.existence → (r : ExistenceRead)
+  pub existence_there : t.sort ≡ Spelling.existence → (r : ExistenceRead)
       → ExistenceIs s t.end (braced s t.end) r → ExistenceIs s from (existence_from s from) r
   unfolding existence_from braced existence_closed
-  existence-there d r e = record { is = rw (← tok.is, eq-eqb t.sort Spelling.existence d) e.is; past = existence-earlier s from t.end r (omega arith) e.past }
+  existence_there d r e = record { is = rw (← tok.is, eq-eqb t.sort Spelling.existence d) e.is; past = existence-earlier s from t.end r (omega arith) e.past }
 
-  pub existence-none : (t.sort ≡ Spelling.existence → ⊥) → from ≤ length s
+  pub existence_none : (t.sort ≡ Spelling.existence → ⊥) → from ≤ length s
       → ExistenceIs s from (existence_from s from) (Existence 2 from)
   unfolding existence_from
-  existence-none n h = record { is = rw (← tok.is, ne_eqb t.sort Spelling.existence n); past = (omega arith, omega arith, h) }
+  existence_none n h = record { is = rw (← tok.is, ne_eqb t.sort Spelling.existence n); past = (omega arith, omega arith, h) }
 
 -- the `}`
 module _ (s : List ℕ) (flag from : ℕ) (small : flag ≤ 2) (r : Expected)
     (e : ExpectIs s close_brace from (expect s close_brace from) r) where
-  pub closed-fault : (x : Refusal) → r ≡ Fault x → ExistenceIs s from (existence_closed s flag from) (Faulty x)
+  pub closed_fault : (x : Refusal) → r ≡ Fault x → ExistenceIs s from (existence_closed s flag from) (Faulty x)
   unfolding existence_closed
-  closed-fault x g = record { is = rw (expected-fault e x g); past = tt }
+  closed_fault x g = record { is = rw (expected_fault e x g); past = tt }
 
-  pub closed-there : (t : Token) → r ≡ Taken t
+  pub closed_there : (t : Token) → r ≡ Taken t
       → ExistenceIs s from (existence_closed s flag from) (Existence flag t.end)
   unfolding existence_closed
-  closed-there t g = let p = expected-past e t g in record { is = rw (expected-token e t g); past = (small, omega arith, p.2) }
+  closed_there t g = let p = expected_past e t g in record { is = rw (expected_token e t g); past = (small, omega arith, p.2) }
 
 -- what an answer says of the reading that it is
 module _ {s : List ℕ} {from : ℕ} {reading : Reading ℕ} {r : ExistenceRead} (e : ExistenceIs s from reading r) where
-  pub existence-refused : (x : Refusal) → r ≡ Faulty x → reading ≡ refused x
-  existence-refused x g = rw g at (sym e.is)
+  pub existence_refused : (x : Refusal) → r ≡ Faulty x → reading ≡ refused x
+  existence_refused x g = rw g at (sym e.is)
 
-  pub existence-got : (flag next : ℕ) → r ≡ Existence flag next → reading ≡ got flag next
-  existence-got flag next g = rw g at (sym e.is)
+  pub existence_got : (flag next : ℕ) → r ≡ Existence flag next → reading ≡ got flag next
+  existence_got flag next g = rw g at (sym e.is)
 
-  pub existence-past : (flag next : ℕ) → r ≡ Existence flag next → ExistencePast s from (Existence flag next)
-  existence-past flag next g = rw g at e.past
+  pub existence_past : (flag next : ℕ) → r ≡ Existence flag next → ExistencePast s from (Existence flag next)
+  existence_past flag next g = rw g at e.past
 
 -- an existence between its braces
 module _ (s : List ℕ) (from : ℕ) (o : Expected) (e : ExpectIs s open_brace from (opening s from) o) where
-  pub braced-fault : (x : Refusal) → o ≡ Fault x → ExistenceIs s from (braced s from) (Faulty x)
+  pub braced_fault : (x : Refusal) → o ≡ Fault x → ExistenceIs s from (braced s from) (Faulty x)
   unfolding braced
-  braced-fault x g = record { is = rw (expected-fault e x g); past = tt }
+  braced_fault x g = record { is = rw (expected_fault e x g); past = tt }
 
   module _ (t : Token) (g : o ≡ Taken t) where
-    pub braced-asks : t.end ≤ length s
-    braced-asks = (expected-past e t g).2
+    pub braced_asks : t.end ≤ length s
+    braced_asks = (expected_past e t g).2
 
     module _ (b : ExistenceRead) (h : ExistenceIs s t.end (bounds s t.end) b) where
-      pub bounds-refused : (x : Refusal) → b ≡ Faulty x → ExistenceIs s from (braced s from) (Faulty x)
+      pub bounds_refused : (x : Refusal) → b ≡ Faulty x → ExistenceIs s from (braced s from) (Faulty x)
       unfolding braced
-      bounds-refused x k = record { is = rw (expected-token e t g, existence-refused h x k); past = tt }
+      bounds_refused x k = record { is = rw (expected_token e t g, existence_refused h x k); past = tt }
 
       module _ (flag next : ℕ) (k : b ≡ Existence flag next) where
         pub closing-inside : next ≤ length s
-        closing-inside = (existence-past h flag next k).2
+        closing-inside = (existence_past h flag next k).2
 
         pub closing-small : flag ≤ 2
-        closing-small = (existence-past h flag next k).0
+        closing-small = (existence_past h flag next k).0
 
-        pub braced-there : (r : ExistenceRead) → ExistenceIs s next (existence_closed s flag next) r
+        pub braced_there : (r : ExistenceRead) → ExistenceIs s next (existence_closed s flag next) r
             → ExistenceIs s from (braced s from) r
         unfolding braced
-        braced-there r q =
-            let p = existence-past h flag next k in
-            let z = expected-past e t g in
-            record { is = rw (expected-token e t g, existence-got h flag next k) q.is; past = existence-earlier s from next r (omega arith) q.past }
+        braced_there r q =
+            let p = existence_past h flag next k in
+            let z = expected_past e t g in
+            record { is = rw (expected_token e t g, existence_got h flag next k) q.is; past = existence-earlier s from next r (omega arith) q.past }
 
-pub ruleset existence-steps = (
+pub ruleset existence_steps = (
   opening-other,
-  opening-opens,
-  token-same,
-  spells-not,
-  spells-is,
+  opening_opens,
+  token_same,
+  spells_not,
+  spells_is,
   token-within,
-  nought-alone,
-  one-alone,
+  nought_alone,
+  one_alone,
   nought-nought,
-  nought-one,
-  nought-fault,
-  one-one,
-  one-fault,
+  nought_one,
+  nought_fault,
+  one_one,
+  one_fault,
   bounds-nought,
-  bounds-one,
-  bounds-fault,
-  existence-there,
-  existence-none,
-  closed-fault,
-  closed-there,
-  braced-fault,
-  braced-asks,
-  bounds-refused,
+  bounds_one,
+  bounds_fault,
+  existence_there,
+  existence_none,
+  closed_fault,
+  closed_there,
+  braced_fault,
+  braced_asks,
+  bounds_refused,
   closing-inside,
   closing-small,
-  braced-there,
+  braced_there,
 )

@@ -147,6 +147,6 @@ cases =
     ∷ refuses (bytes "A matches {a matches {Pd_}}") 2 25
     ∷ []
 
-pub none-wrong : wrong right 0 cases ≡ []
+pub none_wrong : wrong right 0 cases ≡ []
 unfolding wrong right cases object_list constraint_computes
-none-wrong = refl
+none_wrong = refl

@@ -19,13 +19,13 @@ use Rattle.meaning.specs.Constraints.{Value}
 use Rattle.meaning.specs.Counting.{value_pool}
 use Rattle.cadl_items.specs.Clauses.Spans.{first_of, second_of, earlier, SpansIn}
 use Rattle.cadl_items.specs.Clauses.Items.{Kept}
-use Rattle.cadl_items.proofs.ItemLaws.{item-first, item-second, item-kept, first-kept, second-kept, all-kept}
+use Rattle.cadl_items.proofs.ItemLaws.{item_first, item_second, item_kept, first_kept, second_kept, all_kept}
 use Rattle.cadl_objects.specs.Objects.{Attribute}
 use Rattle.cadl_objects.specs.Clauses.Told.{value, attribute_from}
 use Rattle.cadl_objects.specs.Clauses.Answers.{NamedAttribute, attribute_head, named_reading, NamedPast, AttributeHeadIs}
 use Rattle.cadl_objects.specs.declared.heads.AttributeHeadRead.{AttributeHeadRead}
 use Rattle.cadl_objects.specs.declared.heads.AttributeHeadRead.TheVariants as attribute_head_read
-use Rattle.cadl_objects.proofs.TreeReading.{ValueRead, value-holds}
+use Rattle.cadl_objects.proofs.TreeReading.{ValueRead, value_holds}
 use Rattle.table.specs.Records.{record_size, encodes}
 use Rattle.compile_flatten.specs.Flatten.{value_link, value_table}
 use Rattle.compile_emission.specs.Clauses.Answers.{spot, written, link_below, Room, PartFits, NameRoom, NameKept, attribute_row, next_link, closed_attribute, CloseIs, CloseRoom}
@@ -36,8 +36,8 @@ use Rattle.compile_emission.specs.declared.spots.TreeRead.TheVariants.{Refused, 
 use Rattle.compile_emission.specs.declared.spots.AttributeRead as attribute_reads
 use Rattle.compile_emission.specs.declared.spots.AttributeRead.TheVariants as attribute_read
 use Rattle.compile_flatten.proofs.FlattenLaws.{value-length}
-use Rattle.compile_emission.proofs.TreeWriting.{row_below, IsTree, is-tree, is-refused, tree-room, value-link}
-use Rattle.compile.proofs.ReadingLaws.{behind_name, attribute-by}
+use Rattle.compile_emission.proofs.TreeWriting.{row_below, IsTree, is_tree_lem, is_refused_lem, tree_room, value_link_lem}
+use Rattle.compile.proofs.ReadingLaws.{behind_name, attribute_by}
 
 -- ---- an attribute
 
@@ -48,7 +48,7 @@ abbrev attribute_as : ℕ → List ℕ → Value → Attribute
 attribute_as flag w v = record { existence = flag; name = w; value = v }
 
 -- an attribute's record below its value's, and its `}`
-attribute-written : (s : List ℕ) (little : Bool) (p : Spot) (flag : ℕ) (w : List ℕ) (v : Value) (place : ℕ)
+attribute_written_lem : (s : List ℕ) (little : Bool) (p : Spot) (flag : ℕ) (w : List ℕ) (v : Value) (place : ℕ)
     (rs bs : List ℕ) (x : Reading Token)
     → link_below (p.next + 1) (p.next + 1 + length (value_table v (p.pool + length w))) ≡ value_link v
     → closed_attribute s little p flag w
@@ -57,8 +57,8 @@ attribute-written : (s : List ℕ) (little : Bool) (p : Spot) (flag : ℕ) (w : 
     (sets (sets bs p.pool w) (p.pool + length w) (value_pool v)) x
     ≡ attribute_written s little p rs bs (read_then x (λ u at. got (attribute_as flag w v) at))
 unfolding closed_attribute attribute_written
-attribute-written s little p flag w v place rs bs (refused x) h = refl
-attribute-written s little p flag w v place rs bs (got t at) h =
+attribute_written_lem s little p flag w v place rs bs (refused x) h = refl
+attribute_written_lem s little p flag w v place rs bs (got t at) h =
     let table = value_table v (p.pool + length w) in
     let next = p.next + 1 + length table in
     let r = row_below little (attribute_row flag w p.pool (link_below (p.next + 1) next) (next_link s at next)) table p.next rs refl in
@@ -83,27 +83,27 @@ name_of s levels n h r a at e = by (value s levels (n + 1) r) e
     by (got v y) f = two v (expect s close_brace y) f
 
 -- names that stay
-pub kept-both : {a b : ℕ} {x y z : List ℕ} → a ≤ b → Kept a x y → Kept b y z → Kept a x z
-kept-both h k l = record { same = λ j m. l.same j (omega arith) ∙ k.same j m }
+pub kept_both : {a b : ℕ} {x y z : List ℕ} → a ≤ b → Kept a x y → Kept b y z → Kept a x z
+kept_both h k l = record { same = λ j m. l.same j (omega arith) ∙ k.same j m }
 
 module _ {s : List ℕ} {p : Spot} {first top : ℕ} {names : List ℕ} (room : AttributeRoom s p first top names)
     {o : AttributeHeadRead} (e : AttributeHeadIs s (earlier s names first top) p.next p.place o) where
   abbrev Seen : List (List ℕ)
   Seen = earlier s names first top
 
-  head-is : (k : AttributeHeadRead) → o ≡ k → named_reading s k ≡ attribute_head s Seen p.next p.place
-  head-is k g = rw g at e.is
+  head_is : (k : AttributeHeadRead) → o ≡ k → named_reading s k ≡ attribute_head s Seen p.next p.place
+  head_is k g = rw g at e.is
 
   module _ (levels : ℕ) where
-    refused-is : {little : Bool} {rs bs names' rs' bs' : List ℕ} {x : Refusal} → Kept top names names'
+    refused_is : {little : Bool} {rs bs names' rs' bs' : List ℕ} {x : Refusal} → Kept top names names'
         → AttributeOf s levels p first top names ≡ refused x
         → AttributeIs s little levels p first top names rs bs names' rs' bs' (attribute_read.Refused x)
     unfolding attribute_written
-    refused-is k f = record { is = rw f; kept = k; pushed = λ a at g. let z : ◌≡◌ {A = ℕ} 0 1 = cc in absurd (omega arith) }
+    refused_is k f = record { is = rw f; kept = k; pushed = λ a at g. let z : ◌≡◌ {A = ℕ} 0 1 = cc in absurd (omega arith) }
 
-    pub attribute-faulty : (little : Bool) (rs bs : List ℕ) (x : Refusal) → o ≡ attribute_head_read.Faulty x
+    pub attribute_faulty : (little : Bool) (rs bs : List ℕ) (x : Refusal) → o ≡ attribute_head_read.Faulty x
         → AttributeIs s little levels p first top names rs bs names rs bs (attribute_read.Refused x)
-    attribute-faulty little rs bs x g = refused-is (all-kept names top) (attribute-by s levels Seen p.next p.place ∙ rw (← head-is _ g))
+    attribute_faulty little rs bs x g = refused_is (all_kept names top) (attribute_by s levels Seen p.next p.place ∙ rw (← head_is _ g))
 
   module _ {start end flag next : ℕ} (g : o ≡ attribute_head_read.Head start end flag next) where
     named_past : NamedPast s p.next p.place start end flag next
@@ -125,8 +125,8 @@ module _ {s : List ℕ} {p : Spot} {first top : ℕ} {names : List ℕ} (room : 
     word = part s start end
 
     module _ {bs names1 bs1 : List ℕ} {q : Spot} (put : NameKept word p next start end top bs names bs1 names1 q) where
-      pub value-stacked : Stacked s q (top + 1)
-      value-stacked =
+      pub value_stacked : Stacked s q (top + 1)
+      value_stacked =
           let h = named_past in
           let l = part_length s start end (omega arith) in
           let v = room.stacked.room in
@@ -141,70 +141,70 @@ module _ {s : List ℕ} {p : Spot} {first top : ℕ} {names : List ℕ} (room : 
 
         head_read : AttributeOf s levels p first top names ≡ behind_name s levels p.next
             (record { name = word; existence = flag }) next
-        head_read = attribute-by s levels Seen p.next p.place ∙ rw (← head-is _ g)
+        head_read = attribute_by s levels Seen p.next p.place ∙ rw (← head_is _ g)
 
         still : Kept top names names2
-        still = kept-both {b = top + 1} (omega arith) (rw put.stack (item-kept names top start end)) d.kept
+        still = kept_both {b = top + 1} (omega arith) (rw put.stack (item_kept names top start end)) d.kept
 
-        same-value : value s levels q.next q.place ≡ inside
-        same-value = ap (λ (y : Spot). value s levels y.next y.place) put.spot
+        same_value : value s levels q.next q.place ≡ inside
+        same_value = ap (λ (y : Spot). value s levels y.next y.place) put.spot
 
-        pub value-refused : (x : Refusal) → r ≡ Refused x
+        pub value_refused : (x : Refusal) → r ≡ Refused x
             → AttributeIs s little levels p first top names rs bs names2 rs2 bs2 (attribute_read.Refused x)
-        value-refused x k =
-            let f = is-refused value_table value_pool little q rs bs1 rs2 bs2 x _ (rw k at d.is) in
-            refused-is levels still (head_read ∙ rw (← same-value, f))
+        value_refused x k =
+            let f = is_refused_lem value_table value_pool little q rs bs1 rs2 bs2 x _ (rw k at d.is) in
+            refused_is levels still (head_read ∙ rw (← same_value, f))
 
         module _ {v : Spot} (k : r ≡ Read v) where
           read : IsTree value_table value_pool little q rs bs1 rs2 bs2 v (value s levels q.next q.place)
-          read = is-tree value_table value_pool little q rs bs1 rs2 bs2 v _ (rw k at d.is)
+          read = is_tree_lem value_table value_pool little q rs bs1 rs2 bs2 v _ (rw k at d.is)
 
-          value-is : inside ≡ got read.tree v.place
-          value-is = sym same-value ∙ read.is
+          value_is : inside ≡ got read.tree v.place
+          value_is = sym same_value ∙ read.is
 
           spot_is : v ≡ spot v.place (p.next + 1 + length (value_table read.tree (p.pool + length word)))
               (p.pool + length word + length (value_pool read.tree))
           spot_is = read.spot ∙ ap (λ (y : Spot). spot v.place (y.next + length (value_table read.tree y.pool)) (y.pool + length (value_pool read.tree))) put.spot
 
-          records-are : rs2 ≡ sets rs (record_size * (p.next + 1))
+          records_are : rs2 ≡ sets rs (record_size * (p.next + 1))
               (encodes little (value_table read.tree (p.pool + length word)))
-          records-are = read.records ∙ ap (λ (y : Spot). sets rs (record_size * y.next) (encodes little (value_table read.tree y.pool))) put.spot
+          records_are = read.records ∙ ap (λ (y : Spot). sets rs (record_size * y.next) (encodes little (value_table read.tree y.pool))) put.spot
 
-          bytes-are : bs2 ≡ sets (sets bs p.pool word) (p.pool + length word) (value_pool read.tree)
-          bytes-are = read.bytes ∙ λ i. sets (put.bytes i) (put.spot i).pool (value_pool read.tree)
+          bytes_are : bs2 ≡ sets (sets bs p.pool word) (p.pool + length word) (value_pool read.tree)
+          bytes_are = read.bytes ∙ λ i. sets (put.bytes i) (put.spot i).pool (value_pool read.tree)
 
-          read-in : ValueRead s (p.next + 1) next read.tree v.place
+          read_in : ValueRead s (p.next + 1) next read.tree v.place
           unfolding Holds
-          read-in = rw value-is at (value-holds s levels (p.next + 1) next named_past.inside)
+          read_in = rw value_is at (value_holds s levels (p.next + 1) next named_past.inside)
 
           pub value-closing : CloseRoom s p start end v
           value-closing =
               let h = named_past in
               let x = spot next (p.next + 1) (p.pool + length word) in
-              let w : Room s x = rw put.spot at value-stacked.room in
+              let w : Room s x = rw put.spot at value_stacked.room in
               let n : v.next ≡ p.next + 1 + length (value_table read.tree (p.pool + length word)) = ap (λ (y : Spot). y.next) spot_is in
               record {
                 lies = name-fits.lies;
                 bytes = let m : v.pool ≡ p.pool + length word + length (value_pool read.tree) = ap (λ (y : Spot). y.pool) spot_is in omega (arith, part_length s start end name-fits.lies.inside);
-                room = tree-room {p = x} {q = v} (value_table read.tree (p.pool + length word)) w read-in (value-length read.tree (p.pool + length word)) spot_is;
+                room = tree_room {p = x} {q = v} (value_table read.tree (p.pool + length word)) w read_in (value-length read.tree (p.pool + length word)) spot_is;
                 order = omega arith;
               }
 
-          link-is : link_below (p.next + 1)
+          link_is : link_below (p.next + 1)
               (p.next + 1 + length (value_table read.tree (p.pool + length word))) ≡ value_link read.tree
-          link-is = rw (value-length read.tree (p.pool + length word)) (value-link read.tree (p.next + 1) read-in.numbers read-in.proper)
+          link_is = rw (value-length read.tree (p.pool + length word)) (value_link_lem read.tree (p.next + 1) read_in.numbers read_in.proper)
 
           whole : AttributeOf s levels p first top names ≡ read_then (expect s close_brace v.place)
               (λ u at. got (attribute_as flag word read.tree) at)
-          whole = head_read ∙ rw value-is
+          whole = head_read ∙ rw value_is
 
           on_stack : length names ≡ 4_096 → Pushed s names2 top word
           on_stack long =
               let t = room.stacked.few in
               let h = named_past in
               let l : 2 * top + 1 < length names = let m = h.records in omega arith in
-              let a : first_of names2 top ≡ start = first-kept (top + 1) names1 names2 d.kept top (omega arith) ∙ rw put.stack (item-first names top start end l) in
-              let b : second_of names2 top ≡ end = second-kept (top + 1) names1 names2 d.kept top (omega arith) ∙ rw put.stack (item-second names top start end l) in
+              let a : first_of names2 top ≡ start = first_kept (top + 1) names1 names2 d.kept top (omega arith) ∙ rw put.stack (item_first names top start end l) in
+              let b : second_of names2 top ≡ end = second_kept (top + 1) names1 names2 d.kept top (omega arith) ∙ rw put.stack (item_second names top start end l) in
               record { is = λ i. part s (a i) (b i); lies = rw (a, b) name-fits.lies }
 
           pub value-closed : (rs3 : List ℕ) (z : attribute_reads.AttributeRead) → length names ≡ 4_096
@@ -213,11 +213,11 @@ module _ {s : List ℕ} {p : Spot} {first top : ℕ} {names : List ℕ} (room : 
           value-closed rs3 z long f =
               let x = expect s close_brace v.place in
               record {
-                is = f.is bs2 ∙ (λ i. closed_attribute s little p flag word (spot_is i) (records-are i) (bytes-are i) x) ∙ attribute-written s little p flag word read.tree v.place rs bs x link-is ∙ ap (attribute_written s little p rs bs) (sym whole);
+                is = f.is bs2 ∙ (λ i. closed_attribute s little p flag word (spot_is i) (records_are i) (bytes_are i) x) ∙ attribute_written_lem s little p flag word read.tree v.place rs bs x link_is ∙ ap (attribute_written s little p rs bs) (sym whole);
                 kept = still;
                 pushed = λ a at j. rw (name_of s levels p.next (record { name = word; existence = flag }) next a at (sym head_read ∙ j)) (on_stack long);
               }
 
-pub attribute-spans : {s : List ℕ} {p : Spot} {first top : ℕ} {names : List ℕ} → AttributeRoom s p first top names
+pub attribute_spans : {s : List ℕ} {p : Spot} {first top : ℕ} {names : List ℕ} → AttributeRoom s p first top names
     → length names ≡ 4_096 → SpansIn s names first top
-attribute-spans h l = record { room = let a = h.stacked.few in let b = h.stacked.room.records in omega arith; within = h.lies }
+attribute_spans h l = record { room = let a = h.stacked.few in let b = h.stacked.room.records in omega arith; within = h.lies }

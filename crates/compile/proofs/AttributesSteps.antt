@@ -20,11 +20,11 @@ use Rattle.meaning.specs.Constraints.{Attributes, no_more, attribute}
 use Rattle.meaning.specs.Counting.{attribute_pool, value_pool, value_records}
 use Rattle.cadl_items.specs.Clauses.Spans.{first_of, second_of, span_at, latest, earlier, Within}
 use Rattle.cadl_items.specs.Clauses.Items.{Kept}
-use Rattle.cadl_items.proofs.ItemLaws.{first-kept, second-kept, all-kept}
+use Rattle.cadl_items.proofs.ItemLaws.{first_kept, second_kept, all_kept}
 use Rattle.cadl_objects.specs.Objects.{Attribute, past_attribute, head_of}
 use Rattle.cadl_objects.proofs.TreeParts.{go_on}
 use Rattle.cadl_objects.specs.Clauses.Told.{attributes}
-use Rattle.cadl_objects.proofs.TreeReading.{AttributeRead, attribute-holds}
+use Rattle.cadl_objects.proofs.TreeReading.{AttributeRead, attribute_holds}
 use Rattle.table.specs.Records.{Record, record_size, encodes}
 use Rattle.compile_flatten.specs.Flatten.{attributes_link, value_link, attributes_table, value_table}
 use Rattle.compile_emission.specs.Clauses.Answers.{spot, Wrote, wrote, written, Room, attribute_row, attribute_wrote}
@@ -34,9 +34,9 @@ use Rattle.compile_emission.specs.declared.spots.TreeRead.TheVariants.{Refused, 
 use Rattle.compile_emission.specs.declared.spots.AttributeRead as attribute_reads
 use Rattle.compile_emission.specs.declared.spots.AttributeRead.TheVariants as attribute_read
 use Rattle.compile_flatten.proofs.FlattenLaws.{value-length}
-use Rattle.compile_emission.proofs.TreeWriting.{counted-value, rows_behind, pool-below}
+use Rattle.compile_emission.proofs.TreeWriting.{counted_value, rows_behind, pool_below}
 use Rattle.compile.proofs.ReadingLaws.{Linked, linked, turn}
-use Rattle.compile.proofs.AttributeSteps.{AttributeOf, kept-both}
+use Rattle.compile.proofs.AttributeSteps.{AttributeOf, kept_both}
 
 -- an attribute that was read, whether the object's `}` follows or not
 abbrev ended : Bool → Spot → attribute_reads.AttributeRead
@@ -61,19 +61,19 @@ record IsAttribute (s : List ℕ) (little : Bool) (p : Spot) (rs bs rs' bs' : Li
   pub bytes : bs' ≡ sets bs p.pool (a.name ++ value_pool a.value)
 
 module _ (s : List ℕ) (little : Bool) (p : Spot) (rs bs rs' bs' : List ℕ) where
-  is-attribute : (last : Bool) (q : Spot) (x : Reading Attribute)
+  is_attribute : (last : Bool) (q : Spot) (x : Reading Attribute)
       → attribute_wrote (ended last q) rs' bs' ≡ attribute_written s little p rs bs x
       → IsAttribute s little p rs bs rs' bs' last q x
   unfolding attribute_written
-  is-attribute true q (refused x) e =
+  is_attribute true q (refused x) e =
       let o : attribute_read.Last q ≡ attribute_read.Refused x = ap (λ (w : Wrote attribute_reads.AttributeRead). w.answer) e in
       let z : ◌≡◌ {A = ℕ} 0 1 = cc in
       absurd (omega arith)
-  is-attribute false q (refused x) e =
+  is_attribute false q (refused x) e =
       let o : attribute_read.More q ≡ attribute_read.Refused x = ap (λ (w : Wrote attribute_reads.AttributeRead). w.answer) e in
       let z : ◌≡◌ {A = ℕ} 0 1 = cc in
       absurd (omega arith)
-  is-attribute last q (got a at) e = by last (eqb (token_at s at).sort close_brace) refl e
+  is_attribute last q (got a at) e = by last (eqb (token_at s at).sort close_brace) refl e
     where
       table : List Record
       table = value_table a.value (p.pool + length a.name)
@@ -106,11 +106,11 @@ module _ (s : List ℕ) (little : Bool) (p : Spot) (rs bs rs' bs' : List ℕ) wh
           let z : ◌≡◌ {A = ℕ} 0 1 = cc in
           absurd (omega arith)
 
-  is-not : (y : Refusal) (x : Reading Attribute)
+  is_not : (y : Refusal) (x : Reading Attribute)
       → attribute_wrote (attribute_read.Refused y) rs' bs' ≡ attribute_written s little p rs bs x → x ≡ refused y
   unfolding attribute_written
-  is-not y (refused x) e = let o : attribute_read.Refused y ≡ attribute_read.Refused x = ap (λ (w : Wrote attribute_reads.AttributeRead). w.answer) e in cc
-  is-not y (got a at) e = by _ _ (eqb (token_at s at).sort close_brace) (ap (λ (w : Wrote attribute_reads.AttributeRead). w.answer) e)
+  is_not y (refused x) e = let o : attribute_read.Refused y ≡ attribute_read.Refused x = ap (λ (w : Wrote attribute_reads.AttributeRead). w.answer) e in cc
+  is_not y (got a at) e = by _ _ (eqb (token_at s at).sort close_brace) (ap (λ (w : Wrote attribute_reads.AttributeRead). w.answer) e)
     where
       by : (u v : Spot) (b : Bool) → attribute_read.Refused y ≡ cond b (attribute_read.Last u) (attribute_read.More v)
           → got a at ≡ refused y
@@ -143,7 +143,7 @@ step little p a place link rs bs (got xs at) h =
     let n : next + length more ≡ p.next + suc (length (table ++ more)) = simp length-append (omega arith) in
     let m : pool + length (attribute_pool xs) ≡ p.pool + length (w ++ (value_pool v ++ attribute_pool xs)) = simp length-append (omega arith) in
     let r : sets (sets rs (record_size * p.next) (encodes little (row link ∷ table))) (record_size * next) (encodes little more) ≡ sets rs (record_size * p.next) (encodes little (row link ∷ (table ++ more)))
-    = rows_behind little (row link ∷ table) more p.next next rs (refl, counted-value v (p.pool + length w)) (omega arith) in
+    = rows_behind little (row link ∷ table) more p.next next rs (refl, counted_value v (p.pool + length w)) (omega arith) in
     let l : p.pool + length (w ++ value_pool v) ≡ pool = simp length-append (omega arith) in
     let b : sets (sets bs p.pool (w ++ value_pool v)) pool (attribute_pool xs) ≡ sets bs p.pool (w ++ (value_pool v ++ attribute_pool xs))
     = sets_behind (w ++ value_pool v) (attribute_pool xs) bs p.pool pool l ∙ ap (λ (y : List ℕ). sets bs p.pool y) (append_assoc w (value_pool v) (attribute_pool xs)) in
@@ -162,13 +162,13 @@ unfolding written attributes_table attribute_pool
 none_more little place next pool rs bs = rw (add-zero, add-zero)
 
 -- names that are kept, and one more
-latest-kept : {A : Type 0} (f g : ℕ → A) (first n : ℕ) → ((j : ℕ) → j < first + n → f j ≡ g j)
+latest_kept : {A : Type 0} (f g : ℕ → A) (first n : ℕ) → ((j : ℕ) → j < first + n → f j ≡ g j)
     → latest f first n ≡ latest g first n
 unfolding latest
-latest-kept f g first zero h = refl
-latest-kept f g first (suc n) h =
+latest_kept f g first zero h = refl
+latest_kept f g first (suc n) h =
     let a = h (first + n) (omega arith) in
-    let b = latest-kept f g first n (λ j l. h j (omega arith)) in
+    let b = latest_kept f g first n (λ j l. h j (omega arith)) in
     rw (a, b)
 
 module _ {s : List ℕ} {first top : ℕ} {names names' : List ℕ} {w : List ℕ} (order : first ≤ top)
@@ -179,7 +179,7 @@ module _ {s : List ℕ} {first top : ℕ} {names names' : List ℕ} {w : List �
       let n = top - first in
       let a : top + 1 - first ≡ suc n = omega arith in
       let b : first + n ≡ top = omega arith in
-      let c = latest-kept (span_at s names') (span_at s names) first n (λ j l i. part s (first-kept top names names' k j (omega arith) i) (second-kept top names names' k j (omega arith) i)) in
+      let c = latest_kept (span_at s names') (span_at s names) first n (λ j l i. part s (first_kept top names names' k j (omega arith) i) (second_kept top names names' k j (omega arith) i)) in
       rw (a, b, h.is, c)
 
   lies_more : ((i : ℕ) → first ≤ i → i < top → Within s (first_of names i) (second_of names i)) → (i : ℕ) → first ≤ i
@@ -187,7 +187,7 @@ module _ {s : List ℕ} {first top : ℕ} {names names' : List ℕ} {w : List �
   lies_more v i a b = lies i (dec_lt i top) a b
     where
       lies : (i : ℕ) → Dec (i < top) → first ≤ i → i < top + 1 → Within s (first_of names' i) (second_of names' i)
-      lies i (yes m) a b = rw (first-kept top names names' k i m, second-kept top names names' k i m) (v i a m)
+      lies i (yes m) a b = rw (first_kept top names names' k i m, second_kept top names names' k i m) (v i a m)
       lies i (no m) a b = let z : i ≡ top = omega arith in rw z h.lies
 
 -- at an attribute, with so many names on the stack: with what is left the records and the pool are what they are to be
@@ -213,7 +213,7 @@ attributes-start s little levels {first = first} rs bs names h =
       room = record { stacked = h; lies = λ i a b. absurd (omega arith) };
       order = omega arith;
       enough = omega arith;
-      kept = all-kept names first;
+      kept = all_kept names first;
       is = rw e;
     }
 
@@ -228,25 +228,25 @@ module _ {s : List ℕ} {little : Bool} {levels : ℕ} {p : Spot} {first : ℕ} 
   Here = q.next
 
   still : Kept first names₀ names'
-  still = kept-both inv.order inv.kept d.kept
+  still = kept_both inv.order inv.kept d.kept
 
-  one-turn : attributes s levels inv.fuel (earlier s names first top) Here q.place
+  one_turn : attributes s levels inv.fuel (earlier s names first top) Here q.place
       ≡ read_then (AttributeOf s levels q first top names)
       (λ a at. go_on s Here a
       (attributes s levels (inv.fuel - 1) (a.name ∷ earlier s names first top) (past_attribute Here a)) at)
-  one-turn = turn s levels inv.fuel (earlier s names first top) Here q.place (let a = inv.enough in let b = inv.room.stacked.room.inside in omega arith)
+  one_turn = turn s levels inv.fuel (earlier s names first top) Here q.place (let a = inv.enough in let b = inv.room.stacked.room.inside in omega arith)
 
-  pub attributes-not : (x : Refusal) → r ≡ attribute_read.Refused x
+  pub attributes_not : (x : Refusal) → r ≡ attribute_read.Refused x
       → TreeIs first names₀ names' (written attributes_table attribute_pool little p rs₀ bs₀ Whole) rs' bs' (Refused x)
   unfolding written
-  attributes-not x g =
-      let f = is-not s little q rs bs rs' bs' x (AttributeOf s levels q first top names) (rw g at d.is) in
-      let t : attributes s levels inv.fuel (earlier s names first top) Here q.place ≡ refused x = one-turn ∙ rw f in
+  attributes_not x g =
+      let f = is_not s little q rs bs rs' bs' x (AttributeOf s levels q first top names) (rw g at d.is) in
+      let t : attributes s levels inv.fuel (earlier s names first top) Here q.place ≡ refused x = one_turn ∙ rw f in
       record { is = rw t at inv.is; kept = still }
 
   module _ (last : Bool) (z : Spot) (g : r ≡ ended last z) where
     read : IsAttribute s little q rs bs rs' bs' last z (AttributeOf s levels q first top names)
-    read = is-attribute s little q rs bs rs' bs' last z (AttributeOf s levels q first top names) (rw g at d.is)
+    read = is_attribute s little q rs bs rs' bs' last z (AttributeOf s levels q first top names) (rw g at d.is)
 
     abbrev Rest : Reading Attributes
     Rest = attributes s levels (inv.fuel - 1) (read.a.name ∷ earlier s names first top) (past_attribute Here read.a) read.at
@@ -254,16 +254,16 @@ module _ {s : List ℕ} {little : Bool} {levels : ℕ} {p : Spot} {first : ℕ} 
     turned : attributes s levels inv.fuel (earlier s names first top) Here q.place ≡ go_on s Here read.a
         (attributes s levels (inv.fuel - 1) (read.a.name ∷ earlier s names first top) (past_attribute Here read.a))
         read.at
-    turned = one-turn ∙ rw read.is
+    turned = one_turn ∙ rw read.is
 
-    read-in : AttributeRead s q.next q.place read.a read.at
+    read_in : AttributeRead s q.next q.place read.a read.at
     unfolding Holds
-    read-in = rw read.is at (attribute-holds s levels Here q.place inv.room.stacked.room.inside (earlier s names first top))
+    read_in = rw read.is at (attribute_holds s levels Here q.place inv.room.stacked.room.inside (earlier s names first top))
 
-  pub attributes-last : (z : Spot) → r ≡ attribute_read.Last z
+  pub attributes_last : (z : Spot) → r ≡ attribute_read.Last z
       → TreeIs first names₀ names' (written attributes_table attribute_pool little p rs₀ bs₀ Whole) rs' bs' (Read z)
   unfolding written attributes_table attribute_pool
-  attributes-last z g =
+  attributes_last z g =
       let e = read true z g in
       let a = e.a in
       let t = token_at s e.at in
@@ -283,7 +283,7 @@ module _ {s : List ℕ} {little : Bool} {levels : ℕ} {p : Spot} {first : ℕ} 
 
     pub attributes-less : length s - z.place < length s - q.place
     attributes-less =
-        let k = read-in false z g in
+        let k = read_in false z g in
         let e : z.place ≡ (read false z g).at = ap (λ (y : Spot). y.place) (read false z g).spot in
         let a = k.least in
         let b = k.most in
@@ -292,24 +292,24 @@ module _ {s : List ℕ} {little : Bool} {levels : ℕ} {p : Spot} {first : ℕ} 
     behind : Room s z
     behind =
         let e = read false z g in
-        let k = read-in false z g in
+        let k = read_in false z g in
         let a = e.a in
         let v = inv.room.stacked.room in
         let l = value-length a.value (q.pool + length a.name) in
         let x : z.place ≡ e.at = ap (λ (y : Spot). y.place) e.spot in
         let n : z.next ≡ q.next + 1 + length (value_table a.value (q.pool + length a.name)) = ap (λ (y : Spot). y.next) e.spot in
         let m : z.pool ≡ q.pool + length a.name + length (value_pool a.value) = ap (λ (y : Spot). y.pool) e.spot in
-        let h = pool-below s q.pool q.place e.at (a.name ++ value_pool a.value) v.bytes (omega (arith, k.least)) k.most k.pool in
+        let h = pool_below s q.pool q.place e.at (a.name ++ value_pool a.value) v.bytes (omega (arith, k.least)) k.most k.pool in
         let i = length-append a.name (value_pool a.value) in
         let u = k.room v.records in
         let t = k.most in
         record { inside = omega arith; short = v.short; records = omega arith; bytes = omega arith }
 
-    pub attributes-next : InAttributes s little levels p first rs₀ bs₀ names₀ z (top + 1) rs' bs' names'
-    attributes-next =
+    pub attributes_next : InAttributes s little levels p first rs₀ bs₀ names₀ z (top + 1) rs' bs' names'
+    attributes_next =
         let e = read false z g in
         let a = e.a in
-        let k = read-in false z g in
+        let k = read_in false z g in
         let l = value-length a.value (q.pool + length a.name) in
         let x : z.place ≡ e.at = ap (λ (y : Spot). y.place) e.spot in
         let n : z.next ≡ q.next + 1 + length (value_table a.value (q.pool + length a.name)) = ap (λ (y : Spot). y.next) e.spot in

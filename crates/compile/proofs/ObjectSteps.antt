@@ -22,10 +22,10 @@ use Rattle.refusals.specs.Clauses.Answers.{ExpectIs}
 use Rattle.refusals.specs.declared.Refusal.{Refusal}
 use Rattle.refusals.specs.declared.steps.Expected.{Expected}
 use Rattle.refusals.specs.declared.steps.Expected.TheVariants.{Fault, Taken}
-use Rattle.refusals.proofs.StepLaws.{expected-fault, expected-token}
+use Rattle.refusals.proofs.StepLaws.{expected_fault, expected_token}
 use Rattle.meaning.specs.Constraints.{Object, object, Attributes, no_more, Value, nested}
 use Rattle.meaning.specs.Counting.{object_pool, attribute_pool, value_pool}
-use Rattle.cadl_items.proofs.ItemLaws.{all-kept}
+use Rattle.cadl_items.proofs.ItemLaws.{all_kept}
 use Rattle.cadl_objects.specs.Clauses.Told.{value, attributes, object_from}
 use Rattle.cadl_objects.specs.Clauses.Answers.{Counted, object_head, typed_reading, TypedPast, ObjectHeadIs}
 use Rattle.cadl_objects.specs.declared.heads.ObjectHeadRead.{ObjectHeadRead}
@@ -38,20 +38,20 @@ use Rattle.compile_emission.specs.declared.spots.Spot.{Spot}
 use Rattle.compile_emission.specs.declared.spots.TreeRead.{TreeRead}
 use Rattle.compile_emission.specs.declared.spots.TreeRead.TheVariants.{Refused, Read}
 use Rattle.compile_emission.proofs.WritingSteps.{front}
-use Rattle.cadl_objects.proofs.TreeParts.{value-is}
-use Rattle.compile.proofs.ReadingLaws.{behind_head, object-refused, object-levels, object-got, Linked, linked}
+use Rattle.cadl_objects.proofs.TreeParts.{value_is}
+use Rattle.compile.proofs.ReadingLaws.{behind_head, object_refused, object_levels_lem, object_got, Linked, linked}
 
 -- ---- the `}` of an object that any attribute may follow
 
 module _ {s : List ℕ} {from : ℕ} {o : Expected} (e : ExpectIs s close_brace from (expect s close_brace from) o)
     (p : Spot) where
-  pub end-fault : (x : Refusal) → o ≡ Fault x → EndIs s p from (Refused x)
+  pub end_fault : (x : Refusal) → o ≡ Fault x → EndIs s p from (Refused x)
   unfolding written
-  end-fault x g = record { is = λ little rs bs. rw (expected-fault e x g) }
+  end_fault x g = record { is = λ little rs bs. rw (expected_fault e x g) }
 
-  pub end-taken : (t : Token) → o ≡ Taken t → EndIs s p from (Read (spot t.end p.next p.pool))
+  pub end_taken : (t : Token) → o ≡ Taken t → EndIs s p from (Read (spot t.end p.next p.pool))
   unfolding written attributes_table attribute_pool
-  end-taken t g = record { is = λ little rs bs. rw (expected-token e t g, add-zero, add-zero) }
+  end_taken t g = record { is = λ little rs bs. rw (expected_token e t g, add-zero, add-zero) }
 
 -- ---- an object
 
@@ -59,15 +59,15 @@ pub counted : {s : List ℕ} {p : Spot} → Room s p → Counted s p.next p.plac
 counted h = record { inside = h.inside; records = h.records }
 
 -- attributes behind an object's record and names make up the object
-object-written : (little : Bool) (p : Spot) (t c : List ℕ) (place : ℕ) (first : ℕ) (rs bs : List ℕ)
+object_written : (little : Bool) (p : Spot) (t c : List ℕ) (place : ℕ) (first : ℕ) (rs bs : List ℕ)
     (x : Reading Attributes) → ((xs : Attributes) (at : ℕ) → x ≡ got xs at → attributes_link xs ≡ first)
     → written attributes_table attribute_pool little (spot place (p.next + 1) (p.pool + length t + length c))
     (sets rs (record_size * p.next) (encode little (object_row t c p.pool first))) (sets bs p.pool (t ++ c)) x
     ≡ written object_table object_pool little p rs bs
     (read_then x (λ xs at. got (object (record { number = p.next; type = t; code = c }) xs) at))
 unfolding written object_table object_pool
-object-written little p t c place first rs bs (refused x) h = refl
-object-written little p t c place first rs bs (got xs at) h =
+object_written little p t c place first rs bs (refused x) h = refl
+object_written little p t c place first rs bs (got xs at) h =
     let q = p.pool + length t + length c in
     let n : p.next + 1 + length (attributes_table xs q) ≡ p.next + suc (length (attributes_table xs q)) = omega arith in
     let m : q + length (attribute_pool xs) ≡ p.pool + length (t ++ (c ++ attribute_pool xs)) = simp length-append (omega arith) in
@@ -86,61 +86,61 @@ module _ {s : List ℕ} {p : Spot} {top : ℕ} (room : Stacked s p top) {levels 
   abbrev From : Reading Object
   From = object_from s levels p.next p.place
 
-  head-is : (k : ObjectHeadRead) → o ≡ k → typed_reading s k ≡ object_head s levels p.next p.place
-  head-is k g = rw g at e.is
+  head_is : (k : ObjectHeadRead) → o ≡ k → typed_reading s k ≡ object_head s levels p.next p.place
+  head_is k g = rw g at e.is
 
-  pub object-faulty : (little : Bool) (names rs bs : List ℕ) (x : Refusal) → o ≡ object_head_read.Faulty x
+  pub object_faulty : (little : Bool) (names rs bs : List ℕ) (x : Refusal) → o ≡ object_head_read.Faulty x
       → TreeIs top names names (written object_table object_pool little p rs bs From) rs bs (Refused x)
   unfolding written
-  object-faulty little names rs bs x g = record { is = rw (object-refused s levels p.next p.place x (sym (head-is _ g))); kept = all-kept names top }
+  object_faulty little names rs bs x g = record { is = rw (object_refused s levels p.next p.place x (sym (head_is _ g))); kept = all_kept names top }
 
   module _ {a b c d next : ℕ} (g : o ≡ object_head_read.Head a b c d next) where
-    pub object-past : TypedPast s p.next p.place a b c d next
-    object-past = rw g at e.past
+    pub object_past : TypedPast s p.next p.place a b c d next
+    object_past = rw g at e.past
 
-    pub object-inside : next ≤ length s
-    object-inside = object-past.inside
+    pub object_inside : next ≤ length s
+    object_inside = object_past.inside
 
-    pub object-level : 1 ≤ levels
-    object-level = object-levels s levels p.next p.place _ next (sym (head-is _ g))
+    pub object_level : 1 ≤ levels
+    object_level = object_levels_lem s levels p.next p.place _ next (sym (head_is _ g))
 
     read : From ≡ behind_head s (levels - 1) p.next (record { type = part s a b; code = part s c d }) next
-    read = object-got s levels p.next p.place _ next (sym (head-is _ g))
+    read = object_got s levels p.next p.place _ next (sym (head_is _ g))
 
     module _ {t : Token} (tok : TokenIs s next (token_at s next) t) {little any : Bool} {rs bs rs' bs' : List ℕ}
         {q : Spot} (put : ObjectPut (part s a b) (part s c d) little p next any rs bs rs' bs' q) where
-      pub object-any : (names : List ℕ) (r : TreeRead) → any ≡ eqb t.sort star → any ≡ true → EndIs s q t.end r
+      pub object_any : (names : List ℕ) (r : TreeRead) → any ≡ eqb t.sort star → any ≡ true → EndIs s q t.end r
           → TreeIs top names names (written object_table object_pool little p rs bs From) rs' bs' r
-      object-any names r k y h =
+      object_any names r k y h =
           let z : eqb (token_at s next).sort star ≡ true = ap (λ (x : Token). eqb x.sort star) (sym tok.is) ∙ sym k ∙ y in
-          let w = object-written little p (part s a b) (part s c d) next 0 rs bs (read_then (expect s close_brace t.end) (λ u at. got no_more at)) (ends (expect s close_brace t.end)) in
+          let w = object_written little p (part s a b) (part s c d) next 0 rs bs (read_then (expect s close_brace t.end) (λ u at. got no_more at)) (ends (expect s close_brace t.end)) in
           let j = tok.is in
-          record { is = h.is little rs' bs' ∙ rw (put.spot, put.records, put.bytes, y, read, z, ← j) w; kept = all-kept names top }
+          record { is = h.is little rs' bs' ∙ rw (put.spot, put.records, put.bytes, y, read, z, ← j) w; kept = all_kept names top }
         where
           ends : (x : Reading Token) (xs : Attributes) (at : ℕ) → read_then x (λ u y. got no_more y) ≡ got xs at
               → attributes_link xs ≡ 0
           ends (refused x) xs at f = let z : ◌≡◌ {A = ℕ} 0 1 = cc in absurd (omega arith)
           ends (got u y) xs at f = let z : no_more ≡ xs = cc in rw (← z)
 
-      pub object-more : Stacked s q top
-      object-more =
-          let h = object-past in
+      pub object_more : Stacked s q top
+      object_more =
+          let h = object_past in
           let l = part_length s a b (omega arith) in
           let m = part_length s c d (omega arith) in
           let v = room.room in
           let x = room.few in
           rw put.spot (record { room = record { inside = h.inside; short = v.short; records = let n = h.records in omega arith; bytes = omega arith }; few = omega arith })
 
-      pub object-attributes : (names names' rs2 bs2 : List ℕ) (r : TreeRead) → any ≡ eqb t.sort star → any ≡ false
+      pub object_attributes : (names names' rs2 bs2 : List ℕ) (r : TreeRead) → any ≡ eqb t.sort star → any ≡ false
           → TreeIs top names names'
           (written attributes_table attribute_pool little q rs' bs'
           (attributes s (levels - 1) (length s + 1) [] q.next q.place)) rs2 bs2 r
           → TreeIs top names names' (written object_table object_pool little p rs bs From) rs2 bs2 r
-      object-attributes names names' rs2 bs2 r k y h =
+      object_attributes names names' rs2 bs2 r k y h =
           let z : eqb (token_at s next).sort star ≡ false = ap (λ (x : Token). eqb x.sort star) (sym tok.is) ∙ sym k ∙ y in
           let x = attributes s (levels - 1) (length s + 1) [] (p.next + 1) next in
           let l : Linked (p.next + 1) x = linked s (levels - 1) (length s + 1) [] (p.next + 1) next in
-          let w = object-written little p (part s a b) (part s c d) next (p.next + 1) rs bs x (λ xs at f. by x l xs at f) in
+          let w = object_written little p (part s a b) (part s c d) next (p.next + 1) rs bs x (λ xs at f. by x l xs at f) in
           record { is = h.is ∙ rw (put.spot, put.records, put.bytes, y, read, z) w; kept = h.kept }
         where
           by : (x : Reading Attributes) → Linked (p.next + 1) x → (xs : Attributes) (at : ℕ) → x ≡ got xs at
@@ -150,35 +150,35 @@ module _ {s : List ℕ} {p : Spot} {top : ℕ} (room : Stacked s p top) {levels 
 
 -- ---- a value
 
-nested-written : (little : Bool) (p : Spot) (rs bs : List ℕ) (x : Reading Object)
+nested_written : (little : Bool) (p : Spot) (rs bs : List ℕ) (x : Reading Object)
     → written object_table object_pool little p rs bs x
     ≡ written value_table value_pool little p rs bs (read_then x (λ o at. got (nested o) at))
 unfolding written value_table value_pool
-nested-written little p rs bs (refused x) = refl
-nested-written little p rs bs (got o at) = refl
+nested_written little p rs bs (refused x) = refl
+nested_written little p rs bs (got o at) = refl
 
 abbrev ValueOf : List ℕ → ℕ → Spot → Reading Value
 ValueOf s levels p = value s levels p.next p.place
 
 module _ (s : List ℕ) (p : Spot) (t : Token) (tok : TokenIs s p.place (content_token_at s p.place) t)
     (levels top : ℕ) where
-  pub value-any : (little : Bool) (names rs bs : List ℕ) → t.sort ≡ star
+  pub value_any : (little : Bool) (names rs bs : List ℕ) → t.sort ≡ star
       → TreeIs top names names (written value_table value_pool little p rs bs (ValueOf s levels p)) rs bs
       (Read (spot t.end p.next p.pool))
   unfolding written value_table value_pool
-  value-any little names rs bs k = record { is = rw (value-is s levels p.next p.place, ← tok.is, eq-eqb t.sort star k, add-zero, add-zero); kept = all-kept names top }
+  value_any little names rs bs k = record { is = rw (value_is s levels p.next p.place, ← tok.is, eq-eqb t.sort star k, add-zero, add-zero); kept = all_kept names top }
 
-  pub value-object : (little : Bool) (names names' rs bs rs' bs' : List ℕ) (r : TreeRead) → (t.sort ≡ star → ⊥)
+  pub value_object : (little : Bool) (names names' rs bs rs' bs' : List ℕ) (r : TreeRead) → (t.sort ≡ star → ⊥)
       → t.sort ≡ type_name
       → TreeIs top names names'
       (written object_table object_pool little p rs bs (object_from s levels p.next p.place)) rs' bs' r
       → TreeIs top names names' (written value_table value_pool little p rs bs (ValueOf s levels p)) rs' bs' r
-  value-object little names names' rs bs rs' bs' r k l h = record {
-    is = h.is ∙ nested-written little p rs bs (object_from s levels p.next p.place) ∙ rw (value-is s levels p.next p.place, ← tok.is, ne_eqb t.sort star k, eq-eqb t.sort type_name l);
+  value_object little names names' rs bs rs' bs' r k l h = record {
+    is = h.is ∙ nested_written little p rs bs (object_from s levels p.next p.place) ∙ rw (value_is s levels p.next p.place, ← tok.is, ne_eqb t.sort star k, eq-eqb t.sort type_name l);
     kept = h.kept;
   }
 
   pub value-leaf : (little : Bool) (names rs bs rs' bs' : List ℕ) (r : TreeRead) → (t.sort ≡ star → ⊥)
       → (t.sort ≡ type_name → ⊥) → wrote r rs' bs' ≡ written value_table value_pool little p rs bs (leaf_value s p)
       → TreeIs top names names (written value_table value_pool little p rs bs (ValueOf s levels p)) rs' bs' r
-  value-leaf little names rs bs rs' bs' r k l h = record { is = h ∙ rw (value-is s levels p.next p.place, ← tok.is, ne_eqb t.sort star k, ne_eqb t.sort type_name l); kept = all-kept names top }
+  value-leaf little names rs bs rs' bs' r k l h = record { is = h ∙ rw (value_is s levels p.next p.place, ← tok.is, ne_eqb t.sort star k, ne_eqb t.sort type_name l); kept = all_kept names top }

@@ -20,7 +20,7 @@ use Rattle.cadl_items.specs.declared.leaves.SingleSort as declared
 use Rattle.cadl_items.specs.declared.leaves.RangeSort as declared_range
 use Rattle.cadl_items.specs.declared.leaves.LeafRead.{LeafRead}
 use Rattle.cadl_items.specs.declared.leaves.LeafRead.TheVariants as leaf_read
-use Rattle.cadl_items.proofs.LeafReading.{leaf-holds}
+use Rattle.cadl_items.proofs.LeafReading.{leaf_holds}
 use Rattle.cadl_items.proofs.LeafReading as reading
 use Rattle.table.specs.Records.{Record, make}
 use Rattle.compile_flatten.specs.Flatten.{range_records, records_of_leaf, value_table}
@@ -28,7 +28,7 @@ use Rattle.compile_emission.specs.Clauses.Answers.{wrote, written, Room, Puts, L
 use Rattle.compile_emission.specs.declared.spots.Spot.{Spot}
 use Rattle.compile_emission.specs.declared.spots.TreeRead.{TreeRead}
 use Rattle.compile_emission.specs.declared.spots.TreeRead.TheVariants.{Refused}
-use Rattle.compile_emission.proofs.TreeWriting.{pool-below}
+use Rattle.compile_emission.proofs.TreeWriting.{pool_below}
 
 module _ {s : List ℕ} {p : Spot} (room : Room s p) {scratch : List ℕ} {o : LeafRead}
     (e : LeafIs s p.next p.place (leaf s p.next p.place) scratch o) where
@@ -48,17 +48,17 @@ module _ {s : List ℕ} {p : Spot} (room : Room s p) {scratch : List ℕ} {o : L
   put_is little l place table size rs bs rs' bs' r f t z h b =
       rw (← f, h.answer, ← t, ← z, b, h.records)
 
-  pub leaf-faulty : (little : Bool) (rs bs : List ℕ) (x : Refusal) → o ≡ leaf_read.Faulty x
+  pub leaf_faulty : (little : Bool) (rs bs : List ℕ) (x : Refusal) → o ≡ leaf_read.Faulty x
       → wrote (Refused x) rs bs ≡ written value_table value_pool little p rs bs (leaf_value s p)
   unfolding written
-  leaf-faulty little rs bs x g = rw (← read (leaf_read.Faulty x) g)
+  leaf_faulty little rs bs x g = rw (← read (leaf_read.Faulty x) g)
 
   module _ {little : Bool} {rs rs' : List ℕ} {r : TreeRead} (bs : List ℕ) where
-    pub leaf-single : (sort : declared.SingleSort) (flag place kind : ℕ) → o ≡ leaf_read.Single sort flag place
+    pub leaf_single : (sort : declared.SingleSort) (flag place kind : ℕ) → o ≡ leaf_read.Single sort flag place
         → kind ≡ (single_row (single_of sort)).kind
         → Puts little p place (make kind flag [] ∷ []) 0 rs rs' r
         → wrote r rs' bs ≡ written value_table value_pool little p rs bs (leaf_value s p)
-    leaf-single sort flag place kind g k h = put_is little (single (single_of sort) p.next flag) place _ 0 rs bs rs' bs r (read _ g) (ap (λ x. make x flag [] ∷ []) k) refl h refl
+    leaf_single sort flag place kind g k h = put_is little (single (single_of sort) p.next flag) place _ 0 rs bs rs' bs r (read _ g) (ap (λ x. make x flag [] ∷ []) k) refl h refl
 
     pub leaf-ranges : (sort : declared_range.RangeSort) (count place : ℕ) → o ≡ leaf_read.Ranges sort count place
         → Puts little p place
@@ -71,9 +71,9 @@ module _ {s : List ℕ} {p : Spot} (room : Room s p) {scratch : List ℕ} {o : L
         → wrote r rs' bs' ≡ written value_table value_pool little p rs bs (leaf_value s p)
     leaf-strings count place bs' g h = put_is little (Constraints.texts (items_from (text_at s scratch) p.next 0 count)) place _ _ rs bs rs' bs' r (read _ g) refl refl h.puts h.bytes
 
-  pub single-room : (sort : declared.SingleSort) (flag place : ℕ) → o ≡ leaf_read.Single sort flag place
+  pub single_room : (sort : declared.SingleSort) (flag place : ℕ) → o ≡ leaf_read.Single sort flag place
       → p.next < record_limit
-  single-room sort flag place g = (past _ g).records
+  single_room sort flag place g = (past _ g).records
 
   pub ranges-room : (sort : declared_range.RangeSort) (count place : ℕ) → o ≡ leaf_read.Ranges sort count place
       → ListWritingRoom p count
@@ -85,6 +85,6 @@ module _ {s : List ℕ} {p : Spot} (room : Room s p) {scratch : List ℕ} {o : L
       let h = past _ g in
       let t = h.texts in
       let texts = items_from (text_at s scratch) p.next 0 count in
-      let l : reading.LeafRead s p.next p.place (Constraints.texts texts) place = rw (sym (read _ g)) at (leaf-holds s p.next p.place room.inside) in
-      let b = pool-below s p.pool p.place place (text_pool texts) room.bytes (omega (arith, h.order)) h.inside l.pool in
+      let l : reading.LeafRead s p.next p.place (Constraints.texts texts) place = rw (sym (read _ g)) at (leaf_holds s p.next p.place room.inside) in
+      let b = pool_below s p.pool p.place place (text_pool texts) room.bytes (omega (arith, h.order)) h.inside l.pool in
       record { few = t.few; short = room.short; records = t.records; spans = t.spans; bytes = omega arith }

@@ -9,7 +9,7 @@ use lib.Seq.{sets}
 use Rattle.lexis.specs.Runs.{part}
 use Rattle.lexis.specs.Clauses.Subsequence.{Sub}
 use Rattle.lexis.proofs.Stores.{sets-sets, sets_behind}
-use Rattle.lexis.proofs.Parts.{sub-length}
+use Rattle.lexis.proofs.Parts.{sub_length}
 use Rattle.refusals.specs.Reading.{Reading, refused, got}
 use Rattle.refusals.specs.declared.Refusal.{Refusal}
 use Rattle.meaning.specs.Constraints.{RangeSort, Range, Text, Leaf, single, ranges, texts, Object, object, Attributes, no_more, attribute, Value, any, nested, leaf}
@@ -25,44 +25,44 @@ use Rattle.compile_emission.specs.Clauses.Answers.{spot, Wrote, wrote, written, 
 use Rattle.compile_emission.specs.declared.spots.Spot.{Spot}
 use Rattle.compile_emission.specs.declared.spots.TreeRead.TheVariants.{Refused, Read}
 use Rattle.compile_emission.specs.declared.spots.TreeRead
-use Rattle.compile_emission.proofs.WritingSteps.{pick-there, pick-none}
+use Rattle.compile_emission.proofs.WritingSteps.{pick_there, pick_none}
 
 -- ---- records, one behind another
 
-counted-append : (xs ys : List Record) → AllCounted xs → AllCounted ys → AllCounted (xs ++ ys)
-counted-append [] ys f g = g
-counted-append (x ∷ xs) ys f g = (f.0, counted-append xs ys f.1 g)
+counted_append : (xs ys : List Record) → AllCounted xs → AllCounted ys → AllCounted (xs ++ ys)
+counted_append [] ys f g = g
+counted_append (x ∷ xs) ys f g = (f.0, counted_append xs ys f.1 g)
 
-counted-ranges : (sort : RangeSort) (l : List Range) → AllCounted (range_records sort l)
-counted-ranges sort [] = tt
-counted-ranges sort (x ∷ xs) = (refl, counted-ranges sort xs)
+counted_ranges : (sort : RangeSort) (l : List Range) → AllCounted (range_records sort l)
+counted_ranges sort [] = tt
+counted_ranges sort (x ∷ xs) = (refl, counted_ranges sort xs)
 
-counted-strings : (l : List Text) (pool : ℕ) → AllCounted (string_records pool l)
-counted-strings [] pool = tt
-counted-strings (x ∷ xs) pool = (refl, counted-strings xs (pool + length x.text))
+counted_strings : (l : List Text) (pool : ℕ) → AllCounted (string_records pool l)
+counted_strings [] pool = tt
+counted_strings (x ∷ xs) pool = (refl, counted_strings xs (pool + length x.text))
 
-counted-leaf : (l : Leaf) (pool : ℕ) → AllCounted (records_of_leaf pool l)
-counted-leaf (single sort n flag) pool = (refl, tt)
-counted-leaf (ranges sort l) pool = counted-ranges sort l
-counted-leaf (texts l) pool = counted-strings l pool
+counted_leaf : (l : Leaf) (pool : ℕ) → AllCounted (records_of_leaf pool l)
+counted_leaf (single sort n flag) pool = (refl, tt)
+counted_leaf (ranges sort l) pool = counted_ranges sort l
+counted_leaf (texts l) pool = counted_strings l pool
 
 -- every record of a tree has all its fields
 mutual
   unfolding object_table attributes_table value_table
 
-  pub counted-object : (o : Object) (pool : ℕ) → AllCounted (object_table o pool)
-  counted-object (object h xs) pool = (refl, counted-attributes xs (pool + length h.type + length h.code))
+  pub counted_object : (o : Object) (pool : ℕ) → AllCounted (object_table o pool)
+  counted_object (object h xs) pool = (refl, counted_attributes xs (pool + length h.type + length h.code))
 
-  pub counted-attributes : (xs : Attributes) (pool : ℕ) → AllCounted (attributes_table xs pool)
-  counted-attributes no_more pool = tt
-  counted-attributes (attribute h v more) pool =
+  pub counted_attributes : (xs : Attributes) (pool : ℕ) → AllCounted (attributes_table xs pool)
+  counted_attributes no_more pool = tt
+  counted_attributes (attribute h v more) pool =
       let behind = pool + length h.name in
-      (refl, counted-append (value_table v behind) _ (counted-value v behind) (counted-attributes more _))
+      (refl, counted_append (value_table v behind) _ (counted_value v behind) (counted_attributes more _))
 
-  pub counted-value : (v : Value) (pool : ℕ) → AllCounted (value_table v pool)
-  counted-value any pool = tt
-  counted-value (nested o) pool = counted-object o pool
-  counted-value (leaf l) pool = counted-leaf l pool
+  pub counted_value : (v : Value) (pool : ℕ) → AllCounted (value_table v pool)
+  counted_value any pool = tt
+  counted_value (nested o) pool = counted_object o pool
+  counted_value (leaf l) pool = counted_leaf l pool
 
 encodes-append : (little : Bool) (xs ys : List Record)
     → encodes little (xs ++ ys) ≡ encodes little xs ++ encodes little ys
@@ -98,14 +98,14 @@ pub record IsTree {A : Type 0} (table : A → ℕ → List Record) (pool : A →
 
 module _ {A : Type 0} (table : A → ℕ → List Record) (pool : A → List ℕ) (little : Bool) (p : Spot)
     (rs bs rs' bs' : List ℕ) where
-  pub is-tree : (q : Spot) (x : Reading A) → wrote (Read q) rs' bs' ≡ written table pool little p rs bs x
+  pub is_tree_lem : (q : Spot) (x : Reading A) → wrote (Read q) rs' bs' ≡ written table pool little p rs bs x
       → IsTree table pool little p rs bs rs' bs' q x
   unfolding written
-  is-tree q (refused x) e =
+  is_tree_lem q (refused x) e =
       let o : Read q ≡ Refused x = ap (λ (w : Wrote TreeRead.TreeRead). w.answer) e in
       let z : ◌≡◌ {A = ℕ} 0 1 = cc in
       absurd (omega arith)
-  is-tree q (got a at) e =
+  is_tree_lem q (got a at) e =
       let o : Read q ≡ Read (spot at (p.next + length (table a p.pool)) (p.pool + length (pool a))) = ap (λ (w : Wrote TreeRead.TreeRead). w.answer) e in
       let k : q ≡ spot at (p.next + length (table a p.pool)) (p.pool + length (pool a)) = cc in
       let l : q.place ≡ at = ap (λ (w : Spot). w.place) k in
@@ -117,46 +117,46 @@ module _ {A : Type 0} (table : A → ℕ → List Record) (pool : A → List ℕ
         bytes = ap (λ (w : Wrote TreeRead.TreeRead). w.bytes) e;
       }
 
-  pub is-refused : (y : Refusal) (x : Reading A) → wrote (Refused y) rs' bs' ≡ written table pool little p rs bs x
+  pub is_refused_lem : (y : Refusal) (x : Reading A) → wrote (Refused y) rs' bs' ≡ written table pool little p rs bs x
       → x ≡ refused y
   unfolding written
-  is-refused y (refused x) e = let o : Refused y ≡ Refused x = ap (λ (w : Wrote TreeRead.TreeRead). w.answer) e in cc
-  is-refused y (got a at) e =
+  is_refused_lem y (refused x) e = let o : Refused y ≡ Refused x = ap (λ (w : Wrote TreeRead.TreeRead). w.answer) e in cc
+  is_refused_lem y (got a at) e =
       let o : Refused y ≡ Read (spot at (p.next + length (table a p.pool)) (p.pool + length (pool a))) = ap (λ (w : Wrote TreeRead.TreeRead). w.answer) e in
       let z : ◌≡◌ {A = ℕ} 0 1 = cc in
       absurd (omega arith)
 
 -- a pool of at most as many bytes as stand before a place has, with bytes taken from the text between that place and another, at most as many as stand before the other
-pub pool-below : (s : List ℕ) (pool from p : ℕ) (w : List ℕ) → pool ≤ from → from ≤ p → p ≤ length s
+pub pool_below : (s : List ℕ) (pool from p : ℕ) (w : List ℕ) → pool ≤ from → from ≤ p → p ≤ length s
     → Sub w (part s from p) → pool + length w ≤ p
-pool-below s pool from p w h l k sub = let a = sub-length sub in let b = part_length s from p k in omega arith
+pool_below s pool from p w h l k sub = let a = sub_length sub in let b = part_length s from p k in omega arith
 
 -- where a tree was read there is room behind it
-pub tree-room : {s : List ℕ} {p q : Spot} {ns : List ℕ} {records : ℕ} {Proper : Type 0} {bs : List ℕ}
+pub tree_room : {s : List ℕ} {p q : Spot} {ns : List ℕ} {records : ℕ} {Proper : Type 0} {bs : List ℕ}
     (table : List Record) → Room s p → TreeRead s p.next p.place ns records Proper bs q.place
     → length table ≡ records
     → q ≡ spot q.place (p.next + length table) (p.pool + length bs) → Room s q
-tree-room {s} {p} {q} {bs = bs} table room h l e =
+tree_room {s} {p} {q} {bs = bs} table room h l e =
     let n : q.next ≡ p.next + length table = ap (λ (w : Spot). w.next) e in
     let m : q.pool ≡ p.pool + length bs = ap (λ (w : Spot). w.pool) e in
-    let b = pool-below s p.pool p.place q.place bs room.bytes (omega (arith, h.least)) h.most h.pool in
+    let b = pool_below s p.pool p.place q.place bs room.bytes (omega (arith, h.least)) h.most h.pool in
     let r = h.room room.records in
     record { inside = h.most; short = room.short; records = omega arith; bytes = omega arith }
 
 -- the link to a value is the number of its first record, 0 where it has none
-ranges-link : (l : List Range) (n : ℕ) → 1 ≤ length l → range_numbers l ≡ up_from n (length l) → first_range l ≡ n
-ranges-link [] n h e = absurd (omega arith)
-ranges-link (x ∷ xs) n h e = cc
+ranges_link : (l : List Range) (n : ℕ) → 1 ≤ length l → range_numbers l ≡ up_from n (length l) → first_range l ≡ n
+ranges_link [] n h e = absurd (omega arith)
+ranges_link (x ∷ xs) n h e = cc
 
-texts-link : (l : List Text) (n : ℕ) → 1 ≤ length l → text_numbers l ≡ up_from n (length l) → first_text l ≡ n
-texts-link [] n h e = absurd (omega arith)
-texts-link (x ∷ xs) n h e = cc
+texts_link : (l : List Text) (n : ℕ) → 1 ≤ length l → text_numbers l ≡ up_from n (length l) → first_text l ≡ n
+texts_link [] n h e = absurd (omega arith)
+texts_link (x ∷ xs) n h e = cc
 
-pub value-link : (v : Value) (n : ℕ) → value_numbers v ≡ up_from n (value_records v) → ProperValue v
+pub value_link_lem : (v : Value) (n : ℕ) → value_numbers v ≡ up_from n (value_records v) → ProperValue v
     → link_below n (n + value_records v) ≡ value_link v
 unfolding value_numbers value_records object_numbers object_records ProperValue
-value-link any n e g = sym (pick-none n (n + 0) n (omega arith))
-value-link (nested (object h xs)) n e g = let k : n ≡ h.number = cc in sym (pick-there n _ n h.number (omega arith) (sym k))
-value-link (leaf (single sort m f)) n e g = let k : n ≡ m = cc in sym (pick-there n _ n m (omega arith) (sym k))
-value-link (leaf (ranges sort l)) n e g = let h : 1 ≤ length l = g.0 in sym (pick-there n _ n _ (omega arith) (ranges-link l n h e))
-value-link (leaf (texts l)) n e g = let h : 1 ≤ length l = g.0 in sym (pick-there n _ n _ (omega arith) (texts-link l n h e))
+value_link_lem any n e g = sym (pick_none n (n + 0) n (omega arith))
+value_link_lem (nested (object h xs)) n e g = let k : n ≡ h.number = cc in sym (pick_there n _ n h.number (omega arith) (sym k))
+value_link_lem (leaf (single sort m f)) n e g = let k : n ≡ m = cc in sym (pick_there n _ n m (omega arith) (sym k))
+value_link_lem (leaf (ranges sort l)) n e g = let h : 1 ≤ length l = g.0 in sym (pick_there n _ n _ (omega arith) (ranges_link l n h e))
+value_link_lem (leaf (texts l)) n e g = let h : 1 ≤ length l = g.0 in sym (pick_there n _ n _ (omega arith) (texts_link l n h e))

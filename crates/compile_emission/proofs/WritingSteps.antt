@@ -33,24 +33,24 @@ use Rattle.compile_emission.specs.declared.spots.TreeRead.TheVariants.{Read}
 use Rattle.compile_flatten.proofs.FlattenLaws.{strings-length}
 
 -- a number where one place lies before another, and 0 elsewhere
-pub pick-there : (a b v r : ℕ) → a < b → r ≡ v → r ≡ cond (ltb a b) v 0
-pick-there a b v r h e = rw (lt-ltb a b h) e
+pub pick_there : (a b v r : ℕ) → a < b → r ≡ v → r ≡ cond (ltb a b) v 0
+pick_there a b v r h e = rw (lt-ltb a b h) e
 
-pub pick-none : (a b v : ℕ) → b ≤ a → 0 ≡ cond (ltb a b) v 0
-pick-none a b v h = rw (le-ltb a b h)
+pub pick_none : (a b v : ℕ) → b ≤ a → 0 ≡ cond (ltb a b) v 0
+pick_none a b v h = rw (le-ltb a b h)
 
 -- an end of a closed pair, by its sort
-pub end-integer : (sort : declared.RangeSort) (x r : ℕ) → sort ≡ range_sort.Integers → r ≡ twos_complement x
+pub end_integer : (sort : declared.RangeSort) (x r : ℕ) → sort ≡ range_sort.Integers → r ≡ twos_complement x
     → r ≡ (range_row (range_sort_of sort)).end x
-end-integer sort x r h e = rw h e
+end_integer sort x r h e = rw h e
 
-pub end-date : (sort : declared.RangeSort) (x : ℕ) → sort ≡ range_sort.Dates → x ≡ (range_row (range_sort_of sort)).end x
-end-date sort x h = rw h
+pub end_date : (sort : declared.RangeSort) (x : ℕ) → sort ≡ range_sort.Dates → x ≡ (range_row (range_sort_of sort)).end x
+end_date sort x h = rw h
 
 -- ---- a part of the text in the pool
 
-part-cons : (s : List ℕ) (i end : ℕ) → i < end → end ≤ length s → part s i end ≡ get_or s i 0 ∷ part s (i + 1) end
-part-cons s i end h k =
+part_cons : (s : List ℕ) (i end : ℕ) → i < end → end ≤ length s → part s i end ≡ get_or s i 0 ∷ part s (i + 1) end
+part_cons s i end h k =
     let e : end - i ≡ suc (end - (i + 1)) = omega arith in
     let l : i < length s = omega arith in
     rw (e, drop-cons s i 0 l, ← add-one i)
@@ -74,12 +74,12 @@ module _ {s : List ℕ} {start end at : ℕ} {before : List ℕ} (h : CopyFits s
   up_to : take (end - 0) (drop 0 s) ≡ take end s
   up_to = let e : end - 0 ≡ end = omega arith in rw e
 
-  length-up-to : length (take (end - 0) (drop 0 s)) ≡ end
-  length-up-to = let l = h.lies in rw (up_to, length-take) (omega arith)
+  length_up_to : length (take (end - 0) (drop 0 s)) ≡ end
+  length_up_to = let l = h.lies in rw (up_to, length-take) (omega arith)
 
-  pub part-asks : (start ≤ length (take (end - 0) (drop 0 s)))
+  pub part_asks : (start ≤ length (take (end - 0) (drop 0 s)))
       × (at + (length (take (end - 0) (drop 0 s)) - start) ≤ length before)
-  part-asks = let l = h.lies in let r = h.room in rw length-up-to (omega arith, omega arith)
+  part_asks = let l = h.lies in let r = h.room in rw length_up_to (omega arith, omega arith)
 
   pub part-put : (after : List ℕ) → after ≡ sets before at (drop start (take (end - 0) (drop 0 s)))
       → PartPut s start end at before after (at + (end - start))
@@ -89,21 +89,21 @@ module _ {s : List ℕ} {start end at : ℕ} {before : List ℕ} (h : CopyFits s
       record { behind = omega arith; bytes = e ∙ ap (sets before at) (ap (drop start) up_to ∙ drop-take start end s) }
 
 -- a part's place in the pool
-pub place-part : (s : List ℕ) (start end at : ℕ) → Within s start end
+pub place_part : (s : List ℕ) (start end at : ℕ) → Within s start end
     → pooled_place start end at ≡ place_for (part s start end) at
-place-part s start end at w = by (ltb start end) refl
+place_part s start end at w = by (ltb start end) refl
   where
     by : (b : Bool) → ltb start end ≡ b → cond b at 0 ≡ place_for (part s start end) at
-    by true e = rw (part-cons s start end (ltb-true start end e) w.inside)
+    by true e = rw (part_cons s start end (ltb-true start end e) w.inside)
     by false e = rw (part_none s start end (ltb-false start end e))
 
 -- ---- records one after the other
 
 -- one record
-pub single-put : (little : Bool) (p : Spot) (place kind flag : ℕ) (before after : List ℕ) (e : Entry)
+pub single_put : (little : Bool) (p : Spot) (place kind flag : ℕ) (before after : List ℕ) (e : Entry)
     → e ≡ plain_entry kind flag → after ≡ sets before (record_size * p.next) (encode little (record_of e))
     → Puts little p place (make kind flag [] ∷ []) 0 before after (Read (spot place (p.next + 1) p.pool))
-single-put little p place kind flag before after e k w = record {
+single_put little p place kind flag before after e k w = record {
   answer = ap (λ x. Read (spot place (p.next + 1) x)) (sym (add-zero p.pool));
   records = rw append-nil (rw k at w);
 }
@@ -125,14 +125,14 @@ items-length f number i (suc n) = ap suc (items-length f (number + 1) (i + 1) n)
 first_range_lem : (scratch : List ℕ) (m i k end : ℕ) → end ≡ m + k
     → first_range (items_from (range_at scratch) m i k) ≡ link_below m end
 unfolding items_from
-first_range_lem scratch m i zero end e = pick-none m end m (omega arith)
-first_range_lem scratch m i (suc k) end e = pick-there m end m m (omega arith) refl
+first_range_lem scratch m i zero end e = pick_none m end m (omega arith)
+first_range_lem scratch m i (suc k) end e = pick_there m end m m (omega arith) refl
 
-first-text : (s scratch : List ℕ) (m i k end : ℕ) → end ≡ m + k
+first_text_lem : (s scratch : List ℕ) (m i k end : ℕ) → end ≡ m + k
     → first_text (items_from (text_at s scratch) m i k) ≡ link_below m end
 unfolding items_from
-first-text s scratch m i zero end e = pick-none m end m (omega arith)
-first-text s scratch m i (suc k) end e = pick-there m end m m (omega arith) refl
+first_text_lem s scratch m i zero end e = pick_none m end m (omega arith)
+first_text_lem s scratch m i (suc k) end e = pick_there m end m m (omega arith) refl
 
 ranges-length : (sort : RangeSort) (l : List Range) → length (range_records sort l) ≡ length l
 ranges-length sort [] = refl
@@ -185,7 +185,7 @@ ranges-start little p sort scratch count before h =
 
 module _ {little : Bool} {p : Spot} {sort : RangeSort} {scratch : List ℕ} {count end : ℕ} {before : List ℕ} {i : ℕ}
     {rs : List ℕ} (inv : InRanges little p sort scratch count end before i rs) where
-  pub ranges-go-on : (x : List ℕ) (item : ℕ) → i < count
+  pub ranges_go_on : (x : List ℕ) (item : ℕ) → i < count
       → x ≡ sets rs (record_size * (p.next + i))
       (encode little
       (make (range_row sort).kind 0
@@ -194,7 +194,7 @@ module _ {little : Bool} {p : Spot} {sort : RangeSort} {scratch : List ℕ} {cou
       → item ≡ i
       → InRanges little p sort scratch count end before (i + 1) x
   unfolding items_from
-  ranges-go-on x item h w is =
+  ranges_go_on x item h w is =
       let e = rw is at w in
       let k = count - (i + 1) in
       let a : count - i ≡ suc k = omega arith in
@@ -205,11 +205,11 @@ module _ {little : Bool} {p : Spot} {sort : RangeSort} {scratch : List ℕ} {cou
       let row = make (range_row sort).kind 0 ((range_row sort).end (first_of scratch i) ∷ (range_row sort).end (second_of scratch i) ∷ 0 ∷ 0 ∷ link_below (p.next + i + 1) end ∷ []) in
       record { room = inv.room; ends = inv.ends; most = omega arith; is = rw (e, b) (front little row (range_records sort (items_from (range_at scratch) (p.next + i + 1) (i + 1) k)) (p.next + i) rs refl ∙ w) }
 
-  pub ranges-end : (place : ℕ) → count ≤ i
+  pub ranges_end : (place : ℕ) → count ≤ i
       → Puts little p place (range_records sort (items_from (range_at scratch) p.next 0 count)) 0 before rs
       (Read (spot place end p.pool))
   unfolding items_from
-  ranges-end place h =
+  ranges_end place h =
       let a : count - i ≡ 0 = omega arith in
       let l = ranges-length sort (items_from (range_at scratch) p.next 0 count) ∙ items-length (range_at scratch) p.next 0 count in
       let n : end ≡ p.next + length (range_records sort (items_from (range_at scratch) p.next 0 count)) = let j = inv.ends in omega arith in
@@ -228,7 +228,7 @@ pub string-put : (s scratch : List ℕ) (i n end at start stop : ℕ) (little : 
 string-put s scratch i n end at start stop little rs bs rs' bs' place size next r e fits a b pl si ne re w put =
     let f : PartFits s start stop at = rw (a, b) fits.part in
     let h : part s start stop ≡ span_at s scratch i = λ j. part s (a j) (b j) in
-    let x : place ≡ place_for (part s start stop) at = pl ∙ place-part s start stop at f.lies in
+    let x : place ≡ place_for (part s start stop) at = pl ∙ place_part s start stop at f.lies in
     let y : size ≡ length (part s start stop) = si ∙ sym (part_length s start stop f.lies.inside) in
     rw (← h) (record {
       behind = put.behind;
@@ -255,9 +255,9 @@ pub record InTexts (s : List ℕ) (little : Bool) (p : Spot) (scratch : List ℕ
   pub bytes : bytes_left s scratch (p.next + i) i (count - i) to bs
       ≡ bytes_left s scratch p.next 0 count p.pool bs₀
 
-pub texts-start : (s : List ℕ) (little : Bool) (p : Spot) (scratch : List ℕ) (count : ℕ) (rs bs : List ℕ)
+pub texts_start : (s : List ℕ) (little : Bool) (p : Spot) (scratch : List ℕ) (count : ℕ) (rs bs : List ℕ)
     → TextsRoom s p scratch count → InTexts s little p scratch count (p.next + count) rs bs 0 p.pool rs bs
-texts-start s little p scratch count rs bs h =
+texts_start s little p scratch count rs bs h =
     let e : p.next + 0 ≡ p.next = omega arith in
     let f : count - 0 ≡ count = omega arith in
     record { room = h; ends = refl; most = omega arith; sum = rw (e, f); records = rw (e, f); bytes = rw (e, f) }
@@ -271,26 +271,26 @@ module _ {s : List ℕ} {little : Bool} {p : Spot} {scratch : List ℕ} {count e
   unfolding items_from
   sum_step h = let a : count - i ≡ suc (count - (i + 1)) = omega arith in rw (a, length-append) at inv.sum
 
-  pub texts-fit : i < count → TextFits s scratch i (p.next + i) to
-  texts-fit h =
+  pub texts_fit : i < count → TextFits s scratch i (p.next + i) to
+  texts_fit h =
       let r = inv.room in
       let w = r.spans.within i (omega arith) h in
       let l = part_length s (first_of scratch i) (second_of scratch i) w.inside in
       let z = sum_step h in
       record { few = omega arith; part = record { lies = w; room = omega arith }; short = r.short; records = omega arith }
 
-  pub texts-go-on : (rs' bs' : List ℕ) (r : ℕ) → i < count
+  pub texts_go_on : (rs' bs' : List ℕ) (r : ℕ) → i < count
       → TextPut (span_at s scratch i) little (p.next + i) end to rs bs rs' bs' r
       → InTexts s little p scratch count end rs₀ bs₀ (i + 1) r rs' bs'
   unfolding items_from
-  texts-go-on rs' bs' r h e =
+  texts_go_on rs' bs' r h e =
       let k = count - (i + 1) in
       let w = span_at s scratch i in
       let items = items_from (text_at s scratch) (p.next + i + 1) (i + 1) k in
       let a : count - i ≡ suc k = omega arith in
       let b : p.next + (i + 1) ≡ p.next + i + 1 = omega arith in
       let j = inv.ends in
-      let f = first-text s scratch (p.next + i + 1) (i + 1) k end (omega arith) in
+      let f = first_text_lem s scratch (p.next + i + 1) (i + 1) k end (omega arith) in
       let row = make text_kind 0 (place_for w to ∷ length w ∷ 0 ∷ 0 ∷ link_below (p.next + i + 1) end ∷ []) in
       record {
         room = inv.room;
@@ -301,10 +301,10 @@ module _ {s : List ℕ} {little : Bool} {p : Spot} {scratch : List ℕ} {count e
         bytes = rw (e.bytes, e.behind, b) (sets_behind w (text_pool items) bs to (to + length w) refl ∙ rw a at inv.bytes);
       }
 
-  pub texts-end : (place : ℕ) → count ≤ i
+  pub texts_end : (place : ℕ) → count ≤ i
       → TextsPut s little p scratch count place rs₀ bs₀ rs bs (Read (spot place end to))
   unfolding items_from
-  texts-end place h =
+  texts_end place h =
       let items = items_from (text_at s scratch) p.next 0 count in
       let a : count - i ≡ 0 = omega arith in
       let l = strings-length items p.pool ∙ items-length (text_at s scratch) p.next 0 count in

@@ -28,8 +28,8 @@ at_right {A} {l} {p} xs {ys} h = record {
 }
 
 -- what stands in a list ends within it
-pub at-end : {A : Type 0} {l : List A} {p : ℕ} {x : A} {xs : List A} → At l p (x ∷ xs) → p + length (x ∷ xs) ≤ length l
-at-end {A} {l} {p} {x} {xs} h = omega (arith, simp (length-append, length-drop) at (ap length h.there))
+pub at_end_lem : {A : Type 0} {l : List A} {p : ℕ} {x : A} {xs : List A} → At l p (x ∷ xs) → p + length (x ∷ xs) ≤ length l
+at_end_lem {A} {l} {p} {x} {xs} h = omega (arith, simp (length-append, length-drop) at (ap length h.there))
 
 -- the records rs stand from number n on, and the bytes bs in the pool from place p on
 pub record Placed (m : Image) (n : ℕ) (rs : List Record) (p : ℕ) (bs : List ℕ) : Type 0 where
@@ -38,17 +38,17 @@ pub record Placed (m : Image) (n : ℕ) (rs : List Record) (p : ℕ) (bs : List 
 
 -- past a record, past a name, and the two parts of what stands there
 module _ {m : Image} {n p : ℕ} where
-  pub past-record : {r : Record} {rs : List Record} {bs : List ℕ} → Placed m n (r ∷ rs) p bs → Placed m (n + 1) rs p bs
-  past-record {r} h = record { records = at_right (r ∷ []) h.records; pool = h.pool }
+  pub past_record : {r : Record} {rs : List Record} {bs : List ℕ} → Placed m n (r ∷ rs) p bs → Placed m (n + 1) rs p bs
+  past_record {r} h = record { records = at_right (r ∷ []) h.records; pool = h.pool }
 
-  pub past-name : {rs : List Record} (w : List ℕ) {bs : List ℕ} → Placed m n rs p (w ++ bs)
+  pub past_name : {rs : List Record} (w : List ℕ) {bs : List ℕ} → Placed m n rs p (w ++ bs)
       → Placed m n rs (p + length w) bs
-  past-name w h = record { records = h.records; pool = at_right w h.pool }
+  past_name w h = record { records = h.records; pool = at_right w h.pool }
 
-  pub placed-left : {rs : List Record} {bs : List ℕ} (qs : List Record) (cs : List ℕ)
+  pub placed_left : {rs : List Record} {bs : List ℕ} (qs : List Record) (cs : List ℕ)
       → Placed m n (rs ++ qs) p (bs ++ cs) → Placed m n rs p bs
-  placed-left qs cs h = record { records = at_left qs h.records; pool = at_left cs h.pool }
+  placed_left qs cs h = record { records = at_left qs h.records; pool = at_left cs h.pool }
 
-  pub placed-right : (rs : List Record) (bs : List ℕ) {qs : List Record} {cs : List ℕ} (k : ℕ) → length rs ≡ k
+  pub placed_right : (rs : List Record) (bs : List ℕ) {qs : List Record} {cs : List ℕ} (k : ℕ) → length rs ≡ k
       → Placed m n (rs ++ qs) p (bs ++ cs) → Placed m (n + k) qs (p + length bs) cs
-  placed-right rs bs k e h = rw (← e) (record { records = at_right rs h.records; pool = at_right bs h.pool })
+  placed_right rs bs k e h = rw (← e) (record { records = at_right rs h.records; pool = at_right bs h.pool })

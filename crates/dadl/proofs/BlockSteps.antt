@@ -17,7 +17,7 @@ use Rattle.lexis.specs.Tokens.{name, spelling}
 use Rattle.lexis.specs.DataTokens.{data_token_at, equals}
 use Rattle.lexis.specs.declared.Token.{Token}
 use Rattle.lexis.proofs.Cases.{by_cond}
-use Rattle.lexis.proofs.DataPlaces.{data-token-found}
+use Rattle.lexis.proofs.DataPlaces.{data_token-found}
 use Rattle.refusals.specs.Limits.{level_limit, name_limit}
 use Rattle.refusals.specs.Reading.{Reading, refused, got, refuse}
 use Rattle.refusals.specs.Reading
@@ -27,7 +27,7 @@ use Rattle.refusals.specs.Expecting.{syntax_cause}
 use Rattle.refusals.specs.declared.Cause.TheVariants.{TooDeep, TooLong, RepeatedName}
 use Rattle.refusals.specs.declared.Refusal.{Refusal}
 use Rattle.refusals.proofs.Readings.{Holds}
-use Rattle.refusals.proofs.Parses.{first_then, then-refused, then-got, Yields, parsed-yields, stopped-yields, noting-yields, any-yields, rank, FaultFrom, InOrder, then-order, order-holds, order-map}
+use Rattle.refusals.proofs.Parses.{first_then, then_refused, then_got, Yields, parsed_yields, stopped_yields, noting_yields, any_yields, rank, FaultFrom, InOrder, then_order, order_holds, order_map}
 use Rattle.dadl.specs.Placed.{Span, span, block, Entries, no_more, entry, PlacedContent, string, word, inside}
 use Rattle.dadl.specs.Data.{Down, expect_data, name_from, content_from, members, block_from, span_of}
 use Rattle.dadl.specs.Clauses.Tape.{row_size, block_rows, entry_rows, content_rows, next_row, type_start, type_end, tape_row_of, block_tape, entries_tape, content_tape}
@@ -41,26 +41,26 @@ use Rattle.dadl.specs.declared.blocks.RowsRead.{RowsRead}
 use Rattle.dadl.specs.declared.blocks.RowsRead.TheVariants.{Refused, Read}
 use Rattle.dadl.specs.declared.blocks.MemberRead.{MemberRead}
 use Rattle.dadl.specs.declared.blocks.MemberRead.TheVariants.{Not, Member}
-use Rattle.dadl.proofs.TapeLaws.{row-length, row-numbers, content-length}
-use Rattle.dadl.proofs.TreeReading.{SpanRead, EntriesRead, ContentRead, name-order, content-order, members-order, block-order}
-use Rattle.lexis.proofs.Stores.{sets-sets, sets-append, below-sets, in-sets}
+use Rattle.dadl.proofs.TapeLaws.{row-length, row-numbers, content_length}
+use Rattle.dadl.proofs.TreeReading.{SpanRead, EntriesRead, ContentRead, name_order, content_order, members_order, block_order}
+use Rattle.lexis.proofs.Stores.{sets-sets, sets-append, below_sets, in_sets}
 use Rattle.dadl.proofs.EarlierNames.{Seen, seen_none, seen_more}
 
 -- ---- a member's row on the tape
 
 -- a member's row put below the rows inside it, and then the rows behind it
-entry-tape : (tape : List ℕ) (n : ℕ) (w : Span) (c : PlacedContent) (more : Entries) →
+entry_tape : (tape : List ℕ) (n : ℕ) (w : Span) (c : PlacedContent) (more : Entries) →
     sets (sets (sets tape (row_size * (n + 1)) (content_tape c (n + 1))) (row_size * n)
     (tape_row_of w c (next_row (n + 1 + content_rows c) more))) (row_size * (n + 1 + content_rows c))
     (entries_tape more (n + 1 + content_rows c))
     ≡ sets tape (row_size * n) (entries_tape (entry w c more) n)
 unfolding entries_tape
-entry-tape tape n w c more =
+entry_tape tape n w c more =
     let k : List ℕ = content_tape c (n + 1) in
     let r : List ℕ = entries_tape more (n + 1 + content_rows c) in
     let e : List ℕ = tape_row_of w c (next_row (n + 1 + content_rows c) more) in
     let le : length e ≡ row_size = row-length w c (next_row (n + 1 + content_rows c) more) in
-    let lk : length k ≡ row_size * content_rows c = content-length c (n + 1) in
+    let lk : length k ≡ row_size * content_rows c = content_length c (n + 1) in
     let e3 : row_size * n + length e ≡ row_size * (n + 1) = omega arith in
     let e4 : row_size * (n + 1) + length k ≡ row_size * (n + 1 + content_rows c) = omega arith in
     sym
@@ -80,14 +80,14 @@ greater-other sort h = rw (eqb-true sort greater h)
 linked : (s : List ℕ) (down : Down) (fuel n : ℕ) (seen : List (List ℕ)) (from : ℕ)
     → Yields (Linked (eqb (data_token_at s from).sort name) n) (members s down fuel seen from)
 unfolding members
-linked s down zero n seen from = stopped-yields (Linked (eqb (data_token_at s from).sort name) n) _
+linked s down zero n seen from = stopped_yields (Linked (eqb (data_token_at s from).sort name) n) _
 linked s down (suc fuel) n seen from =
     let t = data_token_at s from in
     let P = Linked (eqb t.sort name) n in
-    by_cond (Yields P) (eqb t.sort greater) (λ e. parsed-yields P no_more t.end (rw (greater-other t.sort e)))
+    by_cond (Yields P) (eqb t.sort greater) (λ e. parsed_yields P no_more t.end (rw (greater-other t.sort e)))
     (λ e. by_cond (Yields P) (eqb t.sort name)
-    (λ k. any-yields P (name_from s seen t) _ (λ w p. any-yields P (content_from s down p) _ (λ x q. any-yields P (members s down fuel (spelling s t ∷ seen) q) _ (λ ms r. parsed-yields P _ r (rw k)))))
-    (λ k. stopped-yields P _))
+    (λ k. any_yields P (name_from s seen t) _ (λ w p. any_yields P (content_from s down p) _ (λ x q. any_yields P (members s down fuel (spelling s t ∷ seen) q) _ (λ ms r. parsed_yields P _ r (rw k)))))
+    (λ k. stopped_yields P _))
 
 -- a member whose row and the rows inside it are written: what is left is the rest
 step : (tape : List ℕ) (n : ℕ) (w : Span) (c : PlacedContent) (k : Bool) (rest : Parse Entries)
@@ -100,15 +100,15 @@ unfolding entry_rows Yields
 step tape n w c k (stopped x) h = refl
 step tape n w c k (flawed x v) h = refl
 step tape n w c k (parsed more p) h =
-    let m = entry-tape tape n w c more in
+    let m = entry_tape tape n w c more in
     let z : n + 1 + content_rows c + entry_rows more ≡ n + suc (content_rows c + entry_rows more) = omega arith in
     rw (h, z, m)
 
 -- ---- finishing a member
 
-pub finish-fits : (s : List ℕ) (n : ℕ) (row : Row) (rows from : ℕ) (tape : List ℕ) (sort next : ℕ)
+pub finish_fits : (s : List ℕ) (n : ℕ) (row : Row) (rows from : ℕ) (tape : List ℕ) (sort next : ℕ)
     → Finish s n row rows from tape → next ≡ link_of sort rows → RowFits n row next tape
-finish-fits s n row rows from tape sort next h e =
+finish_fits s n row rows from tape sort next h e =
     let f = h.fits in
     let l : next ≤ rows = rw e (small (eqb sort name)) in
     record { room = f.room; holds = f.holds; name_start = f.name_start; name_end = f.name_end; place = f.place; type_start = f.type_start; type_end = f.type_end; start = f.start; end = f.end; link = omega arith }
@@ -117,11 +117,11 @@ finish-fits s n row rows from tape sort next h e =
     small true = omega arith
     small false = omega arith
 
-pub finish-done : (s : List ℕ) (n : ℕ) (row : Row) (rows from : ℕ) (tape after : List ℕ) (t : Token) (next : ℕ)
+pub finish_done : (s : List ℕ) (n : ℕ) (row : Row) (rows from : ℕ) (tape after : List ℕ) (t : Token) (next : ℕ)
     → TokenIs s from (data_token_at s from) t → next ≡ link_of t.sort rows
     → after ≡ sets tape (row_size * n) (row_numbers row next)
     → member_wrote (Member rows t) after ≡ finished_rows s n row rows from tape
-finish-done s n row rows from tape after t next tok e f = rw (f, e, tok.is)
+finish_done s n row rows from tape after t next tok e f = rw (f, e, tok.is)
 
 -- ---- a member
 
@@ -134,11 +134,11 @@ leaf-numbers t (suc zero) place start end next a b = refl
 leaf-numbers t (suc (suc zero)) place start end next a b = refl
 leaf-numbers t (suc (suc (suc k))) place start end next a b = absurd (omega arith)
 
-leaf-rows : (holds place start end : ℕ) (n : ℕ)
+leaf_rows : (holds place start end : ℕ) (n : ℕ)
     → (content_rows (leaf_of holds place (span start end)) ≡ 0)
     × (content_tape (leaf_of holds place (span start end)) n ≡ [])
 unfolding content_rows content_tape
-leaf-rows holds place start end n = by (eqb holds 1)
+leaf_rows holds place start end n = by (eqb holds 1)
   where
     by : (b : Bool)
         → (content_rows (cond b (string place (span start end)) (word place (span start end))) ≡ 0)
@@ -147,18 +147,18 @@ leaf-rows holds place start end n = by (eqb holds 1)
     by false = (refl, refl)
 
 -- a type's places are those that it was made of
-pub type-places : (start end : ℕ) → start ≤ end
+pub type_places : (start end : ℕ) → start ≤ end
     → (type_start (type_span start end) ≡ start) × (type_end (type_span start end) ≡ end)
-type-places start zero h = let e : start ≡ 0 = omega arith in (sym e, refl)
-type-places start (suc end) h = rw eqb-suc-zero (refl, refl)
+type_places start zero h = let e : start ≡ 0 = omega arith in (sym e, refl)
+type_places start (suc end) h = rw eqb-suc-zero (refl, refl)
 
 -- a block is its members, with its place and its type
-pub block-entries : (s : List ℕ) (levels place : ℕ) (type : Option Span) (from : ℕ)
+pub block_entries : (s : List ℕ) (levels place : ℕ) (type : Option Span) (from : ℕ)
     → first_in (block_from s levels place type from)
     ≡ Reading.read_then (entries_from s levels place from) (λ ms p. got (block place type ms) p)
 unfolding block_from entries_from
-block-entries s zero place type from = refl
-block-entries s (suc levels) place type from = first_then (members s (block_from s levels) (length s + 1) [] from) _
+block_entries s zero place type from = refl
+block_entries s (suc levels) place type from = first_then (members s (block_from s levels) (length s + 1) [] from) _
 
 -- what an answer says of the members that were read
 pub record IsRows (n : ℕ) (before after : List ℕ) (rows place : ℕ) (reading : Reading Entries) : Type 0 where
@@ -167,20 +167,20 @@ pub record IsRows (n : ℕ) (before after : List ℕ) (rows place : ℕ) (readin
   pub count : rows ≡ n + entry_rows ms
   pub tape : after ≡ sets before (row_size * n) (entries_tape ms n)
 
-pub is-rows : (n : ℕ) (before after : List ℕ) (rows place : ℕ) (x : Reading Entries)
+pub is_rows : (n : ℕ) (before after : List ℕ) (rows place : ℕ) (x : Reading Entries)
     → rows_wrote (Read rows place) after ≡ entries_written n before x → IsRows n before after rows place x
-is-rows n before after rows place (refused x) e =
+is_rows n before after rows place (refused x) e =
     let o : Read rows place ≡ Refused x = ap (λ (q : RowsWrote RowsRead). q.answer) e in
     let z : ◌≡◌ {A = ℕ} 0 1 = cc in
     absurd (omega arith)
-is-rows n before after rows place (got ms p) e =
+is_rows n before after rows place (got ms p) e =
     let o : Read rows place ≡ Read (n + entry_rows ms) p = ap (λ (q : RowsWrote RowsRead). q.answer) e in
     record { ms = ms; is = (cc); count = (cc); tape = ap (λ (q : RowsWrote RowsRead). q.tape) e }
 
-pub is-refused : (n : ℕ) (before after : List ℕ) (y : Refusal) (x : Reading Entries)
+pub is_refused_lem : (n : ℕ) (before after : List ℕ) (y : Refusal) (x : Reading Entries)
     → rows_wrote (Refused y) after ≡ entries_written n before x → x ≡ refused y
-is-refused n before after y (refused x) e = let o : Refused y ≡ Refused x = ap (λ (q : RowsWrote RowsRead). q.answer) e in cc
-is-refused n before after y (got ms p) e =
+is_refused_lem n before after y (refused x) e = let o : Refused y ≡ Refused x = ap (λ (q : RowsWrote RowsRead). q.answer) e in cc
+is_refused_lem n before after y (got ms p) e =
     let o : Refused y ≡ Read (n + entry_rows ms) p = ap (λ (q : RowsWrote RowsRead). q.answer) e in
     let z : ◌≡◌ {A = ℕ} 0 1 = cc in
     absurd (omega arith)
@@ -188,21 +188,21 @@ is-refused n before after y (got ms p) e =
 module _ (first : ℕ) {s : List ℕ} {levels : ℕ} {t : Token} {n : ℕ} {before : List ℕ}
     (room : MemberRoom s levels t n before) {o : ContentStart}
     (d : ContentIs s (t.start + 2) (member_reading s (earlier_names s before first n) t) o) where
-  content-is : (k : ContentStart) → o ≡ k
+  content_is : (k : ContentStart) → o ≡ k
       → content_reading (block_from s levels) k ≡ member_reading s (earlier_names s before first n) t (block_from s levels)
-  content-is k g = rw g at (d.is (block_from s levels))
+  content_is k g = rw g at (d.is (block_from s levels))
 
-  content-past : (k : ContentStart) → o ≡ k → ContentPast s (t.start + 2) k
-  content-past k g = rw g at d.past
+  content_past : (k : ContentStart) → o ≡ k → ContentPast s (t.start + 2) k
+  content_past k g = rw g at d.past
 
-  pub member-faulty : (x : Refusal) → o ≡ Faulty x → MemberIs s levels t first n before before (Not x)
-  member-faulty x g = record { is = ap (member_written s t n before) (content-is (Faulty x) g) }
+  pub member_faulty : (x : Refusal) → o ≡ Faulty x → MemberIs s levels t first n before before (Not x)
+  member_faulty x g = record { is = ap (member_written s t n before) (content_is (Faulty x) g) }
 
   module _ {holds place start end next : ℕ} (g : o ≡ Leaf holds place start end next) {row : Row}
       (e : row ≡ leaf_row t holds place start end) where
-    pub leaf-finish : Finish s n row (n + 1) next before
-    leaf-finish =
-        let p = content-past _ g in
+    pub leaf_finish : Finish s n row (n + 1) next before
+    leaf_finish =
+        let p = content_past _ g in
         let m = room.name in
         rw e (record {
           inside = omega arith;
@@ -212,10 +212,10 @@ module _ (first : ℕ) {s : List ℕ} {levels : ℕ} {t : Token} {n : ℕ} {befo
     leaf-written : finished_rows s n (leaf_row t holds place start end)
         (n + 1) next before ≡ member_written s t n before (got (leaf_of holds place (span start end)) next)
     leaf-written =
-        let p = content-past _ g in
+        let p = content_past _ g in
         let c = leaf_of holds place (span start end) in
         let k : ℕ = (data_token_at s next).sort in
-        let z = leaf-rows holds place start end (n + 1) in
+        let z = leaf_rows holds place start end (n + 1) in
         let cnt : n + 1 ≡ n + 1 + content_rows c = omega (arith, z.0) in
         let numbers : row_numbers (leaf_row t holds place start end) (link_of k (n + 1)) ≡ tape_row_of (span_of t) c (link_of k (n + 1 + content_rows c))
         = leaf-numbers t holds place start end (link_of k (n + 1)) (omega arith) (omega arith) ∙ ap (λ (m : ℕ). tape_row_of (span_of t) c (link_of k m)) cnt in
@@ -224,37 +224,37 @@ module _ (first : ℕ) {s : List ℕ} {levels : ℕ} {t : Token} {n : ℕ} {befo
           tape = sets (sets before (row_size * (n + 1)) (sym z.1 i)) (row_size * n) (numbers i);
         }
 
-    pub leaf-member : (r : MemberRead) (after : List ℕ) → member_wrote r after ≡ finished_rows s n row (n + 1) next before
+    pub leaf_member : (r : MemberRead) (after : List ℕ) → member_wrote r after ≡ finished_rows s n row (n + 1) next before
         → MemberIs s levels t first n before after r
-    leaf-member r after f = record { is = (rw e at f) ∙ leaf-written ∙ ap (member_written s t n before) (content-is _ g) }
+    leaf_member r after f = record { is = (rw e at f) ∙ leaf-written ∙ ap (member_written s t n before) (content_is _ g) }
 
   module _ {place start end next : ℕ} (g : o ≡ content.Block place start end next) where
     pub block_room : RowsRoom s levels next (n + 1) before
     block_room =
-        let p = content-past _ g in
+        let p = content_past _ g in
         record { inside = omega arith; short = room.short; few = omega arith; long = room.long }
 
     module _ {after : List ℕ} {r : RowsRead}
         (b : RowsIs s next (n + 1) before (entries_from s levels place next) after r) where
       pub block_refused : (x : Refusal) → r ≡ Refused x → MemberIs s levels t first n before after (Not x)
       block_refused x q =
-          let f = is-refused (n + 1) before after x (entries_from s levels place next) (rw q at b.is) in
+          let f = is_refused_lem (n + 1) before after x (entries_from s levels place next) (rw q at b.is) in
           let m : member_reading s (earlier_names s before first n) t (block_from s levels) ≡ refused x
-          = sym (content-is _ g) ∙ ap (λ y. Reading.read_then y (λ d q. got (inside d) q)) (block-entries s levels place (type_span start end) next ∙ ap (λ y. Reading.read_then y (λ ms p. got (block place (type_span start end) ms) p)) f) in
+          = sym (content_is _ g) ∙ ap (λ y. Reading.read_then y (λ d q. got (inside d) q)) (block_entries s levels place (type_span start end) next ∙ ap (λ y. Reading.read_then y (λ ms p. got (block place (type_span start end) ms) p)) f) in
           record { is = sym (ap (member_written s t n before) m) }
 
       module _ {rows behind : ℕ} (q : r ≡ Read rows behind) where
-        rows-past : RowsPast s next (n + 1) (Read rows behind)
-        rows-past = rw q at b.past
+        rows_past : RowsPast s next (n + 1) (Read rows behind)
+        rows_past = rw q at b.past
 
-        pub block-count : n + 1 ≤ rows
-        block-count = let h = rows-past in omega arith
+        pub block_count : n + 1 ≤ rows
+        block_count = let h = rows_past in omega arith
 
-        pub block-finish : {row : Row} → length after ≡ length before
+        pub block_finish : {row : Row} → length after ≡ length before
             → row ≡ block_row t place start end (rows - (n + 1)) → Finish s n row rows behind after
-        block-finish l e =
-            let h = rows-past in
-            let p = content-past _ g in
+        block_finish l e =
+            let h = rows_past in
+            let p = content_past _ g in
             let m = room.name in
             rw e (record {
               inside = omega arith;
@@ -262,7 +262,7 @@ module _ (first : ℕ) {s : List ℕ} {levels : ℕ} {t : Token} {n : ℕ} {befo
             })
 
         found : IsRows (n + 1) before after rows behind (entries_from s levels place next)
-        found = is-rows (n + 1) before after rows behind (entries_from s levels place next) (rw q at b.is)
+        found = is_rows (n + 1) before after rows behind (entries_from s levels place next) (rw q at b.is)
 
         block_written : (ms : Entries) → rows ≡ n + 1 + entry_rows ms
             → after ≡ sets before (row_size * (n + 1)) (entries_tape ms (n + 1))
@@ -270,22 +270,22 @@ module _ (first : ℕ) {s : List ℕ} {levels : ℕ} {t : Token} {n : ℕ} {befo
             ≡ member_written s t n before (got (inside (block place (type_span start end) ms)) behind)
         unfolding content_rows block_rows content_tape block_tape
         block_written ms cnt tp =
-            let p = content-past _ g in
+            let p = content_past _ g in
             let k : ℕ = (data_token_at s behind).sort in
-            let y = type-places start end (omega arith) in
+            let y = type_places start end (omega arith) in
             let rs : rows - (n + 1) ≡ entry_rows ms = omega arith in
             λ i. record {
               answer = Member (cnt i) (data_token_at s behind);
               tape = sets (tp i) (row_size * n) (0 ∷ t.start ∷ t.end ∷ place ∷ sym y.0 i ∷ sym y.1 i ∷ 0 ∷ rs i ∷ link_of k (cnt i) ∷ []);
             }
 
-        pub block-member : {row : Row} {last : List ℕ} {a : MemberRead}
+        pub block_member : {row : Row} {last : List ℕ} {a : MemberRead}
             → row ≡ block_row t place start end (rows - (n + 1))
             → member_wrote a last ≡ finished_rows s n row rows behind after → MemberIs s levels t first n before last a
-        block-member e f =
+        block_member e f =
             let h = found in
             let m : got (inside (block place (type_span start end) h.ms)) behind ≡ member_reading s (earlier_names s before first n) t (block_from s levels)
-            = sym (ap (λ y. Reading.read_then y (λ d q. got (inside d) q)) (block-entries s levels place (type_span start end) next ∙ ap (λ y. Reading.read_then y (λ ms p. got (block place (type_span start end) ms) p)) h.is)) ∙ content-is _ g in
+            = sym (ap (λ y. Reading.read_then y (λ d q. got (inside d) q)) (block_entries s levels place (type_span start end) next ∙ ap (λ y. Reading.read_then y (λ ms p. got (block place (type_span start end) ms) p)) h.is)) ∙ content_is _ g in
             record { is = (rw e at f) ∙ block_written h.ms h.count h.tape ∙ ap (member_written s t n before) m }
 
 -- ---- a block
@@ -298,21 +298,21 @@ below_one s zero place from z = absurd (z refl)
 below_one s (suc levels) place from z = rw sub-one
 
 -- its members have the room that it has
-pub block-inner : {s : List ℕ} {levels from n : ℕ} {before : List ℕ} → RowsRoom s levels from n before
+pub block_inner : {s : List ℕ} {levels from n : ℕ} {before : List ℕ} → RowsRoom s levels from n before
     → (levels ≡ 0 → ⊥) → RowsRoom s (levels - 1 + 1) from n before
-block-inner room z = record { inside = room.inside; short = room.short; few = omega arith; long = room.long }
+block_inner room z = record { inside = room.inside; short = room.short; few = omega arith; long = room.long }
 
 module _ (place : ℕ) {s : List ℕ} {levels from n : ℕ} {before : List ℕ} (room : RowsRoom s levels from n before) where
-  pub block-deep : levels ≡ 0
+  pub block_deep : levels ≡ 0
       → RowsIs s from n before (entries_from s levels place from) before (Refused (refusal TooDeep place))
   unfolding entries_from
-  block-deep z = record { is = rw z; past = tt }
+  block_deep z = record { is = rw z; past = tt }
 
   module _ (z : levels ≡ 0 → ⊥) where
-    pub block-members : (after : List ℕ) (r : RowsRead)
+    pub block_members : (after : List ℕ) (r : RowsRead)
         → RowsIs s from n before (first_in (members s (block_from s (levels - 1)) (length s + 1) [] from)) after r
         → RowsIs s from n before (entries_from s levels place from) after r
-    block-members after r d = record { is = rw (below_one s levels place from z) d.is; past = d.past }
+    block_members after r d = record { is = rw (below_one s levels place from z) d.is; past = d.past }
 
 -- ---- the members of a block
 
@@ -349,63 +349,63 @@ members-start s levels from n tape t room tok = record {
 }
 
 -- members that were read take a byte for `>` and four for each row
-rows-read : (s : List ℕ) (from n : ℕ) (before after : List ℕ) (w : Parse Entries) (r : RowsRead)
+rows_read : (s : List ℕ) (from n : ℕ) (before after : List ℕ) (w : Parse Entries) (r : RowsRead)
     → InOrder s (rank from 0) (EntriesRead s from) w → rows_wrote r after ≡ entries_written n before (first_in w)
     → RowsPast s from n r
 unfolding Holds
-rows-read s from n before after w (Refused y) h e = tt
-rows-read s from n before after w (Read rows place) h e =
-    let f = is-rows n before after rows place (first_in w) e in
-    let g : EntriesRead s from f.ms place = rw f.is at (order-holds s (EntriesRead s from) (rank from 0) w h) in
+rows_read s from n before after w (Refused y) h e = tt
+rows_read s from n before after w (Read rows place) h e =
+    let f = is_rows n before after rows place (first_in w) e in
+    let g : EntriesRead s from f.ms place = rw f.is at (order_holds s (EntriesRead s from) (rank from 0) w h) in
     omega (arith, f.count, g.least, g.most)
 
-pub members-past : (s : List ℕ) (levels from n : ℕ) (before after : List ℕ) (r : RowsRead) → from ≤ length s
+pub members_past : (s : List ℕ) (levels from n : ℕ) (before after : List ℕ) (r : RowsRead) → from ≤ length s
     → rows_wrote r after ≡ entries_written n before (first_in (members s (block_from s levels) (length s + 1) [] from))
     → RowsIs s from n before (first_in (members s (block_from s levels) (length s + 1) [] from)) after r
-members-past s levels from n before after r h e = record {
+members_past s levels from n before after r h e = record {
   is = e;
-  past = rows-read s from n before after _ r (members-order s 0 (block_from s levels) (λ p t q a. block-order s levels p t q) (length s + 1) [] from (omega arith) (omega arith) h) e;
+  past = rows_read s from n before after _ r (members_order s 0 (block_from s levels) (λ p t q a. block_order s levels p t q) (length s + 1) [] from (omega arith) (omega arith) h) e;
 }
 
 -- one turn of the members
 module _ (s : List ℕ) (down : Down) (seen : List (List ℕ)) (place : ℕ) (t : Token) (e : t ≡ data_token_at s place) where
-  turn-close : (fuel : ℕ) → 0 < fuel → t.sort ≡ greater
+  turn_close : (fuel : ℕ) → 0 < fuel → t.sort ≡ greater
       → first_in (members s down fuel seen place) ≡ got no_more t.end
   unfolding members
-  turn-close zero z k = absurd (omega arith)
-  turn-close (suc fuel) z k = rw (← e, eq-eqb t.sort greater k)
+  turn_close zero z k = absurd (omega arith)
+  turn_close (suc fuel) z k = rw (← e, eq-eqb t.sort greater k)
 
-  turn-fault : (fuel : ℕ) → 0 < fuel → (t.sort ≡ greater → ⊥) → (t.sort ≡ name → ⊥)
+  turn_fault : (fuel : ℕ) → 0 < fuel → (t.sort ≡ greater → ⊥) → (t.sort ≡ name → ⊥)
       → first_in (members s down fuel seen place) ≡ refuse (syntax_cause t) t.start
   unfolding members
-  turn-fault zero z k l = absurd (omega arith)
-  turn-fault (suc fuel) z k l = rw (← e, ne_eqb t.sort greater k, ne_eqb t.sort name l)
+  turn_fault zero z k l = absurd (omega arith)
+  turn_fault (suc fuel) z k l = rw (← e, ne_eqb t.sort greater k, ne_eqb t.sort name l)
 
-  turn-name : (fuel : ℕ) → 0 < fuel → t.sort ≡ name → members s down fuel seen place
+  turn_name : (fuel : ℕ) → 0 < fuel → t.sort ≡ name → members s down fuel seen place
       ≡ and_then (name_from s seen t)
       (λ w p. and_then (content_from s down p)
       (λ x q. and_then (members s down (fuel - 1) (spelling s t ∷ seen) q) (λ ms r. parsed (entry w x ms) r)))
   unfolding members
-  turn-name zero z k = absurd (omega arith)
-  turn-name (suc fuel) z k = rw (← e, k, sub-one)
+  turn_name zero z k = absurd (omega arith)
+  turn_name (suc fuel) z k = rw (← e, k, sub-one)
 
 -- a name that was read is the token's
 abbrev Named : Token → Span → ℕ → Type 0
 Named t w p = w ≡ span_of t
 
-name-named : (s : List ℕ) (seen : List (List ℕ)) (t : Token) → Yields (Named t) (name_from s seen t)
+name_named : (s : List ℕ) (seen : List (List ℕ)) (t : Token) → Yields (Named t) (name_from s seen t)
 unfolding name_from
-name-named s seen t =
+name_named s seen t =
     let P = Named t in
-    noting-yields P (ltb name_limit (length (spelling s t))) TooLong t.start _ (λ l.
-    noting-yields P (listed (spelling s t) seen) RepeatedName t.start _ (λ m.
-    any-yields P (expect_data s equals t.end) _ (λ u p. parsed-yields P (span_of t) p refl)))
+    noting_yields P (ltb name_limit (length (spelling s t))) TooLong t.start _ (λ l.
+    noting_yields P (listed (spelling s t) seen) RepeatedName t.start _ (λ m.
+    any_yields P (expect_data s equals t.end) _ (λ u p. parsed_yields P (span_of t) p refl)))
 
 -- a name is read in one way, whichever list says which names were before it
-name-same : (s : List ℕ) (a b : List (List ℕ)) (t : Token) → ((w : List ℕ) → listed w a ≡ listed w b)
+name_same : (s : List ℕ) (a b : List (List ℕ)) (t : Token) → ((w : List ℕ) → listed w a ≡ listed w b)
     → name_from s a t ≡ name_from s b t
 unfolding name_from
-name-same s a b t h = rw (h (spelling s t))
+name_same s a b t h = rw (h (spelling s t))
 
 -- a name and a content that were read, and what follows them
 after-name : {A : Type 0} (t : Token) (v : Parse Span) (f : ℕ → Parse PlacedContent)
@@ -415,14 +415,14 @@ after-name : {A : Type 0} (t : Token) (v : Parse Span) (f : ℕ → Parse Placed
 unfolding Yields
 after-name t (stopped x) f go c q n e = let z : ◌≡◌ {A = ℕ} 0 1 = cc in absurd (omega arith)
 after-name t (flawed x v) f go c q n e = let z : ◌≡◌ {A = ℕ} 0 1 = cc in absurd (omega arith)
-after-name t (parsed w p) f go c q n e = then-got (f p) _ c q e ∙ ap (λ (y : Span). first_in (go y c q)) n
+after-name t (parsed w p) f go c q n e = then_got (f p) _ c q e ∙ ap (λ (y : Span). first_in (go y c q)) n
 
-after-refused : {A : Type 0} (v : Parse Span) (f : ℕ → Parse PlacedContent) (go : Span → PlacedContent → ℕ → Parse A)
+after_refused : {A : Type 0} (v : Parse Span) (f : ℕ → Parse PlacedContent) (go : Span → PlacedContent → ℕ → Parse A)
     (y : Refusal) → first_in (and_then v (λ w p. f p)) ≡ refused y
     → first_in (and_then v (λ w p. and_then (f p) (λ x z. go w x z))) ≡ refused y
-after-refused (stopped x) f go y e = cc
-after-refused (flawed x v) f go y e = cc
-after-refused (parsed w p) f go y e = then-refused (f p) _ y e
+after_refused (stopped x) f go y e = cc
+after_refused (flawed x v) f go y e = cc
+after_refused (parsed w p) f go y e = then_refused (f p) _ y e
 
 -- what an answer says of the member that was read
 record IsMember (s : List ℕ) (t : Token) (n : ℕ) (before after : List ℕ) (rows : ℕ) (next : Token)
@@ -446,10 +446,10 @@ is_member s t n before after rows next (got c q) e =
     let o : Member rows next ≡ Member (n + 1 + content_rows c) (data_token_at s q) = ap (λ (q : RowsWrote MemberRead). q.answer) e in
     record { c = c; q = q; is = refl; count = (cc); token = (cc); tape = ap (λ (q : RowsWrote MemberRead). q.tape) e }
 
-is-not : (s : List ℕ) (t : Token) (n : ℕ) (before after : List ℕ) (y : Refusal) (x : Reading PlacedContent)
+is_not : (s : List ℕ) (t : Token) (n : ℕ) (before after : List ℕ) (y : Refusal) (x : Reading PlacedContent)
     → member_wrote (Not y) after ≡ member_written s t n before x → x ≡ refused y
-is-not s t n before after y (refused x) e = let o : Not y ≡ Not x = ap (λ (q : RowsWrote MemberRead). q.answer) e in cc
-is-not s t n before after y (got c q) e =
+is_not s t n before after y (refused x) e = let o : Not y ≡ Not x = ap (λ (q : RowsWrote MemberRead). q.answer) e in cc
+is_not s t n before after y (got c q) e =
     let o : Not y ≡ Member (n + 1 + content_rows c) (data_token_at s q) = ap (λ (q : RowsWrote MemberRead). q.answer) e in
     let z : ◌≡◌ {A = ℕ} 0 1 = cc in
     absurd (omega arith)
@@ -459,21 +459,21 @@ record MemberTakes (s : List ℕ) (place : ℕ) (c : PlacedContent) (q : ℕ) : 
   pub least : place + 4 + 4 * content_rows c ≤ q
   pub most : q ≤ length s
 
-member-takes : (s : List ℕ) (levels : ℕ) (seen : List (List ℕ)) (place : ℕ) (t : Token) → t ≡ data_token_at s place
+member_takes : (s : List ℕ) (levels : ℕ) (seen : List (List ℕ)) (place : ℕ) (t : Token) → t ≡ data_token_at s place
     → t.sort ≡ name → place ≤ length s
     → Holds (FaultFrom s (rank place 0)) (MemberTakes s place) (member_reading s seen t (block_from s levels))
 unfolding member_reading
-member-takes s levels seen place t e k h =
+member_takes s levels seen place t e k h =
     let down = block_from s levels in
-    let z : InOrder s (rank place 0) (SpanRead s place) (name_from s seen t) = rw e (name-order s seen place h (eq-eqb _ name (rw e at k))) in
-    order-holds s (MemberTakes s place) (rank place 0) _
-    (then-order s (MemberTakes s place) (SpanRead s place) (rank place 0) (name_from s seen t) _ z (λ w p a.
-    order-map s (rank p 0) (ContentRead s p) (MemberTakes s place) _ (λ c q b. record { least = omega arith; most = b.most }) (content-order s 0 down (λ p t q a. block-order s levels p t q) p (omega arith) a.most)))
+    let z : InOrder s (rank place 0) (SpanRead s place) (name_from s seen t) = rw e (name_order s seen place h (eq-eqb _ name (rw e at k))) in
+    order_holds s (MemberTakes s place) (rank place 0) _
+    (then_order s (MemberTakes s place) (SpanRead s place) (rank place 0) (name_from s seen t) _ z (λ w p a.
+    order_map s (rank p 0) (ContentRead s p) (MemberTakes s place) _ (λ c q b. record { least = omega arith; most = b.most }) (content_order s 0 down (λ p t q a. block_order s levels p t q) p (omega arith) a.most)))
 
 -- a token of the text lies in it
-token-there : (s : List ℕ) (q : ℕ) (a : Token) → q ≤ length s → a ≡ data_token_at s q → TokenIs s q (data_token_at s q) a
-token-there s q a h e =
-    let f = data-token-found s q h in
+token_there : (s : List ℕ) (q : ℕ) (a : Token) → q ≤ length s → a ≡ data_token_at s q → TokenIs s q (data_token_at s q) a
+token_there s q a h e =
+    let f = data_token-found s q h in
     record {
       is = e;
       start = rw e f.start;
@@ -487,21 +487,21 @@ linked_to : (sort k next rows : ℕ) → sort ≡ name → sort ≡ k → next �
 linked_to sort k next rows z e c = rw (← e, z, c)
 
 -- a row's numbers stand on the tape
-row-stands : (tape : List ℕ) (n : ℕ) (w : Span) (c : PlacedContent) (next i : ℕ) → i < row_size
+row_stands : (tape : List ℕ) (n : ℕ) (w : Span) (c : PlacedContent) (next i : ℕ) → i < row_size
     → row_size * n + row_size ≤ length tape
     → number_at (sets tape (row_size * n) (tape_row_of w c next)) n i ≡ get_or (tape_row_of w c next) i 0
-row-stands tape n w c next i h l = let r = row-length w c next in in-sets (tape_row_of w c next) tape (row_size * n) i (omega arith) (omega arith)
+row_stands tape n w c next i h l = let r = row-length w c next in in_sets (tape_row_of w c next) tape (row_size * n) i (omega arith) (omega arith)
 
 -- a member's row names it and leads to the next
-named-row : (s tape after : List ℕ) (t : Token) (n next : ℕ) (c : PlacedContent) (rows : List ℕ)
+named_row : (s tape after : List ℕ) (t : Token) (n next : ℕ) (c : PlacedContent) (rows : List ℕ)
     → after ≡ sets (sets tape (row_size * (n + 1)) rows) (row_size * n) (tape_row_of (span_of t) c next) → n < next
     → row_size * n + row_size ≤ length tape
     → Inside s t.start t.end → NamedRow s after n next (spelling s t) × (number_at after n 8 ≡ next)
-named-row s tape after t n next c rows e up room h =
+named_row s tape after t n next c rows e up room h =
     let l = sets tape (row_size * (n + 1)) rows in
     let len : length l ≡ length tape = length-sets tape (row_size * (n + 1)) rows in
     let r = row-numbers (span_of t) c next in
-    let stands : (i : ℕ) → i < row_size → number_at after n i ≡ get_or (tape_row_of (span_of t) c next) i 0 = λ i b. ap (λ (x : List ℕ). number_at x n i) e ∙ row-stands l n (span_of t) c next i b (omega arith) in
+    let stands : (i : ℕ) → i < row_size → number_at after n i ≡ get_or (tape_row_of (span_of t) c next) i 0 = λ i b. ap (λ (x : List ℕ). number_at x n i) e ∙ row_stands l n (span_of t) c next i b (omega arith) in
     let a : number_at after n 1 ≡ t.start = stands 1 (omega arith) ∙ r.0 in
     let b : number_at after n 2 ≡ t.end = stands 2 (omega arith) ∙ r.1 in
     let d : number_at after n 8 ≡ next = stands 8 (omega arith) ∙ r.2 in
@@ -511,26 +511,26 @@ named-row s tape after t n next c rows e up room h =
 kept_row : (tape after : List ℕ) (n : ℕ) (rows row : List ℕ)
     → after ≡ sets (sets tape (row_size * (n + 1)) rows) (row_size * n) row → (j : ℕ) → j < row_size * n
     → get_or after j 0 ≡ get_or tape j 0
-kept_row tape after n rows row e j h = ap (λ (x : List ℕ). get_or x j 0) e ∙ below-sets row (sets tape (row_size * (n + 1)) rows) (row_size * n) j h ∙ below-sets rows tape (row_size * (n + 1)) j (omega arith)
+kept_row tape after n rows row e j h = ap (λ (x : List ℕ). get_or x j 0) e ∙ below_sets row (sets tape (row_size * (n + 1)) rows) (row_size * n) j h ∙ below_sets rows tape (row_size * (n + 1)) j (omega arith)
 
 module _ {s : List ℕ} {levels from n : ℕ} {before : List ℕ} {rows : ℕ} {t : Token} {tape : List ℕ}
     (inv : InMembers s levels from n before rows t tape) where
-  pub members-close : t.sort ≡ greater
+  pub members_close : t.sort ≡ greater
       → RowsIs s from n before (first_in (members s (block_from s levels) (length s + 1) [] from)) tape
       (Read rows t.end)
   unfolding entry_rows entries_tape
-  members-close k = members-past s levels from n before tape (Read rows t.end) inv.room.inside (rw (turn-close s (block_from s levels) inv.seen inv.place t inv.tok.is inv.fuel (omega (arith, inv.enough, inv.within)) k, add-zero) at inv.is)
+  members_close k = members_past s levels from n before tape (Read rows t.end) inv.room.inside (rw (turn_close s (block_from s levels) inv.seen inv.place t inv.tok.is inv.fuel (omega (arith, inv.enough, inv.within)) k, add-zero) at inv.is)
 
-  pub members-fault : (t.sort ≡ greater → ⊥) → (t.sort ≡ name → ⊥) → (x : Refusal)
+  pub members_fault : (t.sort ≡ greater → ⊥) → (t.sort ≡ name → ⊥) → (x : Refusal)
       → x ≡ refusal (syntax_cause t) t.start
       → RowsIs s from n before (first_in (members s (block_from s levels) (length s + 1) [] from)) tape (Refused x)
-  members-fault g k x e =
-      members-past s levels from n before tape (Refused x) inv.room.inside
-      (rw e (rw (turn-fault s (block_from s levels) inv.seen inv.place t inv.tok.is inv.fuel (omega (arith, inv.enough, inv.within)) g k) at inv.is))
+  members_fault g k x e =
+      members_past s levels from n before tape (Refused x) inv.room.inside
+      (rw e (rw (turn_fault s (block_from s levels) inv.seen inv.place t inv.tok.is inv.fuel (omega (arith, inv.enough, inv.within)) g k) at inv.is))
 
   module _ (k : t.sort ≡ name) where
-    pub member-room : MemberRoom s levels t rows tape
-    member-room =
+    pub member_room : MemberRoom s levels t rows tape
+    member_room =
         let o = inv.tok in
         let r = inv.room in
         let b : t.start < t.end = o.strict (omega arith) in
@@ -541,13 +541,13 @@ module _ {s : List ℕ} {levels from n : ℕ} {before : List ℕ} {rows : ℕ} {
           long = omega (arith, r.long, inv.same);
         }
 
-    pub member-earlier : Earlier s tape n rows
-    member-earlier = (inv.names k).rows
+    pub member_earlier : Earlier s tape n rows
+    member_earlier = (inv.names k).rows
 
     seen_same : member_reading s (earlier_names s tape n rows) t (block_from s levels)
         ≡ member_reading s inv.seen t (block_from s levels)
     unfolding member_reading
-    seen_same = ap (λ r. first_in (and_then r (λ w p. content_from s (block_from s levels) p))) (name-same s (earlier_names s tape n rows) inv.seen t (inv.names k).same)
+    seen_same = ap (λ r. first_in (and_then r (λ w p. content_from s (block_from s levels) p))) (name_same s (earlier_names s tape n rows) inv.seen t (inv.names k).same)
 
     turn : first_in (members s (block_from s levels) inv.fuel inv.seen inv.place)
         ≡ first_in
@@ -555,16 +555,16 @@ module _ {s : List ℕ} {levels from n : ℕ} {before : List ℕ} {rows : ℕ} {
         (λ w p. and_then (content_from s (block_from s levels) p)
         (λ x q. and_then (members s (block_from s levels) (inv.fuel - 1) (spelling s t ∷ inv.seen) q)
         (λ ms r. parsed (entry w x ms) r))))
-    turn = ap first_in (turn-name s (block_from s levels) inv.seen inv.place t inv.tok.is inv.fuel (omega (arith, inv.enough, inv.within)) k)
+    turn = ap first_in (turn_name s (block_from s levels) inv.seen inv.place t inv.tok.is inv.fuel (omega (arith, inv.enough, inv.within)) k)
 
     module _ {after : List ℕ} {r : MemberRead} (d : MemberIs s levels t n rows tape after r) where
-      pub member-not : (x : Refusal) → r ≡ Not x
+      pub member_not : (x : Refusal) → r ≡ Not x
           → RowsIs s from n before (first_in (members s (block_from s levels) (length s + 1) [] from)) after (Refused x)
       unfolding member_reading
-      member-not x g =
-          let f = is-not s t rows tape after x (member_reading s (earlier_names s tape n rows) t (block_from s levels)) (rw g at d.is) in
-          let m = after-refused (name_from s inv.seen t) (content_from s (block_from s levels)) (λ w x q. and_then (members s (block_from s levels) (inv.fuel - 1) (spelling s t ∷ inv.seen) q) (λ ms r. parsed (entry w x ms) r)) x (sym seen_same ∙ f) in
-          members-past s levels from n before after (Refused x) inv.room.inside (sym (ap (entries_written rows tape) (turn ∙ m)) ∙ inv.is)
+      member_not x g =
+          let f = is_not s t rows tape after x (member_reading s (earlier_names s tape n rows) t (block_from s levels)) (rw g at d.is) in
+          let m = after_refused (name_from s inv.seen t) (content_from s (block_from s levels)) (λ w x q. and_then (members s (block_from s levels) (inv.fuel - 1) (spelling s t ∷ inv.seen) q) (λ ms r. parsed (entry w x ms) r)) x (sym seen_same ∙ f) in
+          members_past s levels from n before after (Refused x) inv.room.inside (sym (ap (entries_written rows tape) (turn ∙ m)) ∙ inv.is)
 
       module _ {next : ℕ} {a : Token} (g : r ≡ Member next a) where
         read : IsMember s t rows tape after next a (member_reading s (earlier_names s tape n rows) t (block_from s levels))
@@ -572,13 +572,13 @@ module _ {s : List ℕ} {levels from n : ℕ} {before : List ℕ} {rows : ℕ} {
 
         takes : MemberTakes s inv.place read.c read.q
         unfolding Holds
-        takes = rw read.is at (member-takes s levels (earlier_names s tape n rows) inv.place t inv.tok.is k inv.within)
+        takes = rw read.is at (member_takes s levels (earlier_names s tape n rows) inv.place t inv.tok.is k inv.within)
 
         there : TokenIs s read.q (data_token_at s read.q) a
-        there = token-there s read.q a takes.most read.token
+        there = token_there s read.q a takes.most read.token
 
-        pub member-less : length s + level_limit - next < length s + level_limit - rows
-        member-less = omega (arith, read.count, inv.few, inv.within)
+        pub member_less : length s + level_limit - next < length s + level_limit - rows
+        member_less = omega (arith, read.count, inv.few, inv.within)
 
         abbrev rest : Parse Entries
         rest = members s (block_from s levels) (inv.fuel - 1) (spelling s t ∷ inv.seen) read.q
@@ -587,7 +587,7 @@ module _ {s : List ℕ} {levels from n : ℕ} {before : List ℕ} {rows : ℕ} {
             ≡ entries_written n before (first_in (members s (block_from s levels) (length s + 1) [] from))
         unfolding member_reading
         left =
-            let m = after-name t (name_from s inv.seen t) (content_from s (block_from s levels)) (λ w x q. and_then (members s (block_from s levels) (inv.fuel - 1) (spelling s t ∷ inv.seen) q) (λ ms r. parsed (entry w x ms) r)) read.c read.q (name-named s inv.seen t) (sym seen_same ∙ read.is) in
+            let m = after-name t (name_from s inv.seen t) (content_from s (block_from s levels)) (λ w x q. and_then (members s (block_from s levels) (inv.fuel - 1) (spelling s t ∷ inv.seen) q) (λ ms r. parsed (entry w x ms) r)) read.c read.q (name_named s inv.seen t) (sym seen_same ∙ read.is) in
             (λ i. entries_written (read.count i) (read.tape i) (first_in rest))
             ∙ step tape rows (span_of t) read.c (eqb (data_token_at s read.q).sort name) rest (linked s (block_from s levels) (inv.fuel - 1) (rows + 1 + content_rows read.c) (spelling s t ∷ inv.seen) read.q)
             ∙ sym (ap (entries_written rows tape) (turn ∙ m)) ∙ inv.is
@@ -597,16 +597,16 @@ module _ {s : List ℕ} {levels from n : ℕ} {before : List ℕ} {rows : ℕ} {
 
         seen_next : a.sort ≡ name → Seen s after n next (spelling s t ∷ inv.seen)
         seen_next z =
-            let h = member-room in
+            let h = member_room in
             let link : link_of (data_token_at s read.q).sort (rows + 1 + content_rows read.c) ≡ next = linked_to a.sort (data_token_at s read.q).sort next (rows + 1 + content_rows read.c) z (ap (λ (y : Token). y.sort) read.token) read.count in
             let v : after ≡ sets (sets tape (row_size * (rows + 1)) (content_tape read.c (rows + 1))) (row_size * rows) (tape_row_of (span_of t) read.c next) = read.tape ∙ ap (λ (y : ℕ). sets (sets tape (row_size * (rows + 1)) (content_tape read.c (rows + 1))) (row_size * rows) (tape_row_of (span_of t) read.c y)) link in
             let up : rows < next = omega (arith, read.count) in
-            let w = named-row s tape after t rows next read.c (content_tape read.c (rows + 1)) v up (omega (arith, h.few, h.long, h.name.order, h.name.inside)) h.name in
+            let w = named_row s tape after t rows next read.c (content_tape read.c (rows + 1)) v up (omega (arith, h.few, h.long, h.name.order, h.name.inside)) h.name in
             seen_more s tape after n rows next inv.seen (spelling s t) (inv.names k) (kept_row tape after rows (content_tape read.c (rows + 1)) (tape_row_of (span_of t) read.c next) v) w.0 w.1
             (omega (arith, h.few, h.long, long, takes.least, takes.most, read.count, inv.few))
 
-        pub member-next : InMembers s levels from n before next a after
-        member-next = record {
+        pub member_next : InMembers s levels from n before next a after
+        member_next = record {
           fuel = inv.fuel - 1;
           place = read.q;
           seen = spelling s t ∷ inv.seen;

@@ -11,17 +11,17 @@ use Rattle.dadl.specs.Clauses.Tape.{row_size}
 use Rattle.dadl.specs.Clauses.Answers.{number_at, names_from, earlier_names, NamedRow, Chain, Earlier}
 
 -- rows whose numbers stay lead where they led
-pub chain-kept : (s tape after : List ℕ) (end n : ℕ) (ws : List (List ℕ))
+pub chain_kept : (s tape after : List ℕ) (end n : ℕ) (ws : List (List ℕ))
     → ((j : ℕ) → j < row_size * end → get_or after j 0 ≡ get_or tape j 0) → Chain s tape n end ws → Chain s after n end ws
 unfolding Chain
-chain-kept s tape after end n [] f h = h
-chain-kept s tape after end n (w ∷ ws) f h =
+chain_kept s tape after end n [] f h = h
+chain_kept s tape after end n (w ∷ ws) f h =
     let r = h.0 in
     let a : number_at after n 1 ≡ number_at tape n 1 = f (row_size * n + 1) (omega arith) in
     let b : number_at after n 2 ≡ number_at tape n 2 = f (row_size * n + 2) (omega arith) in
     let d : number_at after n 8 ≡ number_at tape n 8 = f (row_size * n + 8) (omega arith) in (
       record { is = rw (a, b) r.is; order = rw (a, b) r.order; inside = rw b r.inside; up = rw d r.up; most = rw d r.most },
-      rw d (chain-kept s tape after end (number_at tape n 8) ws f h.1),
+      rw d (chain_kept s tape after end (number_at tape n 8) ws f h.1),
     )
 
 -- one row more
@@ -34,15 +34,15 @@ chain_more s tape n end last (x ∷ xs) w h r e =
     (record { is = a.is; order = a.order; inside = a.inside; up = a.up; most = omega arith }, chain_more s tape (number_at tape n 8) end last xs w h.1 r e)
 
 -- the names that the rows lead to
-pub chain-names : (s tape : List ℕ) (fuel n end : ℕ) (ws : List (List ℕ)) → Chain s tape n end ws → end ≤ n + fuel
+pub chain_names : (s tape : List ℕ) (fuel n end : ℕ) (ws : List (List ℕ)) → Chain s tape n end ws → end ≤ n + fuel
     → names_from s tape fuel n end ≡ ws
 unfolding Chain names_from
-chain-names s tape zero n end [] h l = refl
-chain-names s tape zero n end (w ∷ ws) h l = let r = h.0 in absurd (omega arith)
-chain-names s tape (suc fuel) n end [] h l = rw (le-ltb n end (omega arith))
-chain-names s tape (suc fuel) n end (w ∷ ws) h l =
+chain_names s tape zero n end [] h l = refl
+chain_names s tape zero n end (w ∷ ws) h l = let r = h.0 in absurd (omega arith)
+chain_names s tape (suc fuel) n end [] h l = rw (le-ltb n end (omega arith))
+chain_names s tape (suc fuel) n end (w ∷ ws) h l =
     let r = h.0 in
-    let e = chain-names s tape fuel (number_at tape n 8) end ws h.1 (omega arith) in
+    let e = chain_names s tape fuel (number_at tape n 8) end ws h.1 (omega arith) in
     let b : n < end = omega arith in
     rw (lt-ltb n end b, r.is, e)
 
@@ -53,10 +53,10 @@ or_swap false true c = refl
 or_swap false false c = refl
 
 -- a name at the end is a name at the start
-pub listed-last : (w : List ℕ) (xs : List (List ℕ)) (x : List ℕ) → listed w (xs ++ (x ∷ [])) ≡ (same w x || listed w xs)
+pub listed_last : (w : List ℕ) (xs : List (List ℕ)) (x : List ℕ) → listed w (xs ++ (x ∷ [])) ≡ (same w x || listed w xs)
 unfolding listed
-listed-last w [] x = refl
-listed-last w (y ∷ ys) x = let h = listed-last w ys x in rw h (or_swap (same w y) (same w x) (listed w ys))
+listed_last w [] x = refl
+listed_last w (y ∷ ys) x = let h = listed_last w ys x in rw h (or_swap (same w y) (same w x) (listed w ys))
 
 -- the names on the tape are the names that were seen
 pub record Seen (s tape : List ℕ) (first end : ℕ) (seen : List (List ℕ)) : Type 0 where
@@ -77,9 +77,9 @@ pub seen_more : (s tape after : List ℕ) (n end last : ℕ) (seen : List (List 
 unfolding listed
 seen_more s tape after n end last seen w h f r e room =
     let ws = earlier_names s tape n end in
-    let c = chain_more s after n end last ws w (chain-kept s tape after end n ws f h.rows.chain) r e in
-    let g : earlier_names s after n last ≡ ws ++ (w ∷ []) = chain-names s after (last - n) n last (ws ++ (w ∷ [])) c (omega arith) in
+    let c = chain_more s after n end last ws w (chain_kept s tape after end n ws f h.rows.chain) r e in
+    let g : earlier_names s after n last ≡ ws ++ (w ∷ []) = chain_names s after (last - n) n last (ws ++ (w ∷ [])) c (omega arith) in
     record {
       rows = record { chain = rw g c; room = room };
-      same = λ v. ap (listed v) g ∙ listed-last v ws w ∙ ap (λ b. same v w || b) (h.same v);
+      same = λ v. ap (listed v) g ∙ listed_last v ws w ∙ ap (λ b. same v w || b) (h.same v);
     }

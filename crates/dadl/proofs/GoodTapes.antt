@@ -9,12 +9,12 @@ use lib.ListN.{length-append}
 use Rattle.dadl.specs.Placed.{Span, Block, block, Entries, no_more, entry, PlacedContent, string, word, inside}
 use Rattle.dadl.specs.Clauses.Tape.{is_string, is_word, block_rows, entry_rows, content_rows, next_row, type_start, type_end, tape_row_of, block_tape, entries_tape, content_tape, members_at}
 use Rattle.dadl.specs.Clauses.Rows.{row_at, RowGood, TapeGood, walked}
-use Rattle.dadl.proofs.TapeLaws.{EachBlock, EachEntry, EachContent, each-entry, TypeEnded, Ended, At, at-start, row-there, inside-there, more-there, next-within, entries-length, members_step}
+use Rattle.dadl.proofs.TapeLaws.{EachBlock, EachEntry, EachContent, each_entry, TypeEnded, Ended, At, at_start, row_there, inside_there, more_there, next_within, entries_length, members_step}
 
 -- a walker's step on a good tape
-pub good-step : (s : List ℕ) (size count : ℕ) (tape : List ℕ) (n : ℕ) → TapeGood size count tape → n < count
+pub good_step : (s : List ℕ) (size count : ℕ) (tape : List ℕ) (n : ℕ) → TapeGood size count tape → n < count
     → members_at s count tape n ≡ walked s count tape n (row_at tape n)
-good-step s size count tape n g h = members_step s count tape n h (λ k. ((g.rows n h).next k).0)
+good_step s size count tape n g h = members_step s count tape n h (λ k. ((g.rows n h).next k).0)
 
 -- a type, a block's `<` and type, a member's content and a member lie in a text of a size
 abbrev pub TypeLies : ℕ → Option Span → Type 0
@@ -33,24 +33,24 @@ abbrev pub Lies : ℕ → Span → PlacedContent → Type 0
 Lies size w c = (w.start < w.end) × (w.end ≤ size) × ContentLies size c
 
 -- a type that lies in a text ends behind place 0
-type-ended : (size : ℕ) (t : Option Span) → TypeLies size t → TypeEnded t
-type-ended size none h = tt
-type-ended size (some x) h = omega arith
+type_ended : (size : ℕ) (t : Option Span) → TypeLies size t → TypeEnded t
+type_ended size none h = tt
+type_ended size (some x) h = omega arith
 
 -- the type of a member that lies in it does
-lies-ended : (size : ℕ) (w : Span) (c : PlacedContent) → Lies size w c → Ended w c
-lies-ended size w (string p x) h = tt
-lies-ended size w (word p x) h = tt
-lies-ended size w (inside (block p t ms)) h = type-ended size t h.2.1
+lies_ended : (size : ℕ) (w : Span) (c : PlacedContent) → Lies size w c → Ended w c
+lies_ended size w (string p x) h = tt
+lies_ended size w (word p x) h = tt
+lies_ended size w (inside (block p t ms)) h = type_ended size t h.2.1
 
 -- the types of all members that lie in it do
-pub each-ended : (size : ℕ) (ms : Entries) → EachEntry ms (Lies size) → EachEntry ms Ended
-each-ended size ms h = each-entry ms (Lies size) Ended (lies-ended size) h
+pub each_ended : (size : ℕ) (ms : Entries) → EachEntry ms (Lies size) → EachEntry ms Ended
+each_ended size ms h = each_entry ms (Lies size) Ended (lies_ended size) h
 
 -- a row's numbers for a type that lies in the text are in order and in the text
-type-order : (size : ℕ) (t : Option Span) → TypeLies size t → (type_start t ≤ type_end t) × (type_end t ≤ size)
-type-order size none h = (omega arith, omega arith)
-type-order size (some x) h = (omega arith, omega arith)
+type_order : (size : ℕ) (t : Option Span) → TypeLies size t → (type_start t ≤ type_end t) × (type_end t ≤ size)
+type_order size none h = (omega arith, omega arith)
+type_order size (some x) h = (omega arith, omega arith)
 
 -- the row of a string or a word that lies in the text is good
 leaf-good : (size count n kind : ℕ) (w x : Span) (p next : ℕ) → 0 < kind → kind ≤ is_word
@@ -76,7 +76,7 @@ unfolding content_rows block_rows
 row-good size count n w (string p x) next h l k = leaf-good size count n is_string w x p next (omega arith) (omega arith) h k
 row-good size count n w (word p x) next h l k = leaf-good size count n is_word w x p next (omega arith) (omega arith) h k
 row-good size count n w (inside (block p t ms)) next h l k =
-    let o = type-order size t h.2.1 in
+    let o = type_order size t h.2.1 in
     record {
       holds = omega arith;
       name_start = h.0;
@@ -107,33 +107,33 @@ module _ (size count : ℕ) (tape : List ℕ) where
     unfolding EachBlock EachEntry EachContent block_rows entry_rows content_rows block_tape content_tape
 
     -- the rows of members that stand from row n on are good
-    block-good : (b : Block) (n k : ℕ) → EachBlock b (Lies size) → At tape n (block_tape b n) → n + block_rows b ≤ count
+    block_good : (b : Block) (n k : ℕ) → EachBlock b (Lies size) → At tape n (block_tape b n) → n + block_rows b ≤ count
         → n ≤ k → k < n + block_rows b → RowGood size count k (row_at tape k)
-    block-good (block p t ms) n k h a l f g = entries-good ms n k h a l f g
+    block_good (block p t ms) n k h a l f g = entries_good ms n k h a l f g
 
-    pub entries-good : (ms : Entries) (n k : ℕ) → EachEntry ms (Lies size) → At tape n (entries_tape ms n)
+    pub entries_good : (ms : Entries) (n k : ℕ) → EachEntry ms (Lies size) → At tape n (entries_tape ms n)
         → n + entry_rows ms ≤ count → n ≤ k → k < n + entry_rows ms → RowGood size count k (row_at tape k)
-    entries-good no_more n k h a l f g = absurd (omega arith)
-    entries-good (entry w c more) n k h a l f g =
+    entries_good no_more n k h a l f g = absurd (omega arith)
+    entries_good (entry w c more) n k h a l f g =
         let m = n + 1 + content_rows c in
         by_place (λ i. RowGood size count i (row_at tape i)) n (content_rows c) (entry_rows more) k
-        (rw (row-there w c more n a) (row-good size count n w c (next_row m more) h.0 (omega arith) (next-within more n m count (omega arith) (omega arith))))
-        (λ x y. content-good c (n + 1) k h.1 (inside-there w c more n a) (omega arith) x y)
-        (λ x y. entries-good more m k h.2 (more-there w c more n a) (omega arith) x y)
+        (rw (row_there w c more n a) (row-good size count n w c (next_row m more) h.0 (omega arith) (next_within more n m count (omega arith) (omega arith))))
+        (λ x y. content_good c (n + 1) k h.1 (inside_there w c more n a) (omega arith) x y)
+        (λ x y. entries_good more m k h.2 (more_there w c more n a) (omega arith) x y)
         f g
 
-    content-good : (c : PlacedContent) (n k : ℕ) → EachContent c (Lies size) → At tape n (content_tape c n)
+    content_good : (c : PlacedContent) (n k : ℕ) → EachContent c (Lies size) → At tape n (content_tape c n)
         → n + content_rows c ≤ count → n ≤ k → k < n + content_rows c → RowGood size count k (row_at tape k)
-    content-good (string p x) n k h a l f g = absurd (omega arith)
-    content-good (word p x) n k h a l f g = absurd (omega arith)
-    content-good (inside b) n k h a l f g = block-good b n k h a l f g
+    content_good (string p x) n k h a l f g = absurd (omega arith)
+    content_good (word p x) n k h a l f g = absurd (omega arith)
+    content_good (inside b) n k h a l f g = block_good b n k h a l f g
 
 -- the tape of members that lie in the text is good, whatever stands behind it
-pub tape-good : (size : ℕ) (ms : Entries) (rest : List ℕ) → EachEntry ms (Lies size)
+pub tape_good : (size : ℕ) (ms : Entries) (rest : List ℕ) → EachEntry ms (Lies size)
     → TapeGood size (entry_rows ms) (entries_tape ms 0 ++ rest)
-tape-good size ms rest h =
+tape_good size ms rest h =
     let tape = entries_tape ms 0 ++ rest in
     record {
-      rows = λ k l. entries-good size (entry_rows ms) tape ms 0 k h (at-start (entries_tape ms 0) rest) (omega arith) (omega arith) (omega arith);
-      room = omega (arith, length-append (entries_tape ms 0) rest, entries-length ms 0);
+      rows = λ k l. entries_good size (entry_rows ms) tape ms 0 k h (at_start (entries_tape ms 0) rest) (omega arith) (omega arith) (omega arith);
+      room = omega (arith, length-append (entries_tape ms 0) rest, entries_length ms 0);
     }

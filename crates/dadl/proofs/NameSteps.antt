@@ -28,30 +28,30 @@ use Rattle.dadl.specs.declared.tokens.SpanRead.{SpanRead}
 use Rattle.dadl.specs.declared.tokens.SpanRead.TheVariants.{Bad, Spans}
 use Rattle.dadl.specs.declared.contents.ContentStart.{ContentStart}
 use Rattle.dadl.specs.declared.contents.ContentStart.TheVariants.{Faulty}
-use Rattle.refusals.proofs.StepLaws.{expected-fault, expected-token, expected-past}
-use Rattle.refusals.proofs.Parses.{first_then, then-refused, then-got}
-use Rattle.lexis.proofs.Comparing.{InBytes, bytes-start, bytes-end, bytes-differ}
+use Rattle.refusals.proofs.StepLaws.{expected_fault, expected_token, expected_past}
+use Rattle.refusals.proofs.Parses.{first_then, then_refused, then_got}
+use Rattle.lexis.proofs.Comparing.{InBytes, bytes-start, bytes_end, bytes_differ}
 use Rattle.lexis.proofs.Parts.{part_length}
-use Rattle.lexis.proofs.RunSteps.{same-long}
-use Rattle.dadl.proofs.ContentSteps.{content-lower}
+use Rattle.lexis.proofs.RunSteps.{same_long}
+use Rattle.dadl.proofs.ContentSteps.{content_lower}
 
 -- the rows from n on lead up to the last
-chain-low : (s tape : List ℕ) (n end : ℕ) (ws : List (List ℕ)) → Chain s tape n end ws → n ≤ end
+chain_low : (s tape : List ℕ) (n end : ℕ) (ws : List (List ℕ)) → Chain s tape n end ws → n ≤ end
 unfolding Chain
-chain-low s tape n end [] h = omega arith
-chain-low s tape n end (w ∷ ws) h = omega arith
+chain_low s tape n end [] h = omega arith
+chain_low s tape n end (w ∷ ws) h = omega arith
 
 -- the name of a row, as it is read
 module _ (s tape : List ℕ) (n start end : ℕ) (h : NameLies s tape n) (es : start ≡ number_at tape n 1)
     (ee : end ≡ number_at tape n 2) where
-  pub name-order : start ≤ end
-  name-order = let o = h.order in omega arith
+  pub name_order : start ≤ end
+  name_order = let o = h.order in omega arith
 
   pub name-ends : end ≤ length s
   name-ends = let o = h.inside in omega arith
 
-  pub name-is : take (end - start) (drop start s) ≡ name_at s tape n
-  name-is = rw (es, ee)
+  pub name_is_lem : take (end - start) (drop start s) ≡ name_at s tape n
+  name_is_lem = rw (es, ee)
 
 -- at row n of the search for a name
 pub record InNames (s tape : List ℕ) (low end : ℕ) (name : List ℕ) (n : ℕ) (again : Bool) : Type 0 where
@@ -62,12 +62,12 @@ pub record InNames (s tape : List ℕ) (low end : ℕ) (name : List ℕ) (n : �
   pub not_yet : again ≡ false
   pub is : listed name names ≡ listed name (earlier_names s tape low end)
 
-pub names-start : (s tape : List ℕ) (low end : ℕ) (name : List ℕ) → Earlier s tape low end
+pub names_start : (s tape : List ℕ) (low end : ℕ) (name : List ℕ) → Earlier s tape low end
     → InNames s tape low end name low false
-names-start s tape low end name e = record {
+names_start s tape low end name e = record {
   names = earlier_names s tape low end;
   chain = e.chain;
-  least = chain-low s tape low end (earlier_names s tape low end) e.chain;
+  least = chain_low s tape low end (earlier_names s tape low end) e.chain;
   room = e.room;
   not_yet = refl;
   is = refl;
@@ -80,8 +80,8 @@ module _ (s tape : List ℕ) (low end : ℕ) (name : List ℕ) (n : ℕ) (again 
   none_left [] h l = refl
   none_left (w ∷ ws) h l = absurd (omega arith)
 
-  pub names-end : end ≤ n → again ≡ listed name (earlier_names s tape low end)
-  names-end l = inv.not_yet ∙ sym (none_left inv.names inv.chain l) ∙ inv.is
+  pub names_end : end ≤ n → again ≡ listed name (earlier_names s tape low end)
+  names_end l = inv.not_yet ∙ sym (none_left inv.names inv.chain l) ∙ inv.is
 
   module _ (l : n < end) where
     -- the row's name, and those behind it
@@ -102,51 +102,51 @@ module _ (s tape : List ℕ) (low end : ℕ) (name : List ℕ) (n : ℕ) (again 
             let r = h.0 in
             record { more = ws; row = record { is = refl; order = r.order; inside = r.inside; up = r.up; most = r.most }; behind = h.1; is = rw r.is e }
 
-    pub name-lies : NameLies s tape n
-    name-lies = let r = at_name.row in let m = inv.room in record { room = omega arith; order = r.order; inside = r.inside }
+    pub name_lies : NameLies s tape n
+    name_lies = let r = at_name.row in let m = inv.room in record { room = omega arith; order = r.order; inside = r.inside }
 
-    pub link-lies : row_size * n + 8 < length tape
-    link-lies = let m = inv.room in omega arith
+    pub link_lies : row_size * n + 8 < length tape
+    link_lies = let m = inv.room in omega arith
 
-    pub names-less : (next : ℕ) → next ≡ number_at tape n 8 → end - next < end - n
-    names-less next e = let r = at_name.row in omega arith
+    pub names_less : (next : ℕ) → next ≡ number_at tape n 8 → end - next < end - n
+    names_less next e = let r = at_name.row in omega arith
 
     module _ (other : List ℕ) (eo : other ≡ name_at s tape n) where
-      pub bytes-begin : length name ≡ length other → InBytes name other 0 again
-      bytes-begin e = bytes-start name other again inv.not_yet e
+      pub bytes_begin : length name ≡ length other → InBytes name other 0 again
+      bytes_begin e = bytes-start name other again inv.not_yet e
 
       pub bytes-found : (i : ℕ) (r : Bool) → InBytes name other i r → i ≡ length name
           → true ≡ listed name (earlier_names s tape low end)
-      bytes-found i r b e = rw (← eo, ← (bytes-end name other i r b e)) at at_name.is
+      bytes-found i r b e = rw (← eo, ← (bytes_end name other i r b e)) at at_name.is
 
       module _ (next : ℕ) (en : next ≡ number_at tape n 8) where
-        names-next : (r : Bool) → r ≡ false → false ≡ same name other → InNames s tape low end name next r
-        names-next r k h = rw en (record { names = at_name.more; chain = at_name.behind; least = at_name.row.most; room = inv.room; not_yet = k; is = rw (← eo, ← h) at at_name.is })
+        names_next : (r : Bool) → r ≡ false → false ≡ same name other → InNames s tape low end name next r
+        names_next r k h = rw en (record { names = at_name.more; chain = at_name.behind; least = at_name.row.most; room = inv.room; not_yet = k; is = rw (← eo, ← h) at at_name.is })
 
-        pub longer-next : (length name ≡ length other → ⊥) → InNames s tape low end name next again
-        longer-next k = names-next again inv.not_yet (same-long name other k)
+        pub longer_next : (length name ≡ length other → ⊥) → InNames s tape low end name next again
+        longer_next k = names_next again inv.not_yet (same_long name other k)
 
         pub bytes_next : (i : ℕ) (r : Bool) → InBytes name other i r → (i ≡ length name → ⊥)
             → (byte_at name i ≡ byte_at other i → ⊥)
             → InNames s tape low end name next r
-        bytes_next i r b k d = names-next r b.not_yet (bytes-differ name other i r b k d)
+        bytes_next i r b k d = names_next r b.not_yet (bytes_differ name other i r b k d)
 
 -- a name and its `=`
 module _ (s : List ℕ) (seen : List (List ℕ)) (t : Token) (inside : Inside s t.start t.end) where
   many : length (spelling s t) ≡ t.end - t.start
   many = part_length s t.start t.end (omega arith)
 
-  pub name-long : name_limit < t.end - t.start → (x : Refusal) → x ≡ refusal TooLong t.start
+  pub name_long : name_limit < t.end - t.start → (x : Refusal) → x ≡ refusal TooLong t.start
       → SpanIs s t.start (first_in (name_from s seen t)) (Bad x)
   unfolding name_from
-  name-long l x e = record { is = rw (many, lt-ltb name_limit (t.end - t.start) l, e); past = tt }
+  name_long l x e = record { is = rw (many, lt-ltb name_limit (t.end - t.start) l, e); past = tt }
 
   module _ (l : t.end - t.start ≤ name_limit) (again : Bool)
       (is : again ≡ listed (part s t.start t.end) seen) where
-    pub name-again : again ≡ true
+    pub name_again : again ≡ true
         → SpanIs s t.start (first_in (name_from s seen t)) (Bad (refusal RepeatedName t.start))
     unfolding name_from
-    name-again e = record { is = rw (many, le-ltb name_limit (t.end - t.start) l, ← is, e); past = tt }
+    name_again e = record { is = rw (many, le-ltb name_limit (t.end - t.start) l, ← is, e); past = tt }
 
     module _ (new : again ≡ false) (r : Expected)
         (d : ExpectIs s equals t.end (first_in (expect_data s equals t.end)) r) where
@@ -155,34 +155,34 @@ module _ (s : List ℕ) (seen : List (List ℕ)) (t : Token) (inside : Inside s 
       unfolding name_from
       named = rw (many, le-ltb name_limit (t.end - t.start) l, ← is, new) (sym (first_then (expect_data s equals t.end) _))
 
-      pub name-unclosed : (x : Refusal) → r ≡ Fault x → SpanIs s t.start (first_in (name_from s seen t)) (Bad x)
-      name-unclosed x g = record { is = rw (expected-fault d x g) at named; past = tt }
+      pub name_unclosed : (x : Refusal) → r ≡ Fault x → SpanIs s t.start (first_in (name_from s seen t)) (Bad x)
+      name_unclosed x g = record { is = rw (expected_fault d x g) at named; past = tt }
 
       pub name-closed : (u : Token) → r ≡ Taken u
           → SpanIs s t.start (first_in (name_from s seen t)) (Spans t.start t.end u.end)
       name-closed u g =
-          let p = expected-past d u g in
+          let p = expected_past d u g in
           let b : u.start < u.end = p.3 (omega arith) in
-          record { is = rw (expected-token d u g) at named; past = (omega arith, inside.order, omega arith, omega arith) }
+          record { is = rw (expected_token d u g) at named; past = (omega arith, inside.order, omega arith, omega arith) }
 
 -- a member up to its leaf's end or its block's opening
 module _ (s : List ℕ) (seen : List (List ℕ)) (t : Token) (r : SpanRead)
     (d : SpanIs s t.start (first_in (name_from s seen t)) r) where
-  pub member-bad : (x : Refusal) → r ≡ Bad x → ContentIs s (t.start + 2) (member_reading s seen t) (Faulty x)
+  pub member_bad : (x : Refusal) → r ≡ Bad x → ContentIs s (t.start + 2) (member_reading s seen t) (Faulty x)
   unfolding member_reading
-  member-bad x g = let h : first_in (name_from s seen t) ≡ refused x = sym d.is ∙ ap span_reading g in record { is = λ down. sym (then-refused (name_from s seen t) _ x h); past = tt }
+  member_bad x g = let h : first_in (name_from s seen t) ≡ refused x = sym d.is ∙ ap span_reading g in record { is = λ down. sym (then_refused (name_from s seen t) _ x h); past = tt }
 
   module _ (start end next : ℕ) (g : r ≡ Spans start end next) where
     named_past : SpanPast s t.start (Spans start end next)
     named_past = rw g at d.past
 
-    pub member-next : next ≤ length s
-    member-next = let p = named_past in omega arith
+    pub member_next : next ≤ length s
+    member_next = let p = named_past in omega arith
 
-    pub member-content : (o : ContentStart) → ContentIs s next (content_of s next) o
+    pub member_content : (o : ContentStart) → ContentIs s next (content_of s next) o
         → ContentIs s (t.start + 2) (member_reading s seen t) o
     unfolding member_reading content_of
-    member-content o k =
+    member_content o k =
         let p = named_past in
         let h : first_in (name_from s seen t) ≡ got (span start end) next = sym d.is ∙ ap span_reading g in
-        record { is = λ down. k.is down ∙ sym (then-got (name_from s seen t) _ (span start end) next h); past = content-lower s (t.start + 2) next (omega arith) o k.past }
+        record { is = λ down. k.is down ∙ sym (then_got (name_from s seen t) _ (span start end) next h); past = content_lower s (t.start + 2) next (omega arith) o k.past }

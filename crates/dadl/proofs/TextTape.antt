@@ -12,26 +12,26 @@ use Rattle.dadl.specs.Placed.{Span, Block, block, Entries, spelled_span, spelled
 use Rattle.dadl.specs.Data.{block_of, datum_of}
 use Rattle.dadl.specs.Clauses.Tape.{block_rows, entry_rows, entries_tape, members_at}
 use Rattle.dadl.specs.Clauses.Rows.{TapeGood}
-use Rattle.dadl.proofs.TapeLaws.{EachBlock, EachEntry, tape-back}
-use Rattle.dadl.proofs.GoodTapes.{Lies, each-ended, tape-good}
+use Rattle.dadl.proofs.TapeLaws.{EachBlock, EachEntry, tape_back}
+use Rattle.dadl.proofs.GoodTapes.{Lies, each_ended, tape_good}
 use Rattle.dadl.proofs.TreeReading.{accepted}
 
 module _ (levels : ℕ) (s : List ℕ) where
   -- a text's datum is its block's, spelled_span out
-  pub datum-got : (b : Block) (end : ℕ) → block_of levels s ≡ got b end → datum_of levels s ≡ got (spelled_block b s) end
+  pub datum_got : (b : Block) (end : ℕ) → block_of levels s ≡ got b end → datum_of levels s ≡ got (spelled_block b s) end
   unfolding datum_of
-  datum-got b end e = rw e
+  datum_got b end e = rw e
 
   -- a text whose block is refused has its datum refused so
-  pub datum-refused : (r : Refusal) → block_of levels s ≡ refused r → datum_of levels s ≡ refused r
+  pub datum_refused : (r : Refusal) → block_of levels s ≡ refused r → datum_of levels s ≡ refused r
   unfolding datum_of
-  datum-refused r e = rw e
+  datum_refused r e = rw e
 
   -- a datum is told only where a block is
-  pub block-got : (d : Datum) (end : ℕ) → datum_of levels s ≡ got d end
+  pub block_got : (d : Datum) (end : ℕ) → datum_of levels s ≡ got d end
       → (b : Block) × (block_of levels s ≡ got b end) × (spelled_block b s ≡ d)
   unfolding datum_of
-  block-got d end = go (block_of levels s) refl
+  block_got d end = go (block_of levels s) refl
     where
       go : (r : Reading Block) → block_of levels s ≡ r → read_then r (λ b p. got (spelled_block b s) p) ≡ got d end
           → (b : Block) × (block_of levels s ≡ got b end) × (spelled_block b s ≡ d)
@@ -51,26 +51,26 @@ module _ (levels : ℕ) (s : List ℕ) where
 module _ (levels : ℕ) (s : List ℕ) (p : ℕ) (t : Option Span) (ms : Entries) (end : ℕ)
     (e : block_of levels s ≡ got (block p t ms) end) where
   -- the members lie in the text
-  pub text-lies : EachEntry ms (Lies (length s))
+  pub text_lies : EachEntry ms (Lies (length s))
   unfolding EachBlock
-  text-lies = (accepted levels s (block p t ms) end e).each
+  text_lies = (accepted levels s (block p t ms) end e).each
 
   -- each member takes four bytes of the text
-  pub text-room : 4 * entry_rows ms ≤ length s
+  pub text_room : 4 * entry_rows ms ≤ length s
   unfolding block_rows
-  text-room = (accepted levels s (block p t ms) end e).room
+  text_room = (accepted levels s (block p t ms) end e).room
 
   -- a judge may walk the tape, whatever stands behind it
-  pub text-good : (rest : List ℕ) → TapeGood (length s) (entry_rows ms) (entries_tape ms 0 ++ rest)
-  text-good rest = tape-good (length s) ms rest text-lies
+  pub text_good : (rest : List ℕ) → TapeGood (length s) (entry_rows ms) (entries_tape ms 0 ++ rest)
+  text_good rest = tape_good (length s) ms rest text_lies
 
   -- the members are read back from it
-  pub text-back : (rest : List ℕ) → members_at s (entry_rows ms) (entries_tape ms 0 ++ rest) 0 ≡ spelled_entries ms s
-  text-back rest = tape-back s ms rest (each-ended (length s) ms text-lies)
+  pub text_back : (rest : List ℕ) → members_at s (entry_rows ms) (entries_tape ms 0 ++ rest) 0 ≡ spelled_entries ms s
+  text_back rest = tape_back s ms rest (each_ended (length s) ms text_lies)
 
   -- the text's datum is read back from it
-  pub text-datum : (rest : List ℕ)
+  pub text_datum : (rest : List ℕ)
       → datum_of levels s
       ≡ got (datum p (map (spelled_span s) t) (members_at s (entry_rows ms) (entries_tape ms 0 ++ rest) 0)) end
   unfolding spelled_block
-  text-datum rest = rw (text-back rest) (datum-got levels s (block p t ms) end e)
+  text_datum rest = rw (text_back rest) (datum_got levels s (block p t ms) end e)

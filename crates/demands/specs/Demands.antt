@@ -64,21 +64,21 @@ meaning_of text form = after_reading (constraint_of text) (λ tree. judge_text t
 pub record Demand1 : Type 0 where
   -- 'Numbers of refusal': each cause has a row, and what a job tells is a row with its number and a place of the sort that the row names
   pub numbered : (c : Cause) → (p : PlaceSort) × NumberRow c (number_of c) p
-  pub compile-told : (text : List ℕ) (little : Bool) (out : List ℕ) (r : Refusal)
+  pub compile_told_lem : (text : List ℕ) (little : Bool) (out : List ℕ) (r : Refusal)
       → (compile_answer text little out).answer ≡ Outcomes.refused r → Told (InText text) r ⊎ Told (AtEnd text) r
-  pub check-told : (table : List ℕ) (r : Refusal) → table_fault table ≡ some r → Told (InTable table) r
-  pub merge-told : (q : MergeRequest) (out : List ℕ) (r : MergeRefusal) → (merge_answer q out).answer ≡ Outcomes.refused r
+  pub check_told_lem : (table : List ℕ) (r : Refusal) → table_fault table ≡ some r → Told (InTable table) r
+  pub merge_told_lem : (q : MergeRequest) (out : List ℕ) (r : MergeRefusal) → (merge_answer q out).answer ≡ Outcomes.refused r
       → MergeTold q r
-  pub judge-told : (table : List ℕ) (root : ℕ) (form : List ℕ) (r : Refusal)
+  pub judge_told_lem : (table : List ℕ) (root : ℕ) (form : List ℕ) (r : Refusal)
       → judge_answer table root form ≡ Outcomes.refused r
       → Told (InTable table) r ⊎ Told (AsAsked root) r ⊎ DataTold form r
-  pub failure-told : (table : List ℕ) (root : ℕ) (form : List ℕ) (reason number place : ℕ)
+  pub failure_told : (table : List ℕ) (root : ℕ) (form : List ℕ) (reason number place : ℕ)
       → judge_answer table root form ≡ gave (Verdicts.fails reason number place)
       → FailureTold table form reason number place
-  pub name-told : (table : List ℕ) (n : ℕ) (r : Refusal) → name_answer table n ≡ Outcomes.refused r
+  pub name_told_lem : (table : List ℕ) (n : ℕ) (r : Refusal) → name_answer table n ≡ Outcomes.refused r
       → Told (InTable table) r ⊎ Told (AsAsked n) r
   -- "On refusal no byte of output changes"
-  pub compile-keeps : (text : List ℕ) (little : Bool) (out : List ℕ) (r : Refusal)
+  pub compile_keeps : (text : List ℕ) (little : Bool) (out : List ℕ) (r : Refusal)
       → (compile_answer text little out).answer ≡ Outcomes.refused r → (compile_answer text little out).out ≡ out
   pub merge_keeps : (q : MergeRequest) (out : List ℕ) (r : MergeRefusal)
       → (merge_answer q out).answer ≡ Outcomes.refused r
@@ -98,8 +98,8 @@ pub record Demand2 : Type 0 where
   -- 'Constraint text': "Tokens by longest match; space, tab, CR, LF and `--` with any bytes up to the next CR or LF separate"; 'Data text': "same blanks and comments", "the longest run"
   pub separated : (s : List ℕ) (from at : ℕ) → (token_start s from ≡ at) ↔ Separates s from at
   pub tokens : (s : List ℕ) (from : ℕ) (t : Token) → (token_at s from ≡ t) ↔ NextIs s from t
-  pub data-tokens : (s : List ℕ) (from : ℕ) (t : Token) → (data_token_at s from ≡ t) ↔ NextDataIs Classed s from t
-  pub type-tokens : (s : List ℕ) (from : ℕ) (t : Token) → (type_token_at s from ≡ t) ↔ NextDataIs ClassedBehind s from t
+  pub data_tokens : (s : List ℕ) (from : ℕ) (t : Token) → (data_token_at s from ≡ t) ↔ NextDataIs Classed s from t
+  pub type_tokens : (s : List ℕ) (from : ℕ) (t : Token) → (type_token_at s from ≡ t) ↔ NextDataIs ClassedBehind s from t
   -- 'Data text': "it is good if it reads as at least one of: True or False; an integer; a date ..; a time .. with optional zone"
   pub booleans : (w : List ℕ) (b : ℕ) → (boolean_of w ≡ some b) ↔ IsBoolean w b
   pub integers : (w : List ℕ) (v : ℕ) → (integer_of w ≡ some v) ↔ IsInteger w v
@@ -112,7 +112,7 @@ pub record Demand2 : Type 0 where
   pub accepted : (text : List ℕ) (little : Bool) (out : List ℕ) (size : ℕ)
       → ((compile_answer text little out).answer ≡ gave size)
       ↔ ((tree : Object) × DerivesConstraint text tree × (size ≡ length (table_of little tree)) × (size ≤ length out))
-  pub one-tree : (text : List ℕ) (a b : Object) → DerivesConstraint text a → DerivesConstraint text b → a ≡ b
+  pub one_tree : (text : List ℕ) (a b : Object) → DerivesConstraint text a → DerivesConstraint text b → a ≡ b
   -- 'Table': "Compiling numbers records and fills the pool in text order"; 'Numbers of refusal': "on success only bytes past the table's end stay". What is written is the
   -- table of the tree, laid out by the rules; it says the tree.
   pub written : (text : List ℕ) (tree : Object) (little : Bool) (out : List ℕ)
@@ -120,7 +120,7 @@ pub record Demand2 : Type 0 where
       → (compile_answer text little out).out ≡ table_of little tree ++ drop (length (table_of little tree)) out
   pub compiled : (text : List ℕ) (tree : Object) (little : Bool) → DerivesConstraint text tree
       → (bs : List ℕ) → (bs ≡ table_of little tree) ↔ IsCompiled little tree bs
-  pub compiled-says : (text : List ℕ) (tree : Object) (little : Bool) → DerivesConstraint text tree
+  pub compiled_says : (text : List ℕ) (tree : Object) (little : Bool) → DerivesConstraint text tree
       → Says (table_of little tree) 1 tree
   -- 'Numbers of refusal': "In one text the smallest place wins, then the smallest number; 1 comes before all, 11 after all". A tree is derived exactly where the text has no fault. A refusal is the
   -- least of its faults or, where it has none, 11 at its end; and the least fault is told.
@@ -129,40 +129,40 @@ pub record Demand2 : Type 0 where
   pub refused : (text : List ℕ) (little : Bool) (out : List ℕ) (r : Refusal)
       → (compile_answer text little out).answer ≡ Outcomes.refused r
       → Least r (ConstraintFaults.faults text) ⊎ TooShort text little out r
-  pub least-refused : (text : List ℕ) (little : Bool) (out : List ℕ) (x : Refusal)
+  pub least_refused : (text : List ℕ) (little : Bool) (out : List ℕ) (x : Refusal)
       → Least x (ConstraintFaults.faults text)
       → (r : Refusal) × ((compile_answer text little out).answer ≡ Outcomes.refused r) × Alike x r
-  pub long-refused : (text : List ℕ) (little : Bool) (out : List ℕ) → text_limit < length text
+  pub long_refused : (text : List ℕ) (little : Bool) (out : List ℕ) → text_limit < length text
       → (compile_answer text little out).answer ≡ Outcomes.refused (refusal TextTooLong text_limit)
-  pub short-refused : (text : List ℕ) (little : Bool) (out : List ℕ) (r : Refusal) → TooShort text little out r
+  pub short_refused : (text : List ℕ) (little : Bool) (out : List ℕ) (r : Refusal) → TooShort text little out r
       → (compile_answer text little out).answer ≡ Outcomes.refused r
-  -- Compiling never answers 10, "pool above 16,384". That no text needs it is `pool-fits` in crates/cadl_objects/proofs/TreeReading.antt: each byte of the pool is a byte of its own of the text.
-  pub never-ten : (text : List ℕ) (little : Bool) (out : List ℕ) (r : Refusal)
+  -- Compiling never answers 10, "pool above 16,384". That no text needs it is `pool_fits` in crates/cadl_objects/proofs/TreeReading.antt: each byte of the pool is a byte of its own of the text.
+  pub never_ten : (text : List ℕ) (little : Bool) (out : List ℕ) (r : Refusal)
       → (compile_answer text little out).answer ≡ Outcomes.refused r → number_of r.cause ≢ 10
   -- 'Table', and 12 and 13 of 'Numbers of refusal': the check passes exactly where the bytes are a table, and tells why they are none
   pub passes : (bs : List ℕ)
       → (table_fault bs ≡ none) ↔ ((count : ℕ) × (pool : ℕ) × (root : ℕ) × IsTable bs count pool root)
   pub broken : (bs : List ℕ) (r : Refusal) → (table_fault bs ≡ some r) ↔ NoTable bs r
   -- An object of a table is there exactly where the record asked has the kind 1, and says one tree.
-  pub object-there : (bs : List ℕ) (n count pool root : ℕ) → IsTable bs count pool root → n < count → KindAt bs n 1
+  pub object_there : (bs : List ℕ) (n count pool root : ℕ) → IsTable bs count pool root → n < count → KindAt bs n 1
       → (o : Object) × Says bs n o
-  pub one-object : (bs : List ℕ) (n : ℕ) (a b : Object) → Says bs n a → Says bs n b → a ≡ b
+  pub one_object_lem : (bs : List ℕ) (n : ℕ) (a b : Object) → Says bs n a → Says bs n b → a ≡ b
   -- "Name: table, 14": "the part of the pool itself", by its start and its length; "with a refusal, an empty part"
   pub named : (bs : List ℕ) (n start size : ℕ)
       → (name_answer bs n ≡ gave (record { start = start; length = size })) ↔ Named bs n start size
-  pub name-refused : (bs : List ℕ) (n : ℕ) (r : Refusal) → (name_answer bs n ≡ Outcomes.refused r) ↔ NameRefuses bs n r
-  pub named-bytes : (bs : List ℕ) (n start size : ℕ) → Named bs n start size
+  pub name_refused : (bs : List ℕ) (n : ℕ) (r : Refusal) → (name_answer bs n ≡ Outcomes.refused r) ↔ NameRefuses bs n r
+  pub named_bytes : (bs : List ℕ) (n start size : ℕ) → Named bs n start size
       → slice_bytes bs (name_answer bs n) ≡ take size (drop start bs)
-  pub unnamed-bytes : (bs : List ℕ) (n : ℕ) (r : Refusal) → NameRefuses bs n r → slice_bytes bs (name_answer bs n) ≡ []
+  pub unnamed_bytes : (bs : List ℕ) (n : ℕ) (r : Refusal) → NameRefuses bs n r → slice_bytes bs (name_answer bs n) ≡ []
   -- "Merging writes all in the order asked .. Both shifts are reported"; "Merge: first table, second, 8, 10, 11, naming the table for 12 and 13"
   pub merged : (q : MergeRequest) (out : List ℕ) (m : MergeReport)
       → ((merge_answer q out).answer ≡ gave m) ↔ ((z : Sizes) × Merges q (length out) z m)
-  pub merge-written : (q : MergeRequest) (out : List ℕ) (z : Sizes) (m : MergeReport) → Merges q (length out) z m
+  pub merge_written : (q : MergeRequest) (out : List ℕ) (z : Sizes) (m : MergeReport) → Merges q (length out) z m
       → (joined : List ℕ) × IsMerged q.first q.second q.little z joined
       × ((merge_answer q out).out ≡ joined ++ drop (length joined) out)
-  pub one-joined : (first second : List ℕ) (little : Bool) (z : Sizes) (a b : List ℕ) → BothTables first second z
+  pub one_joined : (first second : List ℕ) (little : Bool) (z : Sizes) (a b : List ℕ) → BothTables first second z
       → IsMerged first second little z a → IsMerged first second little z b → a ≡ b
-  pub merge-refused : (q : MergeRequest) (out : List ℕ) (r : MergeRefusal)
+  pub merge_refused : (q : MergeRequest) (out : List ℕ) (r : MergeRefusal)
       → ((merge_answer q out).answer ≡ Outcomes.refused r) ↔ MergeRefuses q (length out) r
   -- 'Meaning': "An object admits a block whose type, if written, is its own and whose members satisfy each attribute". Under an object of a table a data text is valid exactly where the productions
   -- of 'Data text' derive a datum that the object admits.
@@ -175,21 +175,21 @@ pub record Demand2 : Type 0 where
       → Says table root o
       → (judge_answer table root form ≡ gave (Verdicts.fails reason number place))
       ↔ ((b : Block) × DerivesData level_limit form b × FirstFailure o (spelled_block b form) reason number place)
-  pub one-datum : (form : List ℕ) (a b : Block) → DerivesData level_limit form a → DerivesData level_limit form b → a ≡ b
+  pub one_datum : (form : List ℕ) (a b : Block) → DerivesData level_limit form a → DerivesData level_limit form b → a ≡ b
   -- "Judge: table, 14, then the whole data text (1 to 5, 9), then 20 to 24". A refusal of the data text is the least of its faults, and the least fault is told.
   pub readable : (form : List ℕ)
       → ((b : Block) × DerivesData level_limit form b) ↔ (DataFaults.faults level_limit form ≡ [])
   pub unread : (table : List ℕ) (root : ℕ) (form : List ℕ) (o : Object) (r : Refusal) → Says table root o
       → judge_answer table root form ≡ Outcomes.refused r → Least r (DataFaults.faults level_limit form)
-  pub least-unread : (table : List ℕ) (root : ℕ) (form : List ℕ) (o : Object) (x : Refusal)
+  pub least_unread : (table : List ℕ) (root : ℕ) (form : List ℕ) (o : Object) (x : Refusal)
       → Says table root o → Least x (DataFaults.faults level_limit form)
       → (r : Refusal) × (judge_answer table root form ≡ Outcomes.refused r) × Alike x r
-  pub long-unread : (table : List ℕ) (root : ℕ) (form : List ℕ) (o : Object) → Says table root o
+  pub long_unread : (table : List ℕ) (root : ℕ) (form : List ℕ) (o : Object) → Says table root o
       → text_limit < length form
       → judge_answer table root form ≡ Outcomes.refused (refusal TextTooLong text_limit)
   pub no_table : (table : List ℕ) (root : ℕ) (form : List ℕ) (r : Refusal) → NoTable table r
       → judge_answer table root form ≡ Outcomes.refused r
-  pub no-object : (table : List ℕ) (root : ℕ) (form : List ℕ)
+  pub no_object : (table : List ℕ) (root : ℕ) (form : List ℕ)
       → (judge_answer table root form ≡ Outcomes.refused (refusal NotAnObject root)) ↔ NoObject table root
 
 -- Demand 3: take any text that compiling accepts, into either order, then any list of merges, refused ones included. Judging any data by the carried table, lent alone, at record
@@ -207,7 +207,7 @@ Demand3 =
 pub record AfterMerges (text : List ℕ) (little : Bool) (out : List ℕ) (size : ℕ) (steps : List MergeStep) : Type 0 where
   pub end : Carried
   pub is : end ≡ after_steps steps (carried (take size (compile_answer text little out).out) 0)
-  pub root-fits : 1 + end.sum < 2 ^ 32
+  pub root_fits : 1 + end.sum < 2 ^ 32
   pub valid : (form : List ℕ) → (judge_answer end.table (1 + end.sum) form ≡ gave Verdicts.valid)
       ↔ ((tree : Object) × DerivesConstraint text tree × (b : Block) × DerivesData level_limit form b
       × Admits tree (spelled_block b form))

@@ -630,6 +630,6 @@ cases =
     ∷ reads (bytes "Pwd}") 2047 (single duration_pattern 2047 12) 3
     ∷ []
 
-pub none-wrong : wrong right 0 cases ≡ []
+pub none_wrong : wrong right 0 cases ≡ []
 unfolding wrong right cases items_compute
-none-wrong = refl
+none_wrong = refl

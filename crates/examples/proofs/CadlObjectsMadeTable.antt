@@ -164,6 +164,6 @@ cases =
     ∷ refuses (bytes "A matches{a\tmatches{37,|>2147483647|,|51..52|,|60|}}") 6 35
     ∷ []
 
-pub none-wrong : wrong right 0 cases ≡ []
+pub none_wrong : wrong right 0 cases ≡ []
 unfolding wrong right cases object_list constraint_computes
-none-wrong = refl
+none_wrong = refl

@@ -235,6 +235,6 @@ cases =
     ∷ refuses (replicate 16_384 125) 2 0
     ∷ []
 
-pub none-wrong : wrong right 0 cases ≡ []
+pub none_wrong : wrong right 0 cases ≡ []
 unfolding wrong right cases object_list constraint_computes
-none-wrong = refl
+none_wrong = refl

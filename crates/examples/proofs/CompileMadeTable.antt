@@ -114,6 +114,6 @@ cases =
     ∷ refuses (hex "54727509 6D617463 6865737B 61743030 30312065 78697374 656E6365 0A6D6174 63686573 7B302E2E 317D6D61 74636865 737B7C3E 3D303030 302D3032 2D32387C 7D620D65 78697374 656E6365 E288887B 307DE288 887B2A7D 7D") false (filling 28 129) 11 89
     ∷ []
 
-pub none-wrong : wrong right 0 cases ≡ []
+pub none_wrong : wrong right 0 cases ≡ []
 unfolding wrong right cases compile_computes
-none-wrong = refl
+none_wrong = refl

@@ -76,6 +76,6 @@ cases =
     ∷ refuses (bytes "A matches {a matches {A matches {a matches {A matches {a matches {A matches {a matches {A matches {a matches {A matches {a matches {A matches {a matches {A matches {a matches {A matches {a matches {A matches {a matches {A matches {a matches {A matches {a matches {A matches {a matches {A matches {a matches {A matches {a matches {A matches {a matches {PD}}}}}}}}}}}}}}}}}}}}}}}}}}}}}}}}") false (filling 7 60) 3 352
     ∷ []
 
-pub none-wrong : wrong right 0 cases ≡ []
+pub none_wrong : wrong right 0 cases ≡ []
 unfolding wrong right cases compile_computes
-none-wrong = refl
+none_wrong = refl

@@ -165,6 +165,6 @@ cases =
     ∷ refuses (bytes "< true = < nnnnnnnnnnnnnnnnnnnnnnnnnnnnnnnnnnnnnnnnnnnnnnnnnnnnnnnnnnnnnnnnn = < 2004-01 > > abc = < 204356021 > >") 4 11
     ∷ []
 
-pub none-wrong : wrong right 0 cases ≡ []
+pub none_wrong : wrong right 0 cases ≡ []
 unfolding wrong right cases datum_list data_computes
-none-wrong = refl
+none_wrong = refl

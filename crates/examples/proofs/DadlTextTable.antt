@@ -419,6 +419,6 @@ cases =
     ∷ refuses (replicate 16_384 60) 2 1
     ∷ []
 
-pub none-wrong : wrong right 0 cases ≡ []
+pub none_wrong : wrong right 0 cases ≡ []
 unfolding wrong right cases datum_list data_computes
-none-wrong = refl
+none_wrong = refl

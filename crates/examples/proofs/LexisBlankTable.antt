@@ -206,6 +206,6 @@ cases =
     ∷ starts (bytes "<!--x") 6 6
     ∷ []
 
-pub none-wrong : wrong blank_right 0 cases ≡ []
+pub none_wrong : wrong blank_right 0 cases ≡ []
 unfolding wrong blank_right cases lexis_computes
-none-wrong = refl
+none_wrong = refl

@@ -269,6 +269,6 @@ cases =
     ∷ byte_is 255 other false false false false
     ∷ []
 
-pub none-wrong : wrong byte_right 0 cases ≡ []
+pub none_wrong : wrong byte_right 0 cases ≡ []
 unfolding wrong byte_right cases lexis_computes
-none-wrong = refl
+none_wrong = refl

@@ -120,6 +120,6 @@ cases =
     ∷ content_reads (bytes "A matches {a matches {Pwd}}") 27 (token text_end 27 27)
     ∷ []
 
-pub none-wrong : wrong content_right 0 cases ≡ []
+pub none_wrong : wrong content_right 0 cases ≡ []
 unfolding wrong content_right cases lexis_computes
-none-wrong = refl
+none_wrong = refl

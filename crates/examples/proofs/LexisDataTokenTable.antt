@@ -152,6 +152,6 @@ cases =
     ∷ type_reads (bytes "AZ az09_") (token type_name 0 2)
     ∷ []
 
-pub none-wrong : wrong data_token_right 0 cases ≡ []
+pub none_wrong : wrong data_token_right 0 cases ≡ []
 unfolding wrong data_token_right cases tokens_from lexis_computes
-none-wrong = refl
+none_wrong = refl

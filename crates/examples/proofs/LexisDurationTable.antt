@@ -361,6 +361,6 @@ cases =
     ∷ pattern_is (bytes "PmwdThmsS") 0
     ∷ []
 
-pub none-wrong : wrong duration_right 0 cases ≡ []
+pub none_wrong : wrong duration_right 0 cases ≡ []
 unfolding wrong duration_right cases lexis_computes
-none-wrong = refl
+none_wrong = refl

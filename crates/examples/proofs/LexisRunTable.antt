@@ -112,6 +112,6 @@ cases =
     ∷ parts_are (bytes "\"ab\"\"cd\"") (bytes "\"ab\"") (bytes "ab")
     ∷ []
 
-pub none-wrong : wrong run_right 0 cases ≡ []
+pub none_wrong : wrong run_right 0 cases ≡ []
 unfolding wrong run_right cases lexis_computes
-none-wrong = refl
+none_wrong = refl

@@ -369,6 +369,6 @@ cases =
     ∷ reads (bytes "a matches{yyyy-??-XX}b matches{\"x\",\"y\"}") (token name 0 1 ∷ token matches 2 9 ∷ token open_brace 9 10 ∷ token (date_pattern + 5) 10 20 ∷ token close_brace 20 21 ∷ token name 21 22 ∷ token matches 23 30 ∷ token open_brace 30 31 ∷ token string 31 34 ∷ token comma 34 35 ∷ token string 35 38 ∷ token close_brace 38 39 ∷ token text_end 39 39 ∷ [])
     ∷ []
 
-pub none-wrong : wrong token_right 0 cases ≡ []
+pub none_wrong : wrong token_right 0 cases ≡ []
 unfolding wrong token_right cases tokens_from lexis_computes
-none-wrong = refl
+none_wrong = refl

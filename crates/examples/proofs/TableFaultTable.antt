@@ -476,6 +476,6 @@ cases =
     ∷ refuses (hex "C0AD0000 00000003 00000002 00000001 00000000 00000000 C0AD0100 00000000 00000001 00000000 00000000 00000000 ADC00908 00000000 00000000 00000000 00000000 01000000 4161") 13 2
     ∷ []
 
-pub none-wrong : wrong check_right 0 cases ≡ []
+pub none_wrong : wrong check_right 0 cases ≡ []
 unfolding wrong check_right cases table_computes
-none-wrong = refl
+none_wrong = refl

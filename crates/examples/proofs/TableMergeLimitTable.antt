@@ -28,6 +28,6 @@ cases =
     ∷ join_refuses 1 1 1 1 true 10 11 74
     ∷ []
 
-pub none-wrong : wrong join_right 0 cases ≡ []
+pub none_wrong : wrong join_right 0 cases ≡ []
 unfolding wrong join_right cases merge_computes
-none-wrong = refl
+none_wrong = refl

@@ -93,6 +93,6 @@ cases =
     ∷ no_name [] 1 12 0
     ∷ []
 
-pub none-wrong : wrong name_right 0 cases ≡ []
+pub none_wrong : wrong name_right 0 cases ≡ []
 unfolding wrong name_right cases table_computes
-none-wrong = refl
+none_wrong = refl

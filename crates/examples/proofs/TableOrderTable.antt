@@ -43,6 +43,6 @@ cases =
     ∷ spelled true 4_294_967_295 (hex "FFFFFFFF")
     ∷ []
 
-pub none-wrong : wrong number_right 0 cases ≡ []
+pub none_wrong : wrong number_right 0 cases ≡ []
 unfolding wrong number_right cases table_computes
-none-wrong = refl
+none_wrong = refl

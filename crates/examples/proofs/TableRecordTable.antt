@@ -48,6 +48,6 @@ cases =
     ∷ marked (hex "FFFF0100 00000000 00000001 00000000 00000000 00000000") false
     ∷ []
 
-pub none-wrong : wrong record_right 0 cases ≡ []
+pub none_wrong : wrong record_right 0 cases ≡ []
 unfolding wrong record_right cases table_computes
-none-wrong = refl
+none_wrong = refl

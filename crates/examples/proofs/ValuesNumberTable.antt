@@ -272,6 +272,6 @@ cases =
     ∷ bits_are 4_294_967_295 2_147_483_647
     ∷ []
 
-pub none-wrong : wrong number_right 0 cases ≡ []
+pub none_wrong : wrong number_right 0 cases ≡ []
 unfolding wrong number_right cases values_compute
-none-wrong = refl
+none_wrong = refl

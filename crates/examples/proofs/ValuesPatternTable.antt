@@ -1555,6 +1555,6 @@ cases =
     ∷ duration_fits 127 (bytes "P1d2w") false
     ∷ []
 
-pub none-wrong : wrong pattern_right 0 cases ≡ []
+pub none_wrong : wrong pattern_right 0 cases ≡ []
 unfolding wrong pattern_right cases values_compute
-none-wrong = refl
+none_wrong = refl

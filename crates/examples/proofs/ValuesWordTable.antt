@@ -433,6 +433,6 @@ cases =
     ∷ reads (bytes "P5[") none none none none none false
     ∷ []
 
-pub none-wrong : wrong word_right 0 cases ≡ []
+pub none_wrong : wrong word_right 0 cases ≡ []
 unfolding wrong word_right cases values_compute
-none-wrong = refl
+none_wrong = refl

@@ -26,11 +26,11 @@ use Rattle.dadl.specs.Clauses.Rows.{TapeGood, linked}
 use Rattle.dadl.specs.Clauses.Answers.{TapeRoom, data_wrote, data_written}
 use Rattle.dadl.specs.declared.DataRead.{DataRead}
 use Rattle.dadl.specs.declared.DataRead.TheVariants as read
-use Rattle.dadl.proofs.TapeLaws.{at-start, entries-length, entries-back}
-use Rattle.dadl.proofs.GoodTapes.{TypeLies, each-ended}
-use Rattle.dadl.proofs.TextTape.{datum-got, datum-refused, text-lies, text-room, text-good}
+use Rattle.dadl.proofs.TapeLaws.{at_start, entries_length, entries_back}
+use Rattle.dadl.proofs.GoodTapes.{TypeLies, each_ended}
+use Rattle.dadl.proofs.TextTape.{datum_got, datum_refused, text_lies, text_room, text_good}
 use Rattle.dadl.proofs.TreeReading.{accepted}
-use Rattle.dadl.proofs.DataSteps.{IsData, is-data, is-data-refused}
+use Rattle.dadl.proofs.DataSteps.{IsData, is_data, is_data_refused}
 use Rattle.table.specs.Records.{Record, Image, record_size, field, count, header, image_of}
 use Rattle.table.specs.Check.{kind_at, table_fault}
 use Rattle.table.specs.Names.{record_at}
@@ -42,11 +42,11 @@ use Rattle.table.specs.declared.records.RecordNumber.{RecordNumber}
 use Rattle.table.specs.declared.check.CheckAnswer.{CheckAnswer}
 use Rattle.table.specs.declared.check.CheckAnswer.TheVariants.{Passed}
 use Rattle.table.specs.declared.check.CheckAnswer.TheVariants.{Refused as NotPassed}
-use Rattle.table.proofs.CheckLaws.{check_sound, kind-record}
-use Rattle.table.proofs.TreeLaws.{length-trees-of}
-use Rattle.table.proofs.NameSteps.{sound-open, passed_none}
-use Rattle.table.proofs.WalkLaws.{node_by, node_of, tree-node}
-use Rattle.table.proofs.UseLaws.{kind-shape}
+use Rattle.table.proofs.CheckLaws.{check_sound, kind_record}
+use Rattle.table.proofs.TreeLaws.{length-trees_of}
+use Rattle.table.proofs.NameSteps.{sound_open, passed_none}
+use Rattle.table.proofs.WalkLaws.{node_by, node_of, tree_node}
+use Rattle.table.proofs.UseLaws.{kind_shape}
 use Rattle.judge.specs.Judge.{under_root, judge_answer}
 use Rattle.judge_admission.specs.Clauses.Items.{image_from, TableGood}
 use Rattle.judge_attributes.specs.Clauses.Answers.{verdict_in}
@@ -55,23 +55,23 @@ use Rattle.judge_attributes.specs.Clauses.Attributes.{block_under}
 use Rattle.judge.specs.Clauses.Walk.{Under}
 use Rattle.judge_tape.specs.declared.members.Block as members
 use Rattle.judge_attributes.specs.declared.Verdict.{Verdict}
-use Rattle.judge_admission.proofs.TableLaws.{object-tree}
-use Rattle.judge.proofs.Depth.{text-within}
+use Rattle.judge_admission.proofs.TableLaws.{object_tree}
+use Rattle.judge.proofs.Depth.{text_within}
 
 -- a verdict, as an answer
-pub answer-by : (v x : Verdict) (a : Outcome Refusal Verdicts.Verdict) → v ≡ x → a ≡ gave (verdict_in x)
+pub answer_by : (v x : Verdict) (a : Outcome Refusal Verdicts.Verdict) → v ≡ x → a ≡ gave (verdict_in x)
     → a ≡ gave (verdict_in v)
-answer-by v x a h e = rw h e
+answer_by v x a h e = rw h e
 
 -- a type that lies in the text is read back from its places
-type-back : (s : List ℕ) (t : Option Span) → TypeLies (length s) t
+type_back : (s : List ℕ) (t : Option Span) → TypeLies (length s) t
     → type_on s (type_start t) (type_end t) ≡ map (spelled_span s) t
-type-back s none h = refl
-type-back s (some x) h = rw (ne_eqb x.end 0 (λ e. omega arith))
+type_back s none h = refl
+type_back s (some x) h = rw (ne_eqb x.end 0 (λ e. omega arith))
 
-type-order : (size : ℕ) (t : Option Span) → TypeLies size t → (type_start t ≤ type_end t) × (type_end t ≤ size)
-type-order size none h = (omega arith, omega arith)
-type-order size (some x) h = (omega arith, omega arith)
+type_order : (size : ℕ) (t : Option Span) → TypeLies size t → (type_start t ≤ type_end t) × (type_end t ≤ size)
+type_order size none h = (omega arith, omega arith)
+type_order size (some x) h = (omega arith, omega arith)
 
 -- what a text that is read leaves to judge
 abbrev outermost : ℕ → ℕ → ℕ → ℕ → members.Block
@@ -80,89 +80,89 @@ outermost place start end rows = record { place = place; type_start = start; typ
 module _ (s tape after : List ℕ) (place start end rows last : ℕ) (room : TapeRoom s tape)
     (d : IsData tape after place start end rows last (block_of level_limit s)) where
   -- the rows of the members begin the tape
-  tape-begins : after ≡ entries_tape d.ms 0 ++ drop (length (entries_tape d.ms 0)) tape
-  tape-begins =
+  tape_begins : after ≡ entries_tape d.ms 0 ++ drop (length (entries_tape d.ms 0)) tape
+  tape_begins =
       let a = accepted level_limit s (block place d.type d.ms) last d.is in
-      let r = text-room level_limit s place d.type d.ms last d.is in
+      let r = text_room level_limit s place d.type d.ms last d.is in
       let m = room.room a.short in
-      let l = entries-length d.ms 0 in
+      let l = entries_length d.ms 0 in
       d.written ∙ sets-eq (entries_tape d.ms 0) tape 0 (omega arith) ∙ ap (λ k. entries_tape d.ms 0 ++ drop k tape) (zero-add (length (entries_tape d.ms 0)))
 
-  tape-good : TapeGood (length s) rows after
-  tape-good = rw (d.count, tape-begins) (text-good level_limit s place d.type d.ms last d.is (drop (length (entries_tape d.ms 0)) tape))
+  tape_good : TapeGood (length s) rows after
+  tape_good = rw (d.count, tape_begins) (text_good level_limit s place d.type d.ms last d.is (drop (length (entries_tape d.ms 0)) tape))
 
   rows_few : rows ≤ 4_096
   rows_few =
       let a = accepted level_limit s (block place d.type d.ms) last d.is in
-      let r = text-room level_limit s place d.type d.ms last d.is in
+      let r = text_room level_limit s place d.type d.ms last d.is in
       let l = a.short in
       rw d.count (omega arith)
 
-  members-back : linked s rows after rows 0 ≡ spelled_entries d.ms s
-  members-back =
-      rw (d.count, tape-begins)
-      (entries-back s (entry_rows d.ms) (entries_tape d.ms 0 ++ drop (length (entries_tape d.ms 0)) tape) d.ms 0
-      (each-ended (length s) d.ms (text-lies level_limit s place d.type d.ms last d.is)) (at-start (entries_tape d.ms 0) _) (omega arith))
+  members_back : linked s rows after rows 0 ≡ spelled_entries d.ms s
+  members_back =
+      rw (d.count, tape_begins)
+      (entries_back s (entry_rows d.ms) (entries_tape d.ms 0 ++ drop (length (entries_tape d.ms 0)) tape) d.ms 0
+      (each_ended (length s) d.ms (text_lies level_limit s place d.type d.ms last d.is)) (at_start (entries_tape d.ms 0) _) (omega arith))
 
   -- the block that the walk takes is the text's
-  datum-back : datum_on s rows after (outermost place start end rows) ≡ spelled_block (block place d.type d.ms) s
+  datum_back : datum_on s rows after (outermost place start end rows) ≡ spelled_block (block place d.type d.ms) s
   unfolding spelled_block
-  datum-back =
+  datum_back =
       let a = accepted level_limit s (block place d.type d.ms) last d.is in
-      let t : type_on s start end ≡ map (spelled_span s) d.type = rw (d.type_starts, d.type_ends) (type-back s d.type a.lies.1) in
-      λ j. datum place (t j) (members-back j)
+      let t : type_on s start end ≡ map (spelled_span s) d.type = rw (d.type_starts, d.type_ends) (type_back s d.type a.lies.1) in
+      λ j. datum place (t j) (members_back j)
 
-  block-good : BlockGood (length s) rows (outermost place start end rows)
-  block-good =
+  block_good : BlockGood (length s) rows (outermost place start end rows)
+  block_good =
       let a = accepted level_limit s (block place d.type d.ms) last d.is in
-      let o = type-order (length s) d.type a.lies.1 in
+      let o = type_order (length s) d.type a.lies.1 in
       record { order = rw (d.type_starts, d.type_ends) o.0; ahead = rw d.type_ends o.1; begins = record { there = λ h. h } }
 
-  datum-within : DatumWithin (datum_on s rows after (outermost place start end rows)) level_limit
-  datum-within = subst (λ x. DatumWithin x level_limit) (sym datum-back) (text-within level_limit s (block place d.type d.ms) last d.is)
+  datum_within : DatumWithin (datum_on s rows after (outermost place start end rows)) level_limit
+  datum_within = subst (λ x. DatumWithin x level_limit) (sym datum_back) (text_within level_limit s (block place d.type d.ms) last d.is)
 
 -- a text by an object
 module _ (records pool s : List ℕ) (root : RecordNumber) (t : TableGood records pool)
     (k : kind_at (image_from records pool) root.0 ≡ 1) (tape after : List ℕ) (x : DataRead)
     (ex : data_wrote x after ≡ data_written tape (block_of level_limit s)) where
-  pub text-refused : (why : Refusal) → x ≡ read.Refused why
+  pub text_refused : (why : Refusal) → x ≡ read.Refused why
       → refused why ≡ under_root root.0 s (object_at (image_from records pool) root.0)
-  text-refused why h =
-      let e = datum-refused level_limit s why (is-data-refused tape after why (block_of level_limit s) (rw h at ex)) in
-      rw (object-tree records pool t root.0 k, e)
+  text_refused why h =
+      let e = datum_refused level_limit s why (is_data_refused tape after why (block_of level_limit s) (rw h at ex)) in
+      rw (object_tree records pool t root.0 k, e)
 
   module _ (place start end rows last : ℕ) (h : x ≡ read.Read place start end rows last) where
     is : IsData tape after place start end rows last (block_of level_limit s)
-    is = is-data tape after place start end rows last (block_of level_limit s) (rw h at ex)
+    is = is_data tape after place start end rows last (block_of level_limit s) (rw h at ex)
 
     module _ (room : TapeRoom s tape) where
-      pub text-under : Under records pool s after rows 16 root.0
+      pub text_under : Under records pool s after rows 16 root.0
           (record { place = place; type_start = start; type_end = end; first = 0; inside = rows })
-      text-under = record {
-        walk = record { checked = t; good = tape-good s tape after place start end rows last room is; few = rows_few s tape after place start end rows last room is };
+      text_under = record {
+        walk = record { checked = t; good = tape_good s tape after place start end rows last room is; few = rows_few s tape after place start end rows last room is };
         kind = k;
-        good = block-good s tape after place start end rows last room is;
+        good = block_good s tape after place start end rows last room is;
         row = record { there = omega arith; holds = λ h. absurd (omega arith); is = λ h. absurd (omega arith) };
-        within = datum-within s tape after place start end rows last room is;
+        within = datum_within s tape after place start end rows last room is;
       }
 
-      pub text-judged : (v : Verdict) (a : Outcome Refusal Verdicts.Verdict)
+      pub text_judged : (v : Verdict) (a : Outcome Refusal Verdicts.Verdict)
           → verdict_in v
           ≡ block_under (image_from records pool) s rows after root.0
           (record { place = place; type_start = start; type_end = end; first = 0; inside = rows })
           → a ≡ gave (verdict_in v)
           → a ≡ under_root root.0 s (object_at (image_from records pool) root.0)
       unfolding judge_value
-      text-judged v a ev ea =
-          let e = datum-got level_limit s (block place is.type is.ms) last is.is in
-          let b = datum-back s tape after place start end rows last room is in
-          let o = object-tree records pool t root.0 k in
+      text_judged v a ev ea =
+          let e = datum_got level_limit s (block place is.type is.ms) last is.is in
+          let b = datum_back s tape after place start end rows last room is in
+          let o = object_tree records pool t root.0 k in
           let f : verdict_in v ≡ judge_value (value_in (tree_at (image_from records pool) root.0)) (Data.block (spelled_block (block place is.type is.ms) s)) = ev ∙ ap (λ x. judge_value (value_in (tree_at (image_from records pool) root.0)) (Data.block x)) b in
           ea ∙ ap gave (rw o at f) ∙ rw (o, e)
 
 -- what is no object of a checked table
-no-object : (m : Image) (n : ℕ) (r : Record) → (r.kind ≡ 1 → ⊥) → object_in (node_of m n r) ≡ none
-no-object m n r h = by (shape_of r.kind) (kind-shape r.kind)
+no_object : (m : Image) (n : ℕ) (r : Record) → (r.kind ≡ 1 → ⊥) → object_in (node_of m n r) ≡ none
+no_object m n r h = by (shape_of r.kind) (kind_shape r.kind)
   where
     by : (s : Shape) → (is_known s ≡ true → r.kind ≡ kind_of s) → object_in (node_by s m n r) ≡ none
     by table_header e = refl
@@ -172,15 +172,15 @@ no-object m n r h = by (shape_of r.kind) (kind-shape r.kind)
     by (single sort) e = refl
     by (range sort) e = refl
 
-none-there : (bs : List ℕ) → table_fault bs ≡ none → (n : ℕ) → (kind_at (image_of bs) n ≡ 1 → ⊥)
+none_there : (bs : List ℕ) → table_fault bs ≡ none → (n : ℕ) → (kind_at (image_of bs) n ≡ 1 → ⊥)
     → object_at (image_of bs) n ≡ none
 unfolding tree_at
-none-there bs t zero h = refl
-none-there bs t (suc n) h =
+none_there bs t zero h = refl
+none_there bs t (suc n) h =
     by_order (count (image_of bs)) (suc n)
-    (λ l. ap object_in (get_or-eq_default (nothing ∷ trees_of (image_of bs)) nothing {n = suc n} (rw (length-trees-of (image_of bs)) l)))
-    (λ l. ap object_in (tree-node (image_of bs) (check_sound bs t) (suc n) (omega arith) l)
-    ∙ no-object (image_of bs) (suc n) (record_at (image_of bs) (suc n)) (λ e. h (kind-record (image_of bs) (suc n) ∙ e)))
+    (λ l. ap object_in (get_or-eq_default (nothing ∷ trees_of (image_of bs)) nothing {n = suc n} (rw (length-trees_of (image_of bs)) l)))
+    (λ l. ap object_in (tree_node (image_of bs) (check_sound bs t) (suc n) (omega arith) l)
+    ∙ no_object (image_of bs) (suc n) (record_at (image_of bs) (suc n)) (λ e. h (kind_record (image_of bs) (suc n) ∙ e)))
 
 -- a checked table in two parts: its records and its pool
 module _ (bs text : List ℕ) (root : RecordNumber) (t : table_fault bs ≡ none) (f : Frame)
@@ -188,41 +188,41 @@ module _ (bs text : List ℕ) (root : RecordNumber) (t : table_fault bs ≡ none
     (ek : k ≡ kind_at (image_of bs) root.0) where
   pub root_none : (k ≡ 1 → ⊥)
       → refused (refusal NotAnObject root.0) ≡ under_root root.0 text (object_at (image_of bs) root.0)
-  root_none h = rw (none-there bs t root.0 (λ e. h (ek ∙ e)))
+  root_none h = rw (none_there bs t root.0 (λ e. h (ek ∙ e)))
 
   module _ (end : ℕ) (ee : end ≡ record_size * f.count) where
-    pub records-end : end ≤ length bs
-    records-end = let o = (sound-open bs t f ef).whole in omega arith
+    pub records_end : end ≤ length bs
+    records_end = let o = (sound_open bs t f ef).whole in omega arith
 
     parts_are : take (end - 0) (drop 0 bs) ++ take (length bs - end) (drop end bs) ≡ bs
     parts_are =
-        let l = records-end in
+        let l = records_end in
         let e : end - 0 ≡ end = omega arith in
         rw (e, take_all (length bs - end) (drop end bs) (rw length-drop (omega arith))) (take-append-drop end bs)
 
-    pub parts-good : TableGood (take (end - 0) (drop 0 bs)) (take (length bs - end) (drop end bs))
-    parts-good =
-        let l = records-end in
+    pub parts_good : TableGood (take (end - 0) (drop 0 bs)) (take (length bs - end) (drop end bs))
+    parts_good =
+        let l = records_end in
         let e : end - 0 ≡ end = omega arith in
         record { checked = rw parts_are t; whole = rw (parts_are, e, length-take, ← ef.0, ← ee) (omega arith) }
 
-    pub parts-kind : (k ≡ 1)
+    pub parts_kind : (k ≡ 1)
         → kind_at (image_from (take (end - 0) (drop 0 bs)) (take (length bs - end) (drop end bs))) root.0 ≡ 1
-    parts-kind h = rw parts_are (sym ek ∙ h)
+    parts_kind h = rw parts_are (sym ek ∙ h)
 
-    pub parts-judged : (a : Outcome Refusal Verdicts.Verdict)
+    pub parts_judged : (a : Outcome Refusal Verdicts.Verdict)
         → a ≡ under_root root.0 text
         (object_at (image_from (take (end - 0) (drop 0 bs)) (take (length bs - end) (drop end bs))) root.0)
         → a ≡ under_root root.0 text (object_at (image_of bs) root.0)
-    parts-judged a h = rw parts_are at h
+    parts_judged a h = rw parts_are at h
 
 -- the check goes before
 module _ (bs text : List ℕ) (root : ℕ) (c : CheckAnswer) (ec : fault_of c ≡ table_fault bs) where
-  pub table-refused : (why : Refusal) → c ≡ NotPassed why → refused why ≡ judge_answer bs root text
+  pub table_refused : (why : Refusal) → c ≡ NotPassed why → refused why ≡ judge_answer bs root text
   unfolding judge_answer
-  table-refused why h = rw (← ec, h)
+  table_refused why h = rw (← ec, h)
 
-  pub table-judged : (a : Outcome Refusal Verdicts.Verdict) → c ≡ Passed
+  pub table_judged : (a : Outcome Refusal Verdicts.Verdict) → c ≡ Passed
       → a ≡ under_root root text (object_at (image_of bs) root) → a ≡ judge_answer bs root text
   unfolding judge_answer
-  table-judged a h q = rw (passed_none bs c ec h) q
+  table_judged a h q = rw (passed_none bs c ec h) q

@@ -35,35 +35,35 @@ use Rattle.judge_attributes.specs.declared.Verdict.{Verdict}
 use Rattle.judge_attributes.specs.declared.Verdict.TheVariants.{Valid, Fails}
 use Rattle.judge_attributes.specs.declared.AttributeAnswer.{AttributeAnswer}
 use Rattle.judge_attributes.specs.declared.AttributeAnswer.TheVariants.{Told, Nested}
-use Rattle.judge_admission.proofs.TableLaws.{by_kind, number-lies, link-there, name-there, object-tree, attribute-tree}
+use Rattle.judge_admission.proofs.TableLaws.{by_kind, number_lies, link_there, name_there, object_tree, attribute_tree}
 use Rattle.judge_admission.proofs.ItemSteps.{left}
-use Rattle.judge_tape.proofs.MemoSteps.{left-some}
-use Rattle.judge_tape.proofs.MemoLaws.{memo-visited, base-small, chain-sound, memo-admits, memo-marked}
+use Rattle.judge_tape.proofs.MemoSteps.{left_some}
+use Rattle.judge_tape.proofs.MemoLaws.{memo_visited, base_small, chain_sound, memo_admits, memo_marked}
 
 -- a type that is not written suits, and one that is if it is the object's
 module _ (s t : List ℕ) (start end : ℕ) where
-  pub type-none : end ≡ 0 → true ≡ type_suits t (type_on s start end)
-  type-none h = rw h
+  pub type_none : end ≡ 0 → true ≡ type_suits t (type_on s start end)
+  type_none h = rw h
 
-  pub type-same : (w : List ℕ) (r : Bool) → w ≡ t → r ≡ same w (take (end - start) (drop start s)) → (end ≡ 0 → ⊥)
+  pub type_same : (w : List ℕ) (r : Bool) → w ≡ t → r ≡ same w (take (end - start) (drop start s)) → (end ≡ 0 → ⊥)
       → r ≡ type_suits t (type_on s start end)
-  type-same w r ew er h = rw (ne_eqb end 0 h, ← ew) er
+  type_same w r ew er h = rw (ne_eqb end 0 h, ← ew) er
 
 -- a datum of at most so many levels: there is one, and its members have one less
-abbrev members-of : Datum → Members
-members-of (datum p t ms) = ms
+abbrev members_of_lem : Datum → Members
+members_of_lem (datum p t ms) = ms
 
 pub within-less : (d : Datum) (levels : ℕ) → DatumWithin d levels
-    → (0 < levels) × MembersWithin (members-of d) (levels - 1)
+    → (0 < levels) × MembersWithin (members_of_lem d) (levels - 1)
 unfolding DatumWithin
 within-less (datum p t ms) zero h = absurd h
 within-less (datum p t ms) (suc levels) h = let e : suc levels - 1 ≡ levels = omega arith in (omega arith, rw e h)
 
 -- a link that leads up, or is 0
-link-kind : (records pool : List ℕ) → TableGood records pool → (n k i j : ℕ) → kind_at (image_from records pool) n ≡ k
+link_kind : (records pool : List ℕ) → TableGood records pool → (n k i j : ℕ) → kind_at (image_from records pool) n ≡ k
     → (0 < field (record_in records n) i → LinkRight (image_from records pool) n (j ∷ []) (field (record_in records n) i))
     → 0 < field (record_in records n) i → kind_at (image_from records pool) (field (record_in records n) i) ≡ j
-link-kind records pool t n k i j e l h = by_kind (kind_at (image_from records pool) (field (record_in records n) i)) j [] (l h).kind (λ y. y) (λ y. absurd (false≢true y))
+link_kind records pool t n k i j e l h = by_kind (kind_at (image_from records pool) (field (record_in records n) i)) j [] (l h).kind (λ y. y) (λ y. absurd (false≢true y))
 
 -- at attribute n of the walk from `first` on, by an object whose type suits
 pub record InAttributes (records pool s tape : List ℕ) (rows levels object : ℕ) (b : Block) (v : Visit)
@@ -95,10 +95,10 @@ effort levels size = 3 * levels + room size
 unfoldable pub effort_of_memo : ℕ → ℕ
 effort_of_memo levels = 3 * levels + 1
 
-pub memo-effort : (levels n t : ℕ) → 0 < n → effort_of_memo levels ≡ t
+pub memo_effort : (levels n t : ℕ) → 0 < n → effort_of_memo levels ≡ t
     → effort levels (length {A = ℕ} (replicate n 0)) < t
 unfolding effort effort_of_memo
-memo-effort levels n t h e = rw (length-replicate {0} {A = ℕ} n 0) (by n h)
+memo_effort levels n t h e = rw (length-replicate {0} {A = ℕ} n 0) (by n h)
   where
     by : (n : ℕ) → 0 < n → effort levels n < t
     by zero h = absurd (omega arith)
@@ -107,32 +107,32 @@ memo-effort levels n t h e = rw (length-replicate {0} {A = ℕ} n 0) (by n h)
 -- a block under an object
 module _ (records pool s tape : List ℕ) (rows levels : ℕ) (object : RecordNumber) (b : Block)
     (u : Under records pool s tape rows levels object.0 b) where
-  pub object-lies : Lies records object.0
-  object-lies = number-lies records pool u.walk.checked object.0 1 u.kind (omega arith)
+  pub object_lies : Lies records object.0
+  object_lies = number_lies records pool u.walk.checked object.0 1 u.kind (omega arith)
 
-  pub visit-small : base_of records b ≤ 8_388_608
-  visit-small = base-small records pool u.walk.checked rows tape b u.walk.few u.row
+  pub visit_small : base_of records b ≤ 8_388_608
+  visit_small = base_small records pool u.walk.checked rows tape b u.walk.few u.row
 
   module _ (e : Entry) (q : record_of e ≡ record_in records object.0) where
-    pub object-name : e.a + e.b ≤ length pool
-    object-name = rw (← q) at (name-there records pool u.walk.checked object.0 1 u.kind (omega arith) refl)
+    pub object_name : e.a + e.b ≤ length pool
+    object_name = rw (← q) at (name_there records pool u.walk.checked object.0 1 u.kind (omega arith) refl)
 
     first_kind : 0 < e.e → kind_at (image_from records pool) e.e ≡ 2
     unfolding shape_of
-    first_kind = rw (← q) at (link-kind records pool u.walk.checked object.0 1 4 2 u.kind (link-there records pool u.walk.checked object.0 1 u.kind (omega arith) 4 (2 ∷ []) (lit< tt) refl))
+    first_kind = rw (← q) at (link_kind records pool u.walk.checked object.0 1 4 2 u.kind (link_there records pool u.walk.checked object.0 1 u.kind (omega arith) 4 (2 ∷ []) (lit< tt) refl))
 
     module _ (r : Bool)
         (er : r ≡ type_suits (name_of pool (record_of e)) (type_on s b.type_start b.type_end)) where
-      block-is :
+      block_is :
           cond r (judge_attributes (attributes_in (tree_at (image_from records pool) e.e)) b.place
           (members_on s rows tape b))
           (fails 21 object.0 b.place) ≡ block_under (image_from records pool) s rows tape object.0 b
       unfolding judge_value judge
-      block-is = rw (object-tree records pool u.walk.checked object.0 u.kind, ← q, er)
+      block_is = rw (object_tree records pool u.walk.checked object.0 u.kind, ← q, er)
 
-      pub type-differs : not r ≡ true → (v : Verdict) → verdict_in v ≡ fails 21 object.0 b.place
+      pub type_differs_lem : not r ≡ true → (v : Verdict) → verdict_in v ≡ fails 21 object.0 b.place
           → verdict_in v ≡ block_under (image_from records pool) s rows tape object.0 b
-      type-differs h v ev = ev ∙ (rw (not-true r h) at block-is)
+      type_differs_lem h v ev = ev ∙ (rw (not-true r h) at block_is)
 
       pub attributes-start : not r ≡ false → (memo : List ℕ) → MemoGood records pool s tape rows memo → (v : Visit)
           → VisitOf records b v → (after : List ℕ) → Marks memo (base_of records b) after
@@ -140,12 +140,12 @@ module _ (records pool s tape : List ℕ) (rows levels : ℕ) (object : RecordNu
       attributes-start h memo g v w after m = record {
         under = u;
         visit = w;
-        known = memo-visited records pool s tape rows memo after g b m;
+        known = memo_visited records pool s tape rows memo after g b m;
         same = refl;
         chain = first_kind;
         kind = first_kind;
         is = refl;
-        whole = rw (not-false r h) at block-is;
+        whole = rw (not-false r h) at block_is;
       }
 
 -- the attributes of a block
@@ -154,50 +154,50 @@ module _ (records pool s tape : List ℕ) (rows levels object : ℕ) (b : Block)
   good : TableGood records pool
   good = i.under.walk.checked
 
-  pub visit-near : v.base ≤ 8_388_608
-  visit-near = i.visit.small
+  pub visit_near : v.base ≤ 8_388_608
+  visit_near = i.visit.small
 
-  none-admits : n ≡ 0 → BlockAdmitted (image_from records pool) s rows tape b n
+  none_admits : n ≡ 0 → BlockAdmitted (image_from records pool) s rows tape b n
   unfolding judge_attributes tree_at
-  none-admits z = rw z
+  none_admits z = rw z
 
-  number-there : (n ≡ 0 → ⊥) → Lies records n
-  number-there z = number-lies records pool good n 2 (i.kind (omega arith)) (omega arith)
+  number_there : (n ≡ 0 → ⊥) → Lies records n
+  number_there z = number_lies records pool good n 2 (i.kind (omega arith)) (omega arith)
 
   -- no attribute is left, or the memo knows that those left admit the block
-  left-admits : (t : Bool) → eqb n 0 ≡ t → (t || (v.again && marked memo (v.base + n))) ≡ true
+  left_admits : (t : Bool) → eqb n 0 ≡ t → (t || (v.again && marked memo (v.base + n))) ≡ true
       → BlockAdmitted (image_from records pool) s rows tape b n
-  left-admits true e h = none-admits (eqb-true n 0 e)
-  left-admits false e h =
+  left_admits true e h = none_admits (eqb-true n 0 e)
+  left_admits false e h =
       let z = eqb-false n 0 e in
-      memo-admits records pool good s tape rows b i.under.row v i.visit memo i.known n (omega arith) (number-there z) (and_left v.again (marked memo (v.base + n)) h) (and_right v.again (marked memo (v.base + n)) h)
+      memo_admits records pool good s tape rows b i.under.row v i.visit memo i.known n (omega arith) (number_there z) (and_left v.again (marked memo (v.base + n)) h) (and_right v.again (marked memo (v.base + n)) h)
 
   module _ (r : Bool) (er : r ≡ admitted_in memo v n) (h : not r ≡ false) where
-    first-admits : BlockAdmitted (image_from records pool) s rows tape b first
-    first-admits = sym i.is ∙ left-admits (eqb n 0) refl (sym er ∙ not-false r h)
+    first_admits : BlockAdmitted (image_from records pool) s rows tape b first
+    first_admits = sym i.is ∙ left_admits (eqb n 0) refl (sym er ∙ not-false r h)
 
-    pub attributes-end : valid ≡ block_under (image_from records pool) s rows tape object b
-    attributes-end = sym first-admits ∙ i.whole
+    pub attributes_end : valid ≡ block_under (image_from records pool) s rows tape object b
+    attributes_end = sym first_admits ∙ i.whole
 
-    pub attributes-chain : ChainGood records first
-    attributes-chain = chain-sound records pool good first i.chain
+    pub attributes_chain : ChainGood records first
+    attributes_chain = chain_sound records pool good first i.chain
 
-    pub attributes-known : (after : List ℕ) → ChainMarked records memo v.base first after
+    pub attributes_known : (after : List ℕ) → ChainMarked records memo v.base first after
         → MemoGood records pool s tape rows after
-    attributes-known after m = memo-marked records pool good s tape rows b i.under.row v i.visit memo i.known first i.chain first-admits after m
+    attributes_known after m = memo_marked records pool good s tape rows b i.under.row v i.visit memo i.known first i.chain first_admits after m
 
-  pub levels-some : 1 ≤ levels
-  levels-some = (within-less (datum_on s rows tape b) levels i.under.within).0
+  pub levels_some : 1 ≤ levels
+  levels_some = (within-less (datum_on s rows tape b) levels i.under.within).0
 
-  pub levels-fall : (size whole t : ℕ) → effort levels whole ≡ t → effort (levels - 1) size < t
+  pub levels_fall : (size whole t : ℕ) → effort levels whole ≡ t → effort (levels - 1) size < t
   unfolding effort
-  levels-fall size whole t h = let l = levels-some in let m = room_most size in omega arith
+  levels_fall size whole t h = let l = levels_some in let m = room_most size in omega arith
 
   -- a walk that is given up has no memo
-  pub memo-fall : (left : ℕ) (r : Bool) → r ≡ may_visit (length memo) left → not r ≡ true → (size t : ℕ)
+  pub memo_fall : (left : ℕ) (r : Bool) → r ≡ may_visit (length memo) left → not r ≡ true → (size t : ℕ)
       → length start ≡ size → effort levels size ≡ t → effort_of_memo levels < t
   unfolding effort effort_of_memo may_visit
-  memo-fall left r er h size t es et =
+  memo_fall left r er h size t es et =
       let z = spent (length memo) left (sym er ∙ not-true r h) in
       let q : size ≡ 0 = sym es ∙ sym i.same ∙ z in
       let f : 3 * levels + 2 ≡ t = rw q at et in
@@ -213,42 +213,42 @@ module _ (records pool s tape : List ℕ) (rows levels object : ℕ) (b : Block)
   -- at an attribute
   module _ (r : Bool) (er : r ≡ admitted_in memo v n) (h : not r ≡ true) where
     z : n ≡ 0 → ⊥
-    z y = let l = left-some memo v n r er h in omega arith
+    z y = let l = left_some memo v n r er h in omega arith
 
-    here-kind : kind_at (image_from records pool) n ≡ 2
-    here-kind = i.kind (left-some memo v n r er h)
+    here_kind : kind_at (image_from records pool) n ≡ 2
+    here_kind = i.kind (left_some memo v n r er h)
 
-    pub attribute-lies : Lies records n
-    attribute-lies = number-there z
+    pub attribute_lies : Lies records n
+    attribute_lies = number_there z
 
     -- one that fails is told
-    first-fails : (x : Verdict) (f : Failure) → x ≡ Fails f
+    first_fails : (x : Verdict) (f : Failure) → x ≡ Fails f
         → verdict_in x
         ≡ judge_first (attributes_in (tree_at (image_from records pool) n)) b.place (members_on s rows tape b)
         → verdict_in (Fails f) ≡ block_under (image_from records pool) s rows tape object b
     unfolding judge_attributes
-    first-fails v f ev ef =
-        let t = attribute-tree records pool good n here-kind in
-        ap verdict_in (sym ev) ∙ fails-first _ _ (rw t at ef) ∙ (rw t at i.is) ∙ i.whole
+    first_fails v f ev ef =
+        let t = attribute_tree records pool good n here_kind in
+        ap verdict_in (sym ev) ∙ fails_first _ _ (rw t at ef) ∙ (rw t at i.is) ∙ i.whole
       where
-        fails-first : (x y : Verdicts.Verdict) → verdict_in v ≡ x → verdict_in v ≡ then_judge x y
-        fails-first x y h = rw (← h, ev)
+        fails_first : (x y : Verdicts.Verdict) → verdict_in v ≡ x → verdict_in v ≡ then_judge x y
+        fails_first x y h = rw (← h, ev)
 
     module _ (a : Entry) (qa : record_of a ≡ record_in records n) where
-      pub attribute-at : AttributeAt records pool n a
-      attribute-at = record { kind = here-kind; is = qa }
+      pub attribute_at : AttributeAt records pool n a
+      attribute_at = record { kind = here_kind; is = qa }
 
-      next-link : 0 < a.d → LinkRight (image_from records pool) n (2 ∷ []) a.d
+      next_link_lem : 0 < a.d → LinkRight (image_from records pool) n (2 ∷ []) a.d
       unfolding shape_of
-      next-link = rw (← qa) at (link-there records pool good n 2 here-kind (omega arith) 3 (2 ∷ []) (lit< tt) refl)
+      next_link_lem = rw (← qa) at (link_there records pool good n 2 here_kind (omega arith) 3 (2 ∷ []) (lit< tt) refl)
 
-      pub attribute-less : left records a.d < left records n
-      attribute-less =
-          let l = attribute-lies in
+      pub attribute_less : left records a.d < left records n
+      attribute_less =
+          let l = attribute_lies in
           rw (ne_eqb n 0 z)
           (by_order a.d 0
           (λ k. let y : a.d ≡ 0 = omega arith in rw y (omega arith))
-          (λ k. let x = (next-link k).above in rw (ne_eqb a.d 0 (λ y. omega arith)) (omega arith)))
+          (λ k. let x = (next_link_lem k).above in rw (ne_eqb a.d 0 (λ y. omega arith)) (omega arith)))
 
       module _ (step : AttributeAnswer) (ar : AttributeAnswerIs (image_from records pool) s rows tape n b step)
           (behind : List ℕ) (g : MemoGood records pool s tape rows behind) (lb : length behind ≡ length memo) where
@@ -259,44 +259,44 @@ module _ (records pool s tape : List ℕ) (rows levels object : ℕ) (b : Block)
             → InAttributes records pool s tape rows levels object b v start after first a.d
         unfolding judge_attributes
         first_holds ef after k l =
-            let t = attribute-tree records pool good n here-kind in
+            let t = attribute_tree records pool good n here_kind in
             record {
               under = i.under;
               visit = i.visit;
               known = k;
               same = l ∙ lb ∙ i.same;
               chain = i.chain;
-              kind = λ h. by_kind (kind_at (image_from records pool) a.d) 2 [] (next-link h).kind (λ y. y) (λ y. absurd (false≢true y));
-              is = valid-first _ _ (rw (t, ← qa) at ef) ∙ (rw (t, ← qa) at i.is);
+              kind = λ h. by_kind (kind_at (image_from records pool) a.d) 2 [] (next_link_lem h).kind (λ y. y) (λ y. absurd (false≢true y));
+              is = valid_first _ _ (rw (t, ← qa) at ef) ∙ (rw (t, ← qa) at i.is);
               whole = i.whole;
             }
           where
-            valid-first : (x y : Verdicts.Verdict) → valid ≡ x → y ≡ then_judge x y
-            valid-first x y h = rw (← h)
+            valid_first : (x y : Verdicts.Verdict) → valid ≡ x → y ≡ then_judge x y
+            valid_first x y h = rw (← h)
 
-        pub told-valid : (x : Verdict) → step ≡ Told x → x ≡ Valid
+        pub told_valid : (x : Verdict) → step ≡ Told x → x ≡ Valid
             → InAttributes records pool s tape rows levels object b v start behind first a.d
-        told-valid x h k = first_holds (ap verdict_in (sym k) ∙ (rw h at ar.is)) behind g refl
+        told_valid x h k = first_holds (ap verdict_in (sym k) ∙ (rw h at ar.is)) behind g refl
 
-        pub told-fails : (x : Verdict) (f : Failure) → step ≡ Told x → x ≡ Fails f
+        pub told_fails : (x : Verdict) (f : Failure) → step ≡ Told x → x ≡ Fails f
             → verdict_in (Fails f) ≡ block_under (image_from records pool) s rows tape object b
-        told-fails x f h k = first-fails x f k (rw h at ar.is)
+        told_fails x f h k = first_fails x f k (rw h at ar.is)
 
         module _ (inner : RecordNumber) (part : Block) (y : step ≡ Nested inner part) where
           leads : Leads (image_from records pool) s rows tape (λ l. MembersWithin (members_on s rows tape b) l)
               (Nested inner part)
           leads = rw y at ar.leads
 
-          pub nested-under : Under records pool s tape rows (levels - 1) inner.0 part
-          nested-under = record { walk = i.under.walk; kind = leads.0; good = leads.1; row = leads.2; within = leads.3 (levels - 1) (within-less (datum_on s rows tape b) levels i.under.within).1 }
+          pub nested_under : Under records pool s tape rows (levels - 1) inner.0 part
+          nested_under = record { walk = i.under.walk; kind = leads.0; good = leads.1; row = leads.2; within = leads.3 (levels - 1) (within-less (datum_on s rows tape b) levels i.under.within).1 }
 
           module _ (x : Verdict)
               (ex : verdict_in x ≡ block_under (image_from records pool) s rows tape inner.0 part) where
-            pub nested-valid : x ≡ Valid → (after : List ℕ) → MemoGood records pool s tape rows after
+            pub nested_valid : x ≡ Valid → (after : List ℕ) → MemoGood records pool s tape rows after
                 → length after ≡ length behind
                 → InAttributes records pool s tape rows levels object b v start after first a.d
-            nested-valid k = first_holds (ap verdict_in (sym k) ∙ ex ∙ (rw y at ar.is))
+            nested_valid k = first_holds (ap verdict_in (sym k) ∙ ex ∙ (rw y at ar.is))
 
-            pub nested-fails : (f : Failure) → x ≡ Fails f
+            pub nested_fails : (f : Failure) → x ≡ Fails f
                 → verdict_in (Fails f) ≡ block_under (image_from records pool) s rows tape object b
-            nested-fails f k = first-fails x f k (ex ∙ (rw y at ar.is))
+            nested_fails f k = first_fails x f k (ex ∙ (rw y at ar.is))

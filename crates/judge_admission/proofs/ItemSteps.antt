@@ -36,24 +36,24 @@ use Rattle.meaning.specs.Admission.{is_some, word_under, string_under}
 use Rattle.table.specs.Records.{record_size, decode, field, record_in}
 use Rattle.table.specs.Rows.{Shape, table_header, object, attribute, text, range, shape_of, kind_of, is_known, is_listed}
 use Rattle.table.specs.Rows
-use Rattle.table.proofs.UseLaws.{kind-shape}
+use Rattle.table.proofs.UseLaws.{kind_shape}
 use Rattle.table.specs.Clauses.Answers.{record_of}
 use Rattle.table.specs.declared.records.Entry.{Entry}
 use Rattle.judge_admission.specs.Clauses.Items.{name_of, NamedRecord, record_items, range_sort, record_range, range_in, text_in, ranges_from, texts_from, leaf_of_shape, record_leaf, Lies, OfKind, Chained, Spelled, ItemsGood, item_of_shape}
 use Rattle.judge_admission.specs.Clauses.Answers.{finding_under, is_admitted, item_admits}
 
 -- an end of an item
-pub end-signed : (signed : Bool) (x r : ℕ) → signed ≡ true → r ≡ (range_row integers).end x
+pub end_signed : (signed : Bool) (x r : ℕ) → signed ≡ true → r ≡ (range_row integers).end x
     → r ≡ (range_row (range_sort signed)).end x
-end-signed signed x r h e = rw h e
+end_signed signed x r h e = rw h e
 
-pub end-plain : (signed : Bool) (x : ℕ) → signed ≡ false → x ≡ (range_row (range_sort signed)).end x
-end-plain signed x h = rw h
+pub end_plain : (signed : Bool) (x : ℕ) → signed ≡ false → x ≡ (range_row (range_sort signed)).end x
+end_plain signed x h = rw h
 
 -- a value between the ends of an item
 module _ (sort : RangeSort) (e : Entry) (v low : ℕ) (el : low ≡ (range_row sort).end e.a) where
-  pub range-below : v < low → false ≡ in_range v (record_range sort 0 (record_of e))
-  range-below h = rw (← el, lt-leb low v h)
+  pub range_below : v < low → false ≡ in_range v (record_range sort 0 (record_of e))
+  range_below h = rw (← el, lt-leb low v h)
 
   pub range-above : (high : ℕ) → low ≤ v → high ≡ (range_row sort).end e.b
       → leb v high ≡ in_range v (record_range sort 0 (record_of e))
@@ -72,41 +72,41 @@ pub record InItems (records : List ℕ) (kind : ℕ) (has : List ℕ → Bool) (
   pub is : has (record_items records fuel n) ≡ has (record_items records (length records) first)
 
 -- the items of a walk that is over, and of one that is not
-pub items-none : (records : List ℕ) (fuel : ℕ) → record_items records fuel 0 ≡ []
+pub items_none : (records : List ℕ) (fuel : ℕ) → record_items records fuel 0 ≡ []
 unfolding record_items
-items-none records zero = refl
-items-none records (suc fuel) = refl
+items_none records zero = refl
+items_none records (suc fuel) = refl
 
-pub items-some : (records : List ℕ) (fuel n : ℕ) → (n ≡ 0 → ⊥)
+pub items_some : (records : List ℕ) (fuel n : ℕ) → (n ≡ 0 → ⊥)
     → record_items records (suc fuel) n ≡ n ∷ record_items records fuel (field (record_in records n) 4)
 unfolding record_items
-items-some records fuel n h = rw (ne_eqb n 0 h)
+items_some records fuel n h = rw (ne_eqb n 0 h)
 
 module _ {records : List ℕ} {kind : ℕ} {has : List ℕ → Bool} {first : ℕ} where
   pub items-start : Chained records kind first → InItems records kind has first first
   items-start c = record { fuel = length records; enough = λ h. omega arith; low = λ h. omega arith; here = c.here; is = refl }
 
   module _ {n : ℕ} (i : InItems records kind has first n) where
-    pub items-end : n ≡ 0 → has [] ≡ has (record_items records (length records) first)
-    items-end h = ap has (sym (items-none records i.fuel)) ∙ ap (λ k. has (record_items records i.fuel k)) (sym h) ∙ i.is
+    pub items_end : n ≡ 0 → has [] ≡ has (record_items records (length records) first)
+    items_end h = ap has (sym (items_none records i.fuel)) ∙ ap (λ k. has (record_items records i.fuel k)) (sym h) ∙ i.is
 
     module _ (h : n ≡ 0 → ⊥) where
-      pub items-lies : Lies records n
-      items-lies = (i.here (omega arith)).lies
+      pub items_lies : Lies records n
+      items_lies = (i.here (omega arith)).lies
 
       -- the first of the items that are left
-      pub items-now : (fuel : ℕ) × (length records ≤ suc n + fuel)
+      pub items_now : (fuel : ℕ) × (length records ≤ suc n + fuel)
           × (has (n ∷ record_items records fuel (field (record_in records n) 4))
           ≡ has (record_items records (length records) first))
-      items-now = by i.fuel (i.enough (omega arith)) i.is
+      items_now = by i.fuel (i.enough (omega arith)) i.is
         where
           by : (fuel : ℕ) → length records ≤ n + fuel
               → has (record_items records fuel n) ≡ has (record_items records (length records) first)
               → (fuel : ℕ) × (length records ≤ suc n + fuel)
               × (has (n ∷ record_items records fuel (field (record_in records n) 4))
               ≡ has (record_items records (length records) first))
-          by zero l e = absurd (let k = items-lies in omega arith)
-          by (suc fuel) l e = (fuel, omega arith, ap has (sym (items-some records fuel n h)) ∙ e)
+          by zero l e = absurd (let k = items_lies in omega arith)
+          by (suc fuel) l e = (fuel, omega arith, ap has (sym (items_some records fuel n h)) ∙ e)
 
       module _ (c : Chained records kind first) {next : ℕ} (e : next ≡ field (record_in records n) 4) where
         up : 0 < next → (n < next) × OfKind records kind next
@@ -114,15 +114,15 @@ module _ {records : List ℕ} {kind : ℕ} {has : List ℕ → Bool} {first : �
 
         pub items-less : left records next < left records n
         items-less =
-            let l = items-lies in
+            let l = items_lies in
             rw (ne_eqb n 0 h)
             (by_order next 0
             (λ z. let q : next ≡ 0 = omega arith in rw q (omega arith))
             (λ z. let u = up z in rw (ne_eqb next 0 (λ q. omega arith)) (omega arith)))
 
-        pub items-next : ((ns : List ℕ) → has (n ∷ ns) ≡ has ns) → InItems records kind has first next
-        items-next f =
-            let w = items-now in
+        pub items_next : ((ns : List ℕ) → has (n ∷ ns) ≡ has ns) → InItems records kind has first next
+        items_next f =
+            let w = items_now in
             record {
               fuel = w.0;
               enough = λ z. let u = up z in let k = w.1 in omega arith;
@@ -139,24 +139,24 @@ abbrev pub InRanges : List ℕ → RangeSort → ℕ → ℕ → ℕ → Type 0
 InRanges records sort v first n = InItems records (range_row sort).kind (in_ranges sort records v) first n
 
 module _ (records : List ℕ) (sort : RangeSort) (v first n : ℕ) (i : InRanges records sort v first n) where
-  pub ranges-end : n ≡ 0 → false ≡ in_some v (ranges_from sort records first)
+  pub ranges_end : n ≡ 0 → false ≡ in_some v (ranges_from sort records first)
   unfolding in_ranges in_some
-  ranges-end h = items-end i h
+  ranges_end h = items_end i h
 
   module _ (h : n ≡ 0 → ⊥) (e : Entry) (q : record_of e ≡ record_in records n) (r : Bool)
       (t : r ≡ in_range v (record_range sort 0 (record_of e))) where
-    is-test : r ≡ in_range v (range_in sort records n)
-    is-test = t ∙ ap (λ x. in_range v (record_range sort 0 x)) q
+    is_test : r ≡ in_range v (range_in sort records n)
+    is_test = t ∙ ap (λ x. in_range v (record_range sort 0 x)) q
 
     pub ranges-found : r ≡ true → true ≡ in_some v (ranges_from sort records first)
     unfolding in_ranges in_some
     ranges-found y =
-        let w = items-now i h in
-        ap (λ b. b || in_ranges sort records v (record_items records w.0 (field (record_in records n) 4))) (sym y ∙ is-test) ∙ w.2
+        let w = items_now i h in
+        ap (λ b. b || in_ranges sort records v (record_items records w.0 (field (record_in records n) 4))) (sym y ∙ is_test) ∙ w.2
 
-    pub ranges-next : Chained records (range_row sort).kind first → r ≡ false → InRanges records sort v first e.e
+    pub ranges_next : Chained records (range_row sort).kind first → r ≡ false → InRanges records sort v first e.e
     unfolding in_ranges in_some
-    ranges-next c y = items-next i h c (ap (λ x. field x 4) q) (λ ns. ap (λ b. b || in_ranges sort records v ns) (sym is-test ∙ y))
+    ranges_next c y = items_next i h c (ap (λ x. field x 4) q) (λ ns. ap (λ b. b || in_ranges sort records v ns) (sym is_test ∙ y))
 
     pub ranges-less : Chained records (range_row sort).kind first → left records e.e < left records n
     ranges-less c = items-less i h c (ap (λ x. field x 4) q)
@@ -169,30 +169,30 @@ abbrev pub InTexts : List ℕ → List ℕ → List ℕ → ℕ → ℕ → Type
 InTexts records pool w first n = InItems records text_kind (in_texts records pool w) first n
 
 module _ (records pool w : List ℕ) (first n : ℕ) (i : InTexts records pool w first n) where
-  pub texts-end : n ≡ 0 → false ≡ is_some w (texts_from records pool first)
+  pub texts_end : n ≡ 0 → false ≡ is_some w (texts_from records pool first)
   unfolding in_texts is_some
-  texts-end h = items-end i h
+  texts_end h = items_end i h
 
   module _ (h : n ≡ 0 → ⊥) (e : Entry) (q : record_of e ≡ record_in records n) where
-    pub text-inside : Spelled records pool first → e.a + e.b ≤ length pool
-    text-inside p = rw (← q) at (p.inside n (i.low (omega arith)) (i.here (omega arith)))
+    pub text_inside : Spelled records pool first → e.a + e.b ≤ length pool
+    text_inside p = rw (← q) at (p.inside n (i.low (omega arith)) (i.here (omega arith)))
 
     module _ (name : List ℕ) (en : name ≡ name_of pool (record_of e)) (r : Bool) (t : r ≡ same w name) where
-      is-text : r ≡ same w (text_in records pool n).text
-      is-text = t ∙ ap (same w) (en ∙ ap (name_of pool) q)
+      is_text : r ≡ same w (text_in records pool n).text
+      is_text = t ∙ ap (same w) (en ∙ ap (name_of pool) q)
 
-      pub texts-found : r ≡ true → true ≡ is_some w (texts_from records pool first)
+      pub texts_found : r ≡ true → true ≡ is_some w (texts_from records pool first)
       unfolding in_texts is_some
-      texts-found y =
-          let k = items-now i h in
-          ap (λ b. b || in_texts records pool w (record_items records k.0 (field (record_in records n) 4))) (sym y ∙ is-text) ∙ k.2
+      texts_found y =
+          let k = items_now i h in
+          ap (λ b. b || in_texts records pool w (record_items records k.0 (field (record_in records n) 4))) (sym y ∙ is_text) ∙ k.2
 
-      pub texts-next : Chained records text_kind first → r ≡ false → InTexts records pool w first e.e
+      pub texts_next : Chained records text_kind first → r ≡ false → InTexts records pool w first e.e
       unfolding in_texts is_some
-      texts-next c y = items-next i h c (ap (λ x. field x 4) q) (λ ns. ap (λ b. b || in_texts records pool w ns) (sym is-text ∙ y))
+      texts_next c y = items_next i h c (ap (λ x. field x 4) q) (λ ns. ap (λ b. b || in_texts records pool w ns) (sym is_text ∙ y))
 
-    pub texts-less : Chained records text_kind first → left records e.e < left records n
-    texts-less c = items-less i h c (ap (λ x. field x 4) q)
+    pub texts_less : Chained records text_kind first → left records e.e < left records n
+    texts_less c = items-less i h c (ap (λ x. field x 4) q)
 
 -- a record, as it is read
 pub entry_read : (records : List ℕ) (n at : ℕ) (e : Entry) → at ≡ record_size * n
@@ -205,92 +205,92 @@ name-part pool e = rw add-sub_cancel_left
 
 -- a value that reads as nothing of its kind, and one that is tried
 module _ {A E : Type 0} (answer : E → Option A) (a : E) (o : Option A) (test : A → Bool) (q : answer a ≡ o) where
-  try-none : (e : E) → a ≡ e → answer e ≡ none → unsuited ≡ try o test
-  try-none e h n = ap (λ x. try x test) (sym n ∙ ap answer (sym h) ∙ q)
+  try_none : (e : E) → a ≡ e → answer e ≡ none → unsuited ≡ try o test
+  try_none e h n = ap (λ x. try x test) (sym n ∙ ap answer (sym h) ∙ q)
 
-  try-some : (e : E) (v : A) (f : Finding) → a ≡ e → answer e ≡ some v → f ≡ found (test v) → f ≡ try o test
-  try-some e v f h n g = g ∙ ap (λ x. try x test) (sym n ∙ ap answer (sym h) ∙ q)
+  try_some : (e : E) (v : A) (f : Finding) → a ≡ e → answer e ≡ some v → f ≡ found (test v) → f ≡ try o test
+  try_some e v f h n g = g ∙ ap (λ x. try x test) (sym n ∙ ap answer (sym h) ∙ q)
 
 -- a word under Booleans
 module _ (w : List ℕ) (flag : ℕ) (a : Boolean) (q : boolean_answer a ≡ boolean_of w) where
-  pub boolean-none : a ≡ boolean.Nothing → unsuited ≡ word_under (single booleans 0 flag) w
+  pub boolean_none : a ≡ boolean.Nothing → unsuited ≡ word_under (single booleans 0 flag) w
   unfolding word_under
-  boolean-none h = try-none boolean_answer a _ _ q boolean.Nothing h refl
+  boolean_none h = try_none boolean_answer a _ _ q boolean.Nothing h refl
 
   module _ (v : ℕ) (h : a ≡ boolean.Value v) where
-    pub boolean-both : flag ≡ 3 → admitted ≡ word_under (single booleans 0 flag) w
+    pub boolean_both : flag ≡ 3 → admitted ≡ word_under (single booleans 0 flag) w
     unfolding word_under
-    boolean-both z = try-some boolean_answer a _ _ q (boolean.Value v) v admitted h refl (rw (z, or-true))
+    boolean_both z = try_some boolean_answer a _ _ q (boolean.Value v) v admitted h refl (rw (z, or-true))
 
-    pub boolean-one : (f : Finding) → (flag ≡ 3 → ⊥) → f ≡ found (eqb flag v) → f ≡ word_under (single booleans 0 flag) w
+    pub boolean_one : (f : Finding) → (flag ≡ 3 → ⊥) → f ≡ found (eqb flag v) → f ≡ word_under (single booleans 0 flag) w
     unfolding word_under
-    boolean-one f z g = try-some boolean_answer a _ _ q (boolean.Value v) v f h refl (rw (ne_eqb flag 3 z, or-false) g)
+    boolean_one f z g = try_some boolean_answer a _ _ q (boolean.Value v) v f h refl (rw (ne_eqb flag 3 z, or-false) g)
 
 -- a word under integers
 module _ (w records : List ℕ) (first : ℕ) (a : Number) (q : integer_answer a ≡ integer_of w) where
-  pub integer-none : a ≡ number.Nothing → unsuited ≡ word_under (ranges integers (ranges_from integers records first)) w
+  pub integer_none : a ≡ number.Nothing → unsuited ≡ word_under (ranges integers (ranges_from integers records first)) w
   unfolding word_under
-  integer-none h = try-none integer_answer a _ _ q number.Nothing h refl
+  integer_none h = try_none integer_answer a _ _ q number.Nothing h refl
 
-  pub integer-some : (v : ℕ) (r : Bool) (f : Finding) → a ≡ number.Value v
+  pub integer_some : (v : ℕ) (r : Bool) (f : Finding) → a ≡ number.Value v
       → r ≡ in_some v (ranges_from integers records first) → f ≡ found r
       → f ≡ word_under (ranges integers (ranges_from integers records first)) w
   unfolding word_under
-  integer-some v r f h e g = try-some integer_answer a _ _ q (number.Value v) v f h refl (g ∙ ap found e)
+  integer_some v r f h e g = try_some integer_answer a _ _ q (number.Value v) v f h refl (g ∙ ap found e)
 
 -- a word under a date pattern and under date intervals
 module _ (w : List ℕ) (a : Day) (q : date_answer a ≡ date_of w) where
-  pub date-none : (flag : ℕ) → a ≡ day.Nothing → unsuited ≡ word_under (single date_pattern 0 flag) w
+  pub date_none : (flag : ℕ) → a ≡ day.Nothing → unsuited ≡ word_under (single date_pattern 0 flag) w
   unfolding word_under
-  date-none flag h = try-none date_answer a _ _ q day.Nothing h refl
+  date_none flag h = try_none date_answer a _ _ q day.Nothing h refl
 
-  pub dates-none : (l : List Range) → a ≡ day.Nothing → unsuited ≡ word_under (ranges dates l) w
+  pub dates_none : (l : List Range) → a ≡ day.Nothing → unsuited ≡ word_under (ranges dates l) w
   unfolding word_under
-  dates-none l h = try-none date_answer a _ _ q day.Nothing h refl
+  dates_none l h = try_none date_answer a _ _ q day.Nothing h refl
 
   module _ (parts d : ℕ) (h : a ≡ day.Value parts d) where
     pub date-fits : (flag : ℕ) (r : Bool) (f : Finding) → r ≡ fits_date flag parts → f ≡ found r
         → f ≡ word_under (single date_pattern 0 flag) w
     unfolding word_under
-    date-fits flag r f e g = try-some date_answer a _ _ q (day.Value parts d) (record { parts = parts; day = d }) f h refl (g ∙ ap found e)
+    date-fits flag r f e g = try_some date_answer a _ _ q (day.Value parts d) (record { parts = parts; day = d }) f h refl (g ∙ ap found e)
 
     module _ (records : List ℕ) (first : ℕ) where
       pub date-part : (parts ≡ 3 → ⊥) → refuted ≡ word_under (ranges dates (ranges_from dates records first)) w
       unfolding word_under
-      date-part z = try-some date_answer a _ _ q (day.Value parts d) (record { parts = parts; day = d }) refuted h refl (rw (ne_eqb parts 3 z))
+      date-part z = try_some date_answer a _ _ q (day.Value parts d) (record { parts = parts; day = d }) refuted h refl (rw (ne_eqb parts 3 z))
 
-      pub date-some : (r : Bool) (f : Finding) → parts ≡ 3 → r ≡ in_some d (ranges_from dates records first) → f ≡ found r
+      pub date_some : (r : Bool) (f : Finding) → parts ≡ 3 → r ≡ in_some d (ranges_from dates records first) → f ≡ found r
           → f ≡ word_under (ranges dates (ranges_from dates records first)) w
       unfolding word_under
-      date-some r f z e g = try-some date_answer a _ _ q (day.Value parts d) (record { parts = parts; day = d }) f h refl (rw (eq-eqb parts 3 z) (g ∙ ap found e))
+      date_some r f z e g = try_some date_answer a _ _ q (day.Value parts d) (record { parts = parts; day = d }) f h refl (rw (eq-eqb parts 3 z) (g ∙ ap found e))
 
 -- a word under a time pattern
 module _ (w : List ℕ) (flag : ℕ) (a : Parts) (q : time_answer a ≡ time_of w) where
-  pub time-none : a ≡ parts.Nothing → unsuited ≡ word_under (single time_pattern 0 flag) w
+  pub time_none : a ≡ parts.Nothing → unsuited ≡ word_under (single time_pattern 0 flag) w
   unfolding word_under
-  time-none h = try-none time_answer a _ _ q parts.Nothing h refl
+  time_none h = try_none time_answer a _ _ q parts.Nothing h refl
 
-  pub time-fits : (n : ℕ) (r : Bool) (f : Finding) → a ≡ parts.Value n → r ≡ fits_time flag n → f ≡ found r
+  pub time_fits : (n : ℕ) (r : Bool) (f : Finding) → a ≡ parts.Value n → r ≡ fits_time flag n → f ≡ found r
       → f ≡ word_under (single time_pattern 0 flag) w
   unfolding word_under
-  time-fits n r f h e g = try-some time_answer a _ _ q (parts.Value n) n f h refl (g ∙ ap found e)
+  time_fits n r f h e g = try_some time_answer a _ _ q (parts.Value n) n f h refl (g ∙ ap found e)
 
 -- a word under a Duration pattern
 module _ (w : List ℕ) (flag : ℕ) (a : Duration) (q : duration_answer a ≡ duration_of w) where
-  pub duration-none : a ≡ duration.Nothing → unsuited ≡ word_under (single duration_pattern 0 flag) w
+  pub duration_none : a ≡ duration.Nothing → unsuited ≡ word_under (single duration_pattern 0 flag) w
   unfolding word_under
-  duration-none h = try-none duration_answer a _ _ q duration.Nothing h refl
+  duration_none h = try_none duration_answer a _ _ q duration.Nothing h refl
 
-  pub duration-fits : (n : ℕ) (r : Bool) (f : Finding) → a ≡ duration.Value n → r ≡ fits_duration flag n → f ≡ found r
+  pub duration_fits : (n : ℕ) (r : Bool) (f : Finding) → a ≡ duration.Value n → r ≡ fits_duration flag n → f ≡ found r
       → f ≡ word_under (single duration_pattern 0 flag) w
   unfolding word_under
-  duration-fits n r f h e g = try-some duration_answer a _ _ q (duration.Value n) n f h refl (g ∙ ap found e)
+  duration_fits n r f h e g = try_some duration_answer a _ _ q (duration.Value n) n f h refl (g ∙ ap found e)
 
 -- a string under the leaf of another shape than a string's, and a word under what is no leaf's
 module _ (records pool w : List ℕ) (n : ℕ) where
   string-other : (k : ℕ) → (k ≡ text_kind → ⊥) → unsuited ≡ finding_under (leaf_of_shape records pool n (shape_of k)) true w
   unfolding string_under
-  string-other k h = by (shape_of k) (kind-shape k)
+  string-other k h = by (shape_of k) (kind_shape k)
     where
       by : (s : Shape) → (is_known s ≡ true → k ≡ kind_of s)
           → unsuited ≡ finding_under (leaf_of_shape records pool n s) true w
@@ -303,7 +303,7 @@ module _ (records pool w : List ℕ) (n : ℕ) where
 
   word_none : (k : ℕ) → (k ≡ 3 → ⊥) → (k ≡ 4 → ⊥) → (k ≡ 5 → ⊥) → (k ≡ 6 → ⊥) → (k ≡ 7 → ⊥) → (k ≡ 8 → ⊥)
       → (k ≡ 9 → ⊥) → unsuited ≡ finding_under (leaf_of_shape records pool n (shape_of k)) false w
-  word_none k h3 h4 h5 h6 h7 h8 h9 = by (shape_of k) (kind-shape k)
+  word_none k h3 h4 h5 h6 h7 h8 h9 = by (shape_of k) (kind_shape k)
     where
       by : (s : Shape) → (is_known s ≡ true → k ≡ kind_of s)
           → unsuited ≡ finding_under (leaf_of_shape records pool n s) false w
@@ -321,65 +321,65 @@ module _ (records pool w : List ℕ) (n : ℕ) where
 -- what each kind answers, its entry read
 module _ (records pool w : List ℕ) (first : ℕ) (e : Entry) (q : record_of e ≡ record_in records first) (s : Bool) where
   -- the leaf is that of the entry's shape
-  shape-read : (x : Shape) (f : Finding) → shape_of e.kind ≡ x
+  shape_read : (x : Shape) (f : Finding) → shape_of e.kind ≡ x
       → f ≡ finding_under (leaf_of_shape records pool first x) s w
       → f ≡ finding_under (record_leaf records pool first) s w
-  shape-read x f h g = g ∙ ap (λ y. finding_under (leaf_of_shape records pool first y) s w) (sym h ∙ ap (λ r. shape_of r.kind) q)
+  shape_read x f h g = g ∙ ap (λ y. finding_under (leaf_of_shape records pool first y) s w) (sym h ∙ ap (λ r. shape_of r.kind) q)
 
   -- a leaf of one record, by the flag that was read
-  single-read : (sort : SingleSort) (f : Finding) → shape_of e.kind ≡ Rows.single sort → s ≡ false
+  single_read : (sort : SingleSort) (f : Finding) → shape_of e.kind ≡ Rows.single sort → s ≡ false
       → f ≡ word_under (single sort 0 e.flag) w → f ≡ finding_under (record_leaf records pool first) s w
   unfolding word_under
-  single-read sort f h y g = shape-read (Rows.single sort) f h (rw y (g ∙ ap (λ r. (single_row sort).under r.flag w) q))
+  single_read sort f h y g = shape_read (Rows.single sort) f h (rw y (g ∙ ap (λ r. (single_row sort).under r.flag w) q))
 
   module _ (y : s ≡ true) where
-    pub string-not : (e.kind ≡ 5 → ⊥) → unsuited ≡ finding_under (record_leaf records pool first) s w
-    string-not h = shape-read (shape_of e.kind) unsuited refl (rw y (string-other records pool w first e.kind h))
+    pub string_not : (e.kind ≡ 5 → ⊥) → unsuited ≡ finding_under (record_leaf records pool first) s w
+    string_not h = shape_read (shape_of e.kind) unsuited refl (rw y (string-other records pool w first e.kind h))
 
-    pub string-kind : (r : Bool) (f : Finding) → e.kind ≡ 5 → r ≡ is_some w (texts_from records pool first) → f ≡ found r
+    pub string_kind : (r : Bool) (f : Finding) → e.kind ≡ 5 → r ≡ is_some w (texts_from records pool first) → f ≡ found r
         → f ≡ finding_under (record_leaf records pool first) s w
     unfolding shape_of string_under
-    string-kind r f h z g = shape-read text f (ap shape_of h) (rw y (g ∙ ap found z))
+    string_kind r f h z g = shape_read text f (ap shape_of h) (rw y (g ∙ ap found z))
 
   module _ (y : s ≡ false) where
-    pub word-not : (e.kind ≡ 3 → ⊥) → (e.kind ≡ 4 → ⊥) → (e.kind ≡ 5 → ⊥) → (e.kind ≡ 6 → ⊥) → (e.kind ≡ 7 → ⊥)
+    pub word_not : (e.kind ≡ 3 → ⊥) → (e.kind ≡ 4 → ⊥) → (e.kind ≡ 5 → ⊥) → (e.kind ≡ 6 → ⊥) → (e.kind ≡ 7 → ⊥)
         → (e.kind ≡ 8 → ⊥) → (e.kind ≡ 9 → ⊥) → unsuited ≡ finding_under (record_leaf records pool first) s w
-    word-not h3 h4 h5 h6 h7 h8 h9 = shape-read (shape_of e.kind) unsuited refl (rw y (word_none records pool w first e.kind h3 h4 h5 h6 h7 h8 h9))
+    word_not h3 h4 h5 h6 h7 h8 h9 = shape_read (shape_of e.kind) unsuited refl (rw y (word_none records pool w first e.kind h3 h4 h5 h6 h7 h8 h9))
 
     pub word-string : e.kind ≡ 5 → unsuited ≡ finding_under (record_leaf records pool first) s w
     unfolding shape_of word_under
-    word-string h = shape-read text unsuited (ap shape_of h) (rw y refl)
+    word-string h = shape_read text unsuited (ap shape_of h) (rw y refl)
 
     pub word-integer : (f : Finding) → e.kind ≡ 4
         → f ≡ word_under (ranges integers (ranges_from integers records first)) w
         → f ≡ finding_under (record_leaf records pool first) s w
     unfolding shape_of
-    word-integer f h g = shape-read (range integers) f (ap shape_of h) (rw y g)
+    word-integer f h g = shape_read (range integers) f (ap shape_of h) (rw y g)
 
     pub word-date : (f : Finding) → e.kind ≡ 7 → f ≡ word_under (ranges dates (ranges_from dates records first)) w
         → f ≡ finding_under (record_leaf records pool first) s w
     unfolding shape_of
-    word-date f h g = shape-read (range dates) f (ap shape_of h) (rw y g)
+    word-date f h g = shape_read (range dates) f (ap shape_of h) (rw y g)
 
-    pub word-boolean : (f : Finding) → e.kind ≡ 3 → f ≡ word_under (single booleans 0 e.flag) w
+    pub word_boolean : (f : Finding) → e.kind ≡ 3 → f ≡ word_under (single booleans 0 e.flag) w
         → f ≡ finding_under (record_leaf records pool first) s w
     unfolding shape_of
-    word-boolean f h g = single-read booleans f (ap shape_of h) y g
+    word_boolean f h g = single_read booleans f (ap shape_of h) y g
 
-    pub word-date-pattern : (f : Finding) → e.kind ≡ 6 → f ≡ word_under (single date_pattern 0 e.flag) w
+    pub word-date_pattern : (f : Finding) → e.kind ≡ 6 → f ≡ word_under (single date_pattern 0 e.flag) w
         → f ≡ finding_under (record_leaf records pool first) s w
     unfolding shape_of
-    word-date-pattern f h g = single-read date_pattern f (ap shape_of h) y g
+    word-date_pattern f h g = single_read date_pattern f (ap shape_of h) y g
 
-    pub word-time-pattern : (f : Finding) → e.kind ≡ 8 → f ≡ word_under (single time_pattern 0 e.flag) w
+    pub word_time_pattern : (f : Finding) → e.kind ≡ 8 → f ≡ word_under (single time_pattern 0 e.flag) w
         → f ≡ finding_under (record_leaf records pool first) s w
     unfolding shape_of
-    word-time-pattern f h g = single-read time_pattern f (ap shape_of h) y g
+    word_time_pattern f h g = single_read time_pattern f (ap shape_of h) y g
 
-    pub word-duration-pattern : (f : Finding) → e.kind ≡ 9 → f ≡ word_under (single duration_pattern 0 e.flag) w
+    pub word_duration_pattern : (f : Finding) → e.kind ≡ 9 → f ≡ word_under (single duration_pattern 0 e.flag) w
         → f ≡ finding_under (record_leaf records pool first) s w
     unfolding shape_of
-    word-duration-pattern f h g = single-read duration_pattern f (ap shape_of h) y g
+    word_duration_pattern f h g = single_read duration_pattern f (ap shape_of h) y g
 
 -- an item alone
 found_back : (b : Bool) → is_admitted (found b) ≡ b
@@ -387,50 +387,50 @@ found_back true = refl
 found_back false = refl
 
 module _ (w : List ℕ) (e : Entry) where
-  pub integer-alone-none : (a : Number) → integer_answer a ≡ integer_of w → a ≡ number.Nothing
+  pub integer_alone_none : (a : Number) → integer_answer a ≡ integer_of w → a ≡ number.Nothing
       → false ≡ is_admitted (word_under (ranges integers (record_range integers 0 (record_of e) ∷ [])) w)
   unfolding word_under
-  integer-alone-none a q h = ap is_admitted (try-none integer_answer a _ _ q number.Nothing h refl)
+  integer_alone_none a q h = ap is_admitted (try_none integer_answer a _ _ q number.Nothing h refl)
 
-  pub integer-alone : (a : Number) → integer_answer a ≡ integer_of w → (v : ℕ) (r : Bool) → a ≡ number.Value v
+  pub integer_alone : (a : Number) → integer_answer a ≡ integer_of w → (v : ℕ) (r : Bool) → a ≡ number.Value v
       → r ≡ in_range v (record_range integers 0 (record_of e))
       → r ≡ is_admitted (word_under (ranges integers (record_range integers 0 (record_of e) ∷ [])) w)
   unfolding word_under in_some
-  integer-alone a q v r h t = sym (found_back r) ∙ ap is_admitted (try-some integer_answer a _ _ q (number.Value v) v (found r) h refl (rw or-false (ap found t)))
+  integer_alone a q v r h t = sym (found_back r) ∙ ap is_admitted (try_some integer_answer a _ _ q (number.Value v) v (found r) h refl (rw or-false (ap found t)))
 
-  pub date-alone-none : (a : Day) → date_answer a ≡ date_of w → a ≡ day.Nothing
+  pub date_alone_none : (a : Day) → date_answer a ≡ date_of w → a ≡ day.Nothing
       → false ≡ is_admitted (word_under (ranges dates (record_range dates 0 (record_of e) ∷ [])) w)
   unfolding word_under
-  date-alone-none a q h = ap is_admitted (try-none date_answer a _ _ q day.Nothing h refl)
+  date_alone_none a q h = ap is_admitted (try_none date_answer a _ _ q day.Nothing h refl)
 
   module _ (a : Day) (q : date_answer a ≡ date_of w) (parts d : ℕ) (h : a ≡ day.Value parts d) where
-    pub date-alone-part : (parts ≡ 3 → ⊥)
+    pub date_alone_part : (parts ≡ 3 → ⊥)
         → false ≡ is_admitted (word_under (ranges dates (record_range dates 0 (record_of e) ∷ [])) w)
     unfolding word_under
-    date-alone-part z = ap is_admitted (try-some date_answer a _ _ q (day.Value parts d) (record { parts = parts; day = d }) refuted h refl (rw (ne_eqb parts 3 z)))
+    date_alone_part z = ap is_admitted (try_some date_answer a _ _ q (day.Value parts d) (record { parts = parts; day = d }) refuted h refl (rw (ne_eqb parts 3 z)))
 
-    pub date-alone : (r : Bool) → parts ≡ 3 → r ≡ in_range d (record_range dates 0 (record_of e))
+    pub date_alone : (r : Bool) → parts ≡ 3 → r ≡ in_range d (record_range dates 0 (record_of e))
         → r ≡ is_admitted (word_under (ranges dates (record_range dates 0 (record_of e) ∷ [])) w)
     unfolding word_under in_some
-    date-alone r z t = sym (found_back r) ∙ ap is_admitted (try-some date_answer a _ _ q (day.Value parts d) (record { parts = parts; day = d }) (found r) h refl (rw (eq-eqb parts 3 z) (rw or-false (ap found t))))
+    date_alone r z t = sym (found_back r) ∙ ap is_admitted (try_some date_answer a _ _ q (day.Value parts d) (record { parts = parts; day = d }) (found r) h refl (rw (eq-eqb parts 3 z) (rw or-false (ap found t))))
 
   module _ (pool : List ℕ) (s : Bool) where
-    pub alone-named : NamedRecord pool (record_of e) → e.kind ≡ 5 → e.a + e.b ≤ length pool
-    alone-named n k = n.inside k
+    pub alone_named : NamedRecord pool (record_of e) → e.kind ≡ 5 → e.a + e.b ≤ length pool
+    alone_named n k = n.inside k
 
     -- the item is that of the entry's shape
-    shape-alone : (x : Shape) (b r : Bool) → shape_of e.kind ≡ x → s ≡ b
+    shape_alone : (x : Shape) (b r : Bool) → shape_of e.kind ≡ x → s ≡ b
         → r ≡ is_admitted (finding_under (item_of_shape pool (record_of e) x) b w) → r ≡ item_admits pool (record_of e) s w
-    shape-alone x b r h y g = g ∙ ap₂ (λ z c. is_admitted (finding_under (item_of_shape pool (record_of e) z) c w)) (sym h) (sym y)
+    shape_alone x b r h y g = g ∙ ap₂ (λ z c. is_admitted (finding_under (item_of_shape pool (record_of e) z) c w)) (sym h) (sym y)
 
-    pub string-alone : s ≡ true → e.kind ≡ 5 → (name : List ℕ) (r : Bool) → name ≡ name_of pool (record_of e)
+    pub string_alone : s ≡ true → e.kind ≡ 5 → (name : List ℕ) (r : Bool) → name ≡ name_of pool (record_of e)
         → r ≡ same w name → r ≡ item_admits pool (record_of e) s w
     unfolding shape_of string_under is_some
-    string-alone y k name r en t = shape-alone text true r (ap shape_of k) y (sym (found_back r) ∙ rw or-false (ap (λ b. is_admitted (found b)) (t ∙ ap (same w) en)))
+    string_alone y k name r en t = shape_alone text true r (ap shape_of k) y (sym (found_back r) ∙ rw or-false (ap (λ b. is_admitted (found b)) (t ∙ ap (same w) en)))
 
-    pub string-alone-not : s ≡ true → (e.kind ≡ 5 → ⊥) → false ≡ item_admits pool (record_of e) s w
+    pub string_alone_not : s ≡ true → (e.kind ≡ 5 → ⊥) → false ≡ item_admits pool (record_of e) s w
     unfolding string_under
-    string-alone-not y k = shape-alone (shape_of e.kind) true false refl y (by (shape_of e.kind) (kind-shape e.kind))
+    string_alone_not y k = shape_alone (shape_of e.kind) true false refl y (by (shape_of e.kind) (kind_shape e.kind))
       where
         by : (x : Shape) → (is_known x ≡ true → e.kind ≡ kind_of x)
             → false ≡ is_admitted (finding_under (item_of_shape pool (record_of e) x) true w)
@@ -441,21 +441,21 @@ module _ (w : List ℕ) (e : Entry) where
         by (Rows.single sort) h = refl
         by (range sort) h = refl
 
-    pub word-alone-integer : s ≡ false → e.kind ≡ 4 → (r : Bool)
+    pub word_alone_integer : s ≡ false → e.kind ≡ 4 → (r : Bool)
         → r ≡ is_admitted (word_under (ranges integers (record_range integers 0 (record_of e) ∷ [])) w)
         → r ≡ item_admits pool (record_of e) s w
     unfolding shape_of
-    word-alone-integer y k r t = shape-alone (range integers) false r (ap shape_of k) y t
+    word_alone_integer y k r t = shape_alone (range integers) false r (ap shape_of k) y t
 
-    pub word-alone-date : s ≡ false → e.kind ≡ 7 → (r : Bool)
+    pub word_alone_date : s ≡ false → e.kind ≡ 7 → (r : Bool)
         → r ≡ is_admitted (word_under (ranges dates (record_range dates 0 (record_of e) ∷ [])) w)
         → r ≡ item_admits pool (record_of e) s w
     unfolding shape_of
-    word-alone-date y k r t = shape-alone (range dates) false r (ap shape_of k) y t
+    word_alone_date y k r t = shape_alone (range dates) false r (ap shape_of k) y t
 
-    pub word-alone-not : s ≡ false → (e.kind ≡ 4 → ⊥) → (e.kind ≡ 7 → ⊥) → false ≡ item_admits pool (record_of e) s w
+    pub word_alone_not : s ≡ false → (e.kind ≡ 4 → ⊥) → (e.kind ≡ 7 → ⊥) → false ≡ item_admits pool (record_of e) s w
     unfolding word_under
-    word-alone-not y f g = shape-alone (shape_of e.kind) false false refl y (by (shape_of e.kind) (kind-shape e.kind))
+    word_alone_not y f g = shape_alone (shape_of e.kind) false false refl y (by (shape_of e.kind) (kind_shape e.kind))
       where
         by : (x : Shape) → (is_known x ≡ true → e.kind ≡ kind_of x)
             → false ≡ is_admitted (finding_under (item_of_shape pool (record_of e) x) false w)
@@ -467,32 +467,32 @@ module _ (w : List ℕ) (e : Entry) where
         by (range integers) h = absurd (f (h refl))
         by (range dates) h = absurd (g (h refl))
 
-pub ruleset alone-steps = (integer-alone-none, integer-alone, date-alone-none, date-alone-part, date-alone, string-alone, string-alone-not, word-alone-integer, word-alone-date, word-alone-not)
+pub ruleset alone_steps = (integer_alone_none, integer_alone, date_alone_none, date_alone_part, date_alone, string_alone, string_alone_not, word_alone_integer, word_alone_date, word_alone_not)
 
 -- the kind of a record, as it is read
-pub kind-read-at : (records : List ℕ) (n at : ℕ) → at ≡ record_size * n → record_size * n + record_size ≤ length records
+pub kind_read_at : (records : List ℕ) (n at : ℕ) → at ≡ record_size * n → record_size * n + record_size ≤ length records
     → get_or records (at + 2) 0 ≡ (record_in records n).kind
 unfolding decode
-kind-read-at records n at h l = ap (λ k. get_or records (k + 2) 0) h ∙ sym (get_or-take record_size (drop (record_size * n) records) 2 0 (omega arith) ∙ get_or-drop (record_size * n) records 2 0)
+kind_read_at records n at h l = ap (λ k. get_or records (k + 2) 0) h ∙ sym (get_or-take record_size (drop (record_size * n) records) 2 0 (omega arith) ∙ get_or-drop (record_size * n) records 2 0)
 
 -- what the walks over items ask
 module _ (records pool : List ℕ) (first : ℕ) (e : Entry) (i : ItemsGood records pool first)
     (q : record_of e ≡ record_in records first) where
-  chained-by : (k : ℕ) → is_listed (shape_of k) ≡ true → e.kind ≡ k → Chained records k first
-  chained-by k a h = i.chained k a (ap (λ r. r.kind) (sym q) ∙ h)
+  chained_by : (k : ℕ) → is_listed (shape_of k) ≡ true → e.kind ≡ k → Chained records k first
+  chained_by k a h = i.chained k a (ap (λ r. r.kind) (sym q) ∙ h)
 
-  pub chained-integers : e.kind ≡ 4 → Chained records 4 first
+  pub chained_integers : e.kind ≡ 4 → Chained records 4 first
   unfolding shape_of
-  chained-integers h = chained-by 4 refl h
+  chained_integers h = chained_by 4 refl h
 
-  pub chained-strings : e.kind ≡ 5 → Chained records 5 first
+  pub chained_strings : e.kind ≡ 5 → Chained records 5 first
   unfolding shape_of
-  chained-strings h = chained-by 5 refl h
+  chained_strings h = chained_by 5 refl h
 
-  pub chained-dates : e.kind ≡ 7 → Chained records 7 first
+  pub chained_dates : e.kind ≡ 7 → Chained records 7 first
   unfolding shape_of
-  chained-dates h = chained-by 7 refl h
+  chained_dates h = chained_by 7 refl h
 
-pub ruleset kind-steps = (string-not, string-kind, word-not, word-string, word-integer, word-date, word-boolean, word-date-pattern, word-time-pattern, word-duration-pattern)
+pub ruleset kind_steps = (string_not, string_kind, word_not, word-string, word-integer, word-date, word_boolean, word-date_pattern, word_time_pattern, word_duration_pattern)
 
-pub ruleset value-steps = (boolean-none, boolean-both, boolean-one, integer-none, integer-some, date-none, dates-none, date-fits, date-part, date-some, time-none, time-fits, duration-none, duration-fits)
+pub ruleset value_steps = (boolean_none, boolean_both, boolean_one, integer_none, integer_some, date_none, dates_none, date-fits, date-part, date_some, time_none, time_fits, duration_none, duration_fits)

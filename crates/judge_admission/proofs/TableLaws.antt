@@ -23,26 +23,26 @@ use Rattle.table.specs.Names.{record_at}
 use Rattle.table.specs.Trees.{Tree, nothing, of_object, of_attributes, of_leaf, attributes_in, value_in, ranges_of, texts_of, items_in, tree_at}
 use Rattle.table.specs.Clauses.Answers.{Opened}
 use Rattle.table.proofs.Checked.{Checked}
-use Rattle.table.proofs.CheckLaws.{check_sound, record-good, field_at, kind-record, kind-inside}
-use Rattle.table.proofs.UseLaws.{by-or, shape-kind, kind-shape, item-shape, LinkRight, by-link}
-use Rattle.table.proofs.FrameLaws.{count-opened, record-opened}
-use Rattle.table.proofs.NameSteps.{sound-open, name-in-pool}
-use Rattle.table.proofs.WalkLaws.{node_by, node_of, tree-node}
+use Rattle.table.proofs.CheckLaws.{check_sound, record_good, field_at, kind_record, kind_inside}
+use Rattle.table.proofs.UseLaws.{by_or, shape_kind, kind_shape, item_shape, LinkRight, by_link}
+use Rattle.table.proofs.FrameLaws.{count_opened, record_opened}
+use Rattle.table.proofs.NameSteps.{sound_open, name_in_pool}
+use Rattle.table.proofs.WalkLaws.{node_by, node_of, tree_node}
 use Rattle.judge_admission.specs.Clauses.Items.{name_of, record_items, range_in, text_in, leaf_of_shape, record_leaf, Lies, OfKind, ItemsGood, image_from, TableGood}
-use Rattle.judge_admission.proofs.ItemSteps.{items-some}
+use Rattle.judge_admission.proofs.ItemSteps.{items_some}
 
 -- a kind among others is one of them
 pub by_kind : {P : Type 0} (k x : ℕ) (xs : List ℕ) → among k (x ∷ xs) ≡ true → (k ≡ x → P) → (among k xs ≡ true → P) → P
-by_kind k x xs h f g = by-or (eqb k x) (among k xs) h (λ e. f (eqb-true k x e)) g
+by_kind k x xs h f g = by_or (eqb k x) (among k xs) h (λ e. f (eqb-true k x e)) g
 
 -- a number of a kind is no header's
-above-none : (m : Image) (n : ℕ) → 1 ≤ kind_at m n → 1 ≤ n
-above-none m zero h = h
-above-none m (suc n) h = omega arith
+above_none : (m : Image) (n : ℕ) → 1 ≤ kind_at m n → 1 ≤ n
+above_none m zero h = h
+above_none m (suc n) h = omega arith
 
 -- the link of the kinds that are lists
-list-link : (k : ℕ) (xs : List ℕ) → is_listed (shape_of k) ≡ true → get_or ((row_of k).uses xs) 4 unnamed ≡ link (k ∷ [])
-list-link k xs e = by (shape_of k) (kind-shape k) e
+list_link : (k : ℕ) (xs : List ℕ) → is_listed (shape_of k) ≡ true → get_or ((row_of k).uses xs) 4 unnamed ≡ link (k ∷ [])
+list_link k xs e = by (shape_of k) (kind_shape k) e
   where
     by : (s : Shape) → (is_known s ≡ true → k ≡ kind_of s) → is_listed s ≡ true
         → get_or ((row_for s).uses xs) 4 unnamed ≡ link (k ∷ [])
@@ -53,46 +53,46 @@ list-link k xs e = by (shape_of k) (kind-shape k) e
     by (Rows.single sort) h e = absurd (false≢true e)
     by (range sort) h e = ap (λ j. link (j ∷ [])) (sym (h refl))
 
-list-some : (k : ℕ) → is_listed (shape_of k) ≡ true → 1 ≤ k
+list_some : (k : ℕ) → is_listed (shape_of k) ≡ true → 1 ≤ k
 unfolding shape_of
-list-some zero e = absurd (false≢true e)
-list-some (suc k) e = omega arith
+list_some zero e = absurd (false≢true e)
+list_some (suc k) e = omega arith
 
-item-known : (s : Shape) → is_item s ≡ true → is_known s ≡ true
-item-known table_header e = e
-item-known object e = refl
-item-known attribute e = refl
-item-known text e = refl
-item-known (Rows.single sort) e = refl
-item-known (range sort) e = refl
+item_known : (s : Shape) → is_item s ≡ true → is_known s ≡ true
+item_known table_header e = e
+item_known object e = refl
+item_known attribute e = refl
+item_known text e = refl
+item_known (Rows.single sort) e = refl
+item_known (range sort) e = refl
 
-item-some : (k : ℕ) → is_item (shape_of k) ≡ true → 1 ≤ k
+item_some : (k : ℕ) → is_item (shape_of k) ≡ true → 1 ≤ k
 unfolding shape_of
-item-some zero e = absurd (false≢true e)
-item-some (suc k) e = omega arith
+item_some zero e = absurd (false≢true e)
+item_some (suc k) e = omega arith
 
 range_listed : (sort : RangeSort) → is_listed (shape_of (range_row sort).kind) ≡ true
-range_listed sort = ap is_listed (shape-kind (range sort))
+range_listed sort = ap is_listed (shape_kind (range sort))
 
-text-listed : is_listed (shape_of text_kind) ≡ true
-text-listed = ap is_listed (shape-kind text)
+text_listed : is_listed (shape_of text_kind) ≡ true
+text_listed = ap is_listed (shape_kind text)
 
 module _ (records pool : List ℕ) (t : TableGood records pool) where
   opened : Opened (records ++ pool)
       (record { count = field (header (records ++ pool)) 0; pool = field (header (records ++ pool)) 1 })
-  opened = sound-open (records ++ pool) t.checked (record { count = field (header (records ++ pool)) 0; pool = field (header (records ++ pool)) 1 }) (refl, refl)
+  opened = sound_open (records ++ pool) t.checked (record { count = field (header (records ++ pool)) 0; pool = field (header (records ++ pool)) 1 }) (refl, refl)
 
   pub checked : Checked (image_from records pool)
   checked = check_sound (records ++ pool) t.checked
 
   -- the records are as long as they are many
-  pub records-long : length records ≡ record_size * count (image_from records pool)
-  records-long = t.whole ∙ ap (λ k. record_size * k) (sym (count-opened (records ++ pool) _ opened))
+  pub records_long : length records ≡ record_size * count (image_from records pool)
+  records_long = t.whole ∙ ap (λ k. record_size * k) (sym (count_opened (records ++ pool) _ opened))
 
   -- the pool is the table's
-  pub pool-there : (image_from records pool).pool ≡ pool
+  pub pool_there : (image_from records pool).pool ≡ pool
   unfolding image_of
-  pool-there =
+  pool_there =
       let o = opened in
       let w = o.whole in
       let l = length-append records pool in
@@ -101,88 +101,88 @@ module _ (records pool : List ℕ) (t : TableGood records pool) where
 
   -- a record of the table lies among the records
   module _ (n : ℕ) (a : 1 ≤ n) (b : n < count (image_from records pool)) where
-    pub record-lies : Lies records n
-    record-lies = let l = records-long in omega arith
+    pub record_lies : Lies records n
+    record_lies = let l = records_long in omega arith
 
-    pub record-there : record_at (image_from records pool) n ≡ record_in records n
-    record-there =
-        let l = record-lies in
+    pub record_there : record_at (image_from records pool) n ≡ record_in records n
+    record_there =
+        let l = record_lies in
         let d : record_size ≤ length (drop (record_size * n) records) = rw length-drop (omega arith) in
-        record-opened (records ++ pool) _ opened n a (rw (count-opened (records ++ pool) _ opened) at b)
+        record_opened (records ++ pool) _ opened n a (rw (count_opened (records ++ pool) _ opened) at b)
         ∙ rw (drop-append-le (record_size * n) records pool (omega arith), take-append-le record_size (drop (record_size * n) records) pool d)
 
-    pub node-there : tree_at (image_from records pool) n ≡ node_of (image_from records pool) n (record_in records n)
-    node-there = tree-node (image_from records pool) checked n a b ∙ ap (node_of (image_from records pool) n) record-there
+    pub node_there : tree_at (image_from records pool) n ≡ node_of (image_from records pool) n (record_in records n)
+    node_there = tree_node (image_from records pool) checked n a b ∙ ap (node_of (image_from records pool) n) record_there
 
   -- a number of a kind
   module _ (n k : ℕ) (e : kind_at (image_from records pool) n ≡ k) (h : 1 ≤ k) where
     number-least : 1 ≤ n
-    number-least = above-none (image_from records pool) n (rw e h)
+    number-least = above_none (image_from records pool) n (rw e h)
 
     number-most : n < count (image_from records pool)
-    number-most = kind-inside (image_from records pool) n (rw e h)
+    number-most = kind_inside (image_from records pool) n (rw e h)
 
-    pub number-lies : Lies records n
-    number-lies = record-lies n number-least number-most
+    pub number_lies : Lies records n
+    number_lies = record_lies n number-least number-most
 
-    pub kind-there : (record_in records n).kind ≡ k
-    kind-there = ap (λ r. r.kind) (sym (record-there n number-least number-most)) ∙ sym (kind-record (image_from records pool) n) ∙ e
+    pub kind_there : (record_in records n).kind ≡ k
+    kind_there = ap (λ r. r.kind) (sym (record_there n number-least number-most)) ∙ sym (kind_record (image_from records pool) n) ∙ e
 
-    pub tree-there : tree_at (image_from records pool) n ≡ node_of (image_from records pool) n (record_in records n)
-    tree-there = node-there n number-least number-most
+    pub tree_there : tree_at (image_from records pool) n ≡ node_of (image_from records pool) n (record_in records n)
+    tree_there = node_there n number-least number-most
 
-    pub tree-shaped : (s : Shape) → shape_of k ≡ s
+    pub tree_shaped : (s : Shape) → shape_of k ≡ s
         → tree_at (image_from records pool) n ≡ node_by s (image_from records pool) n (record_in records n)
-    tree-shaped s q = tree-there ∙ ap (λ x. node_by x (image_from records pool) n (record_in records n)) (ap shape_of kind-there ∙ q)
+    tree_shaped s q = tree_there ∙ ap (λ x. node_by x (image_from records pool) n (record_in records n)) (ap shape_of kind_there ∙ q)
 
     -- its link at a place is 0 or leads up to a record of one of the kinds
-    pub link-there : (i : ℕ) (ks : List ℕ) → i < field_count
+    pub link_there : (i : ℕ) (ks : List ℕ) → i < field_count
         → get_or ((row_of k).uses (record_in records n).fields) i unnamed ≡ link ks → 0 < field (record_in records n) i
         → LinkRight (image_from records pool) n ks (field (record_in records n) i)
-    link-there i ks l u h =
+    link_there i ks l u h =
         let r = record_in records n in
-        let g = record-good (image_from records pool) n checked number-least number-most in
+        let g = record_good (image_from records pool) n checked number-least number-most in
         let f = field_at g i l in
-        let c : record_at (image_from records pool) n ≡ r = record-there n number-least number-most in
-        let w : field_right (image_from records pool) n (link ks) (field r i) (field r (suc i)) ≡ true = rw (uses_of, row_of, c, kind-there, u) at f in
-        by-link (image_from records pool) n ks (field r i) (field r (suc i)) w (λ z. absurd (omega arith)) (λ q. q)
+        let c : record_at (image_from records pool) n ≡ r = record_there n number-least number-most in
+        let w : field_right (image_from records pool) n (link ks) (field r i) (field r (suc i)) ≡ true = rw (uses_of, row_of, c, kind_there, u) at f in
+        by_link (image_from records pool) n ks (field r i) (field r (suc i)) w (λ z. absurd (omega arith)) (λ q. q)
 
     -- its name lies in the pool
-    pub name-there : among k (object_kind ∷ attribute_kind ∷ text_kind ∷ []) ≡ true
+    pub name_there : among k (object_kind ∷ attribute_kind ∷ text_kind ∷ []) ≡ true
         → field (record_in records n) 0 + field (record_in records n) 1 ≤ length pool
-    name-there z =
-        let c : record_at (image_from records pool) n ≡ record_in records n = record-there n number-least number-most in
-        rw (c, pool-there) at (name-in-pool (image_from records pool) n checked (rw e z))
+    name_there z =
+        let c : record_at (image_from records pool) n ≡ record_in records n = record_there n number-least number-most in
+        rw (c, pool_there) at (name_in_pool (image_from records pool) n checked (rw e z))
 
   -- a record that lies among the records, and is of a kind that no header has, has that kind in the table
-  pub kind-back : (n k : ℕ) → 1 ≤ n → OfKind records k n → kind_at (image_from records pool) n ≡ k
-  kind-back n k a o =
+  pub kind_back : (n k : ℕ) → 1 ≤ n → OfKind records k n → kind_at (image_from records pool) n ≡ k
+  kind_back n k a o =
       let l = o.lies in
-      let c = records-long in
-      kind-record (image_from records pool) n ∙ ap (λ r. r.kind) (record-there n a (omega arith)) ∙ o.is
+      let c = records_long in
+      kind_record (image_from records pool) n ∙ ap (λ r. r.kind) (record_there n a (omega arith)) ∙ o.is
 
   -- a leaf's items lie among the records and in the pool
-  pub items-there : (n k : ℕ) → kind_at (image_from records pool) n ≡ k → 1 ≤ k → ItemsGood records pool n
-  items-there n k e h =
+  pub items_there : (n k : ℕ) → kind_at (image_from records pool) n ≡ k → 1 ≤ k → ItemsGood records pool n
+  items_there n k e h =
       let a = number-least n k e h in
       record {
-        there = number-lies n k e h;
+        there = number_lies n k e h;
         chained = λ j z q. record {
-          here = λ _. record { lies = number-lies n k e h; is = q };
+          here = λ _. record { lies = number_lies n k e h; is = q };
           up = λ i l o p.
-              let f = kind-back i j (omega arith) o in
-              let x = link-there i j f (list-some j z) 4 (j ∷ []) (lit< tt) (list-link j (record_in records i).fields z) p in
+              let f = kind_back i j (omega arith) o in
+              let x = link_there i j f (list_some j z) 4 (j ∷ []) (lit< tt) (list_link j (record_in records i).fields z) p in
               by_kind (kind_at (image_from records pool) (field (record_in records i) 4)) j [] x.kind
-              (λ y. (x.above, record { lies = record-lies (field (record_in records i) 4) (omega arith) x.below; is = kind-there (field (record_in records i) 4) j y (list-some j z) }))
+              (λ y. (x.above, record { lies = record_lies (field (record_in records i) 4) (omega arith) x.below; is = kind_there (field (record_in records i) 4) j y (list_some j z) }))
               (λ y. absurd (false≢true y));
         };
-        spelled = record { inside = λ i l o. name-there i text_kind (kind-back i text_kind (omega arith) o) (omega arith) refl };
+        spelled = record { inside = λ i l o. name_there i text_kind (kind_back i text_kind (omega arith) o) (omega arith) refl };
       }
 
   -- the next item of a list is a record's number
-  pub list-link-below : (n k : ℕ) → kind_at (image_from records pool) n ≡ k → is_listed (shape_of k) ≡ true
+  pub list_link_below : (n k : ℕ) → kind_at (image_from records pool) n ≡ k → is_listed (shape_of k) ≡ true
       → 0 < field (record_in records n) 4 → field (record_in records n) 4 < count (image_from records pool)
-  list-link-below n k e z h = (link-there n k e (list-some k z) 4 (k ∷ []) (lit< tt) (list-link k (record_in records n).fields z) h).below
+  list_link_below n k e z h = (link_there n k e (list_some k z) 4 (k ∷ []) (lit< tt) (list_link k (record_in records n).fields z) h).below
 
   -- a list of items, by what each record stands for
   module _ {A : Type 0} (list : Tree → List A) (make : ℕ → A) (k : ℕ) (z : is_listed (shape_of k) ≡ true)
@@ -190,50 +190,50 @@ module _ (records pool : List ℕ) (t : TableGood records pool) where
       (one : (n : ℕ) → kind_at (image_from records pool) n ≡ k
       → list (tree_at (image_from records pool) n)
       ≡ make n ∷ list (tree_at (image_from records pool) (field (record_in records n) 4))) where
-    list-there : (fuel n : ℕ) → (0 < n → kind_at (image_from records pool) n ≡ k)
+    list_there : (fuel n : ℕ) → (0 < n → kind_at (image_from records pool) n ≡ k)
         → (0 < n → count (image_from records pool) ≤ n + fuel)
         → list (tree_at (image_from records pool) n) ≡ map make (record_items records fuel n)
     unfolding tree_at record_items
-    list-there zero n f g =
+    list_there zero n f g =
         by_order n 0
         (λ h. let e : n ≡ 0 = omega arith in rw e none)
-        (λ h. absurd (let b = number-most n k (f h) (list-some k z) in let c = g h in omega arith))
-    list-there (suc fuel) n f g =
+        (λ h. absurd (let b = number-most n k (f h) (list_some k z) in let c = g h in omega arith))
+    list_there (suc fuel) n f g =
         by_order n 0
         (λ h. let e : n ≡ 0 = omega arith in rw e none)
         (λ h.
         let e = f h in
         let c = g h in
         let x = field (record_in records n) 4 in
-        let u : 0 < x → LinkRight (image_from records pool) n (k ∷ []) x = link-there n k e (list-some k z) 4 (k ∷ []) (lit< tt) (list-link k (record_in records n).fields z) in
+        let u : 0 < x → LinkRight (image_from records pool) n (k ∷ []) x = link_there n k e (list_some k z) 4 (k ∷ []) (lit< tt) (list_link k (record_in records n).fields z) in
         one n e
         ∙ ap (λ l. make n ∷ l)
-        (list-there fuel x
+        (list_there fuel x
         (λ p. by_kind (kind_at (image_from records pool) x) k [] (u p).kind (λ y. y) (λ y. absurd (false≢true y)))
         (λ p. let q = (u p).above in omega arith))
-        ∙ ap (map make) (sym (items-some records fuel n (λ q. omega arith))))
+        ∙ ap (map make) (sym (items_some records fuel n (λ q. omega arith))))
 
     -- from its first item on
-    pub list-first : (n : ℕ) → kind_at (image_from records pool) n ≡ k
+    pub list_first : (n : ℕ) → kind_at (image_from records pool) n ≡ k
         → list (tree_at (image_from records pool) n) ≡ map make (record_items records (length records) n)
-    list-first n e = let l = records-long in list-there (length records) n (λ p. e) (λ p. omega arith)
+    list_first n e = let l = records_long in list_there (length records) n (λ p. e) (λ p. omega arith)
 
     -- a leaf of such a list, by its tree: the first item, and those behind it
     module _ (leaf : List A → Leaf)
         (whole : (n : ℕ)
         → leaf_of_shape records pool n (shape_of k) ≡ some (leaf (map make (record_items records (length records) n))))
         (n : ℕ) (e : kind_at (image_from records pool) n ≡ k) where
-      pub list-leaf : record_leaf records pool n
+      pub list_leaf : record_leaf records pool n
           ≡ some (leaf (make n ∷ list (tree_at (image_from records pool) (field (record_in records n) 4))))
-      list-leaf = ap (λ j. leaf_of_shape records pool n (shape_of j)) (kind-there n k e (list-some k z)) ∙ whole n ∙ ap (λ l. some (leaf l)) (sym (list-first n e) ∙ one n e)
+      list_leaf = ap (λ j. leaf_of_shape records pool n (shape_of j)) (kind_there n k e (list_some k z)) ∙ whole n ∙ ap (λ l. some (leaf l)) (sym (list_first n e) ∙ one n e)
 
-      pub list-rest : 0 < field (record_in records n) 4
+      pub list_rest : 0 < field (record_in records n) 4
           → record_leaf records pool (field (record_in records n) 4)
           ≡ some (leaf (list (tree_at (image_from records pool) (field (record_in records n) 4))))
-      list-rest h =
+      list_rest h =
           let x = field (record_in records n) 4 in
-          let u : kind_at (image_from records pool) x ≡ k = by_kind (kind_at (image_from records pool) x) k [] (link-there n k e (list-some k z) 4 (k ∷ []) (lit< tt) (list-link k (record_in records n).fields z) h).kind (λ y. y) (λ y. absurd (false≢true y)) in
-          ap (λ j. leaf_of_shape records pool x (shape_of j)) (kind-there x k u (list-some k z)) ∙ whole x ∙ ap (λ l. some (leaf l)) (sym (list-first x u))
+          let u : kind_at (image_from records pool) x ≡ k = by_kind (kind_at (image_from records pool) x) k [] (link_there n k e (list_some k z) 4 (k ∷ []) (lit< tt) (list_link k (record_in records n).fields z) h).kind (λ y. y) (λ y. absurd (false≢true y)) in
+          ap (λ j. leaf_of_shape records pool x (shape_of j)) (kind_there x k u (list_some k z)) ∙ whole x ∙ ap (λ l. some (leaf l)) (sym (list_first x u))
 
   -- the leaf whose first item has a number
   pub record LeafIs (n : ℕ) : Type 0 where
@@ -249,36 +249,36 @@ module _ (records pool : List ℕ) (t : TableGood records pool) where
         let r = record_in records n in
         record { number = n; type = name_of pool r; code = take (field r 3) (drop (field r 2) pool) }
 
-    pub object-tree : kind_at (image_from records pool) n ≡ 1
+    pub object_tree : kind_at (image_from records pool) n ≡ 1
         → tree_at (image_from records pool) n
         ≡ of_object
         (Constraints.object object_head (attributes_in (tree_at (image_from records pool) (field (record_in records n) 4))))
     unfolding shape_of
-    object-tree e = tree-shaped n 1 e (omega arith) object refl ∙ rw pool-there
+    object_tree e = tree_shaped n 1 e (omega arith) object refl ∙ rw pool_there
 
     abbrev pub attribute_head : AttributeHead
     attribute_head = record { number = n; existence = (record_in records n).flag; name = name_of pool (record_in records n) }
 
-    pub attribute-tree : kind_at (image_from records pool) n ≡ 2
+    pub attribute_tree : kind_at (image_from records pool) n ≡ 2
         → tree_at (image_from records pool) n
         ≡ of_attributes
         (Constraints.attribute attribute_head (value_in (tree_at (image_from records pool) (field (record_in records n) 2)))
         (attributes_in (tree_at (image_from records pool) (field (record_in records n) 3))))
     unfolding shape_of
-    attribute-tree e = tree-shaped n 2 e (omega arith) attribute refl ∙ rw pool-there
+    attribute_tree e = tree_shaped n 2 e (omega arith) attribute refl ∙ rw pool_there
 
   -- those of lists
-  ranges-tree : (sort : RangeSort) (n : ℕ) → kind_at (image_from records pool) n ≡ (range_row sort).kind
+  ranges_tree_lem : (sort : RangeSort) (n : ℕ) → kind_at (image_from records pool) n ≡ (range_row sort).kind
       → tree_at (image_from records pool) n
       ≡ of_leaf (ranges sort
       (range_in sort records n ∷ items_in ranges_of (tree_at (image_from records pool) (field (record_in records n) 4))))
-  ranges-tree sort n e = tree-shaped n (range_row sort).kind e (list-some _ (range_listed sort)) (range sort) (shape-kind (range sort))
+  ranges_tree_lem sort n e = tree_shaped n (range_row sort).kind e (list_some _ (range_listed sort)) (range sort) (shape_kind (range sort))
 
-  texts-tree : (n : ℕ) → kind_at (image_from records pool) n ≡ text_kind
+  texts_tree_lem : (n : ℕ) → kind_at (image_from records pool) n ≡ text_kind
       → tree_at (image_from records pool) n
       ≡ of_leaf (texts
       (text_in records pool n ∷ items_in texts_of (tree_at (image_from records pool) (field (record_in records n) 4))))
-  texts-tree n e = tree-shaped n text_kind e (omega arith) text (shape-kind text) ∙ rw pool-there
+  texts_tree_lem n e = tree_shaped n text_kind e (omega arith) text (shape_kind text) ∙ rw pool_there
 
   -- the leaves of lists, by their trees, and the leaves behind their first items
   module _ (sort : RangeSort) (n : ℕ) (e : kind_at (image_from records pool) n ≡ (range_row sort).kind) where
@@ -287,52 +287,52 @@ module _ (records pool : List ℕ) (t : TableGood records pool) where
 
     pub ranges-leaf : record_leaf records pool n ≡ some (ranges sort (range_in sort records n ∷ ranges_here))
     ranges-leaf =
-        list-leaf (items_in ranges_of) (range_in sort records) (range_row sort).kind (range_listed sort) refl (λ i q. ap (items_in ranges_of) (ranges-tree sort i q))
-        (ranges sort) (λ i. ap (leaf_of_shape records pool i) (shape-kind (range sort))) n e
+        list_leaf (items_in ranges_of) (range_in sort records) (range_row sort).kind (range_listed sort) refl (λ i q. ap (items_in ranges_of) (ranges_tree_lem sort i q))
+        (ranges sort) (λ i. ap (leaf_of_shape records pool i) (shape_kind (range sort))) n e
 
-    pub ranges-rest : 0 < field (record_in records n) 4
+    pub ranges_rest : 0 < field (record_in records n) 4
         → record_leaf records pool (field (record_in records n) 4) ≡ some (ranges sort ranges_here)
-    ranges-rest =
-        list-rest (items_in ranges_of) (range_in sort records) (range_row sort).kind (range_listed sort) refl (λ i q. ap (items_in ranges_of) (ranges-tree sort i q))
-        (ranges sort) (λ i. ap (leaf_of_shape records pool i) (shape-kind (range sort))) n e
+    ranges_rest =
+        list_rest (items_in ranges_of) (range_in sort records) (range_row sort).kind (range_listed sort) refl (λ i q. ap (items_in ranges_of) (ranges_tree_lem sort i q))
+        (ranges sort) (λ i. ap (leaf_of_shape records pool i) (shape_kind (range sort))) n e
 
   module _ (n : ℕ) (e : kind_at (image_from records pool) n ≡ text_kind) where
     abbrev pub texts_here : List Text
     texts_here = items_in texts_of (tree_at (image_from records pool) (field (record_in records n) 4))
 
-    pub texts-leaf : record_leaf records pool n ≡ some (texts (text_in records pool n ∷ texts_here))
-    texts-leaf =
-        list-leaf (items_in texts_of) (text_in records pool) text_kind text-listed refl (λ i q. ap (items_in texts_of) (texts-tree i q))
-        texts (λ i. ap (leaf_of_shape records pool i) (shape-kind text)) n e
+    pub texts_leaf : record_leaf records pool n ≡ some (texts (text_in records pool n ∷ texts_here))
+    texts_leaf =
+        list_leaf (items_in texts_of) (text_in records pool) text_kind text_listed refl (λ i q. ap (items_in texts_of) (texts_tree_lem i q))
+        texts (λ i. ap (leaf_of_shape records pool i) (shape_kind text)) n e
 
-    pub texts-rest : 0 < field (record_in records n) 4
+    pub texts_rest : 0 < field (record_in records n) 4
         → record_leaf records pool (field (record_in records n) 4) ≡ some (texts texts_here)
-    texts-rest =
-        list-rest (items_in texts_of) (text_in records pool) text_kind text-listed refl (λ i q. ap (items_in texts_of) (texts-tree i q))
-        texts (λ i. ap (leaf_of_shape records pool i) (shape-kind text)) n e
+    texts_rest =
+        list_rest (items_in texts_of) (text_in records pool) text_kind text_listed refl (λ i q. ap (items_in texts_of) (texts_tree_lem i q))
+        texts (λ i. ap (leaf_of_shape records pool i) (shape_kind text)) n e
 
   -- a leaf is there where the kind is an item's
   module _ (n : ℕ) where
-    leaf-by : (k : ℕ) → kind_at (image_from records pool) n ≡ k → 1 ≤ k → (s : Shape) → shape_of k ≡ s → is_known s ≡ true
+    leaf_by_lem : (k : ℕ) → kind_at (image_from records pool) n ≡ k → 1 ≤ k → (s : Shape) → shape_of k ≡ s → is_known s ≡ true
         → is_item s ≡ true → LeafIs n
-    leaf-by k e l table_header q z i = absurd (false≢true i)
-    leaf-by k e l object q z i = absurd (false≢true i)
-    leaf-by k e l attribute q z i = absurd (false≢true i)
-    leaf-by k e l text q z i =
-        let x : k ≡ text_kind = kind-shape k (rw q) ∙ ap kind_of q in
-        record { leaf = texts (text_in records pool n ∷ texts_here n (e ∙ x)); tree = texts-tree n (e ∙ x); there = texts-leaf n (e ∙ x); number = refl }
-    leaf-by k e l (Rows.single sort) q z i = record {
+    leaf_by_lem k e l table_header q z i = absurd (false≢true i)
+    leaf_by_lem k e l object q z i = absurd (false≢true i)
+    leaf_by_lem k e l attribute q z i = absurd (false≢true i)
+    leaf_by_lem k e l text q z i =
+        let x : k ≡ text_kind = kind_shape k (rw q) ∙ ap kind_of q in
+        record { leaf = texts (text_in records pool n ∷ texts_here n (e ∙ x)); tree = texts_tree_lem n (e ∙ x); there = texts_leaf n (e ∙ x); number = refl }
+    leaf_by_lem k e l (Rows.single sort) q z i = record {
       leaf = single sort n (record_in records n).flag;
-      tree = tree-shaped n k e l (Rows.single sort) q;
-      there = ap (leaf_of_shape records pool n) (ap shape_of (kind-there n k e l) ∙ q);
+      tree = tree_shaped n k e l (Rows.single sort) q;
+      there = ap (leaf_of_shape records pool n) (ap shape_of (kind_there n k e l) ∙ q);
       number = refl;
     }
-    leaf-by k e l (range sort) q z i =
-        let x : k ≡ (range_row sort).kind = kind-shape k (rw q) ∙ ap kind_of q in
-        record { leaf = ranges sort (range_in sort records n ∷ ranges_here sort n (e ∙ x)); tree = ranges-tree sort n (e ∙ x); there = ranges-leaf sort n (e ∙ x); number = refl }
+    leaf_by_lem k e l (range sort) q z i =
+        let x : k ≡ (range_row sort).kind = kind_shape k (rw q) ∙ ap kind_of q in
+        record { leaf = ranges sort (range_in sort records n ∷ ranges_here sort n (e ∙ x)); tree = ranges_tree_lem sort n (e ∙ x); there = ranges-leaf sort n (e ∙ x); number = refl }
 
-    pub leaf-there : among (kind_at (image_from records pool) n) items ≡ true → LeafIs n
-    leaf-there a =
+    pub leaf_there : among (kind_at (image_from records pool) n) items ≡ true → LeafIs n
+    leaf_there a =
         let k = kind_at (image_from records pool) n in
-        let i = item-shape k a in
-        leaf-by k refl (item-some k i) (shape_of k) refl (item-known (shape_of k) i) i
+        let i = item_shape k a in
+        leaf_by_lem k refl (item_some k i) (shape_of k) refl (item_known (shape_of k) i) i

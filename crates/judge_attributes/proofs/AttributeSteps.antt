@@ -40,14 +40,14 @@ use Rattle.judge_attributes.specs.declared.Verdict as declared
 use Rattle.judge_attributes.specs.declared.Verdict.TheVariants as verdict
 use Rattle.judge_attributes.specs.declared.AttributeAnswer.{AttributeAnswer}
 use Rattle.judge_attributes.specs.declared.AttributeAnswer.TheVariants.{Told, Nested}
-use Rattle.judge_tape.proofs.MemberSteps.{found_on, FoundIs, member-holds}
-use Rattle.judge_admission.proofs.TableLaws.{by_kind, number-lies, kind-there, link-there, name-there, items-there, object-tree, attribute-tree, leaf-there}
+use Rattle.judge_tape.proofs.MemberSteps.{found_on, FoundIs, member_holds}
+use Rattle.judge_admission.proofs.TableLaws.{by_kind, number_lies, kind_there, link_there, name_there, items_there, object_tree, attribute_tree, leaf_there}
 
 -- what an admission tells
 module _ (a : Admission) (first place : ℕ) where
-  pub told-by : (b : Admission) (v : Verdict) → a ≡ b → v ≡ verdict_of first place (finding_of b)
+  pub told_by : (b : Admission) (v : Verdict) → a ≡ b → v ≡ verdict_of first place (finding_of b)
       → v ≡ verdict_of first place (finding_of a)
-  told-by b v h e = rw h e
+  told_by b v h e = rw h e
 
 -- a block, as it is read
 pub block_read : (tape : List ℕ) (n place start end inside : ℕ) → place ≡ row_number (row_at tape n) 3
@@ -56,50 +56,50 @@ pub block_read : (tape : List ℕ) (n place start end inside : ℕ) → place �
 block_read tape n place start end inside p a e i = λ j. record { place = p j; type_start = a j; type_end = e j; first = n + 1; inside = i j }
 
 -- a number that is not 0
-pub value-some : (n : ℕ) → (n ≡ 0 → ⊥) → 1 ≤ n
-value-some n h = omega arith
+pub value_some : (n : ℕ) → (n ≡ 0 → ⊥) → 1 ≤ n
+value_some n h = omega arith
 
 -- a leaf's first item is a record's
-pub first-lies : (records pool : List ℕ) (first : ℕ) → ItemsGood records pool first → 1 ≤ first
+pub first_lies : (records pool : List ℕ) (first : ℕ) → ItemsGood records pool first → 1 ≤ first
     → (1 ≤ first) × Lies records first
-first-lies records pool first i h = (h, i.there)
+first_lies records pool first i h = (h, i.there)
 
 -- a row whose value is known to be admitted
-pub value-known : (records pool s tape : List ℕ) (row first : ℕ) (r : Bool) → KnownIs records pool s tape row first r
+pub value_known : (records pool s tape : List ℕ) (row first : ℕ) (r : Bool) → KnownIs records pool s tape row first r
     → r ≡ true → valid ≡ leaf_verdict records pool s first (row_at tape row)
-value-known records pool s tape row first r k h = ap (verdict_of first (row_number (row_at tape row) 3)) (sym (k.admits h))
+value_known records pool s tape row first r k h = ap (verdict_of first (row_number (row_at tape row) 3)) (sym (k.admits h))
 
 -- the value of a row that holds a string or a word
 module _ (s : List ℕ) (rows : ℕ) (tape : List ℕ) (n start end : ℕ) (g : TapeGood (length s) rows tape)
     (l : LeafRow rows tape n) (es : start ≡ row_number (row_at tape n) 6) (ee : end ≡ row_number (row_at tape n) 7) where
-  pub value-told : (records pool : List ℕ) (first holds place : ℕ) (a : Admission) (v : Verdict)
+  pub value_told : (records pool : List ℕ) (first holds place : ℕ) (a : Admission) (v : Verdict)
       → holds ≡ row_number (row_at tape n) 0
       → finding_of a ≡ finding_under (record_leaf records pool first) (eqb holds 1) (take (end - start) (drop start s))
       → place ≡ row_number (row_at tape n) 3 → v ≡ verdict_of first place (finding_of a)
       → v ≡ leaf_verdict records pool s first (row_at tape n)
-  value-told records pool first holds place a v eh ea ep ev =
+  value_told records pool first holds place a v eh ea ep ev =
       let row = row_at tape n in
       ev ∙ ap (verdict_of first place) ea ∙ λ j. verdict_of first (ep j) (finding_under (record_leaf records pool first) (eqb (eh j) 1) (part s (es j) (ee j)))
 
 -- what a row holds: a block, or a string or a word
 module _ (s : List ℕ) (rows : ℕ) (tape : List ℕ) (n : ℕ) where
-  pub content-block : row_number (row_at tape n) 0 ≡ 0
+  pub content_block : row_number (row_at tape n) 0 ≡ 0
       → content_on s rows tape n ≡ Data.block (datum_on s rows tape (block_on tape n))
-  content-block h = rw h
+  content_block h = rw h
 
   -- a leaf under an object
-  leaf-under-object : (number·object : ℕ) (inside : Data.Datum → Verdict) → (row_number (row_at tape n) 0 ≡ 0 → ⊥)
+  leaf_under_object : (number·object : ℕ) (inside : Data.Datum → Verdict) → (row_number (row_at tape n) 0 ≡ 0 → ⊥)
       → judge_content number·object inside (content_on s rows tape n)
       ≡ fails 20 number·object (row_number (row_at tape n) 3)
-  leaf-under-object m inside h =
+  leaf_under_object m inside h =
       rw (ne_eqb (row_number (row_at tape n) 0) 0 h)
       (by_cond (λ c. judge_content m inside c ≡ fails 20 m (row_number (row_at tape n) 3)) (eqb (row_number (row_at tape n) 0) is_string) (λ _. refl) (λ _. refl))
 
   -- a leaf under items
-  leaf-under-items : (records pool : List ℕ) (l : Leaf) (first : ℕ) → leaf_number l ≡ first
+  leaf_under_items : (records pool : List ℕ) (l : Leaf) (first : ℕ) → leaf_number l ≡ first
       → record_leaf records pool first ≡ some l → (row_number (row_at tape n) 0 ≡ 0 → ⊥)
       → judge_leaf l (content_on s rows tape n) ≡ leaf_verdict records pool s first (row_at tape n)
-  leaf-under-items records pool l first el ef h =
+  leaf_under_items records pool l first el ef h =
       let row = row_at tape n in
       let w = part s (row_number row 6) (row_number row 7) in
       rw (ne_eqb (row_number row 0) 0 h, ef, ← el) (by (eqb (row_number row 0) is_string))
@@ -117,39 +117,39 @@ module _ (s : List ℕ) (rows : ℕ) (tape : List ℕ) (n : ℕ) where
 -- a member's value, by the object or the items with a number
 module _ (records pool s tape : List ℕ) (rows : ℕ) (value : RecordNumber) (row : ℕ)
     (w : Walk records pool s tape rows) where
-  pub value-any : value.0 ≡ 0 → ValueIs (image_from records pool) s rows tape value.0 row (Told verdict.Valid)
+  pub value_any : value.0 ≡ 0 → ValueIs (image_from records pool) s rows tape value.0 row (Told verdict.Valid)
   unfolding tree_at judge_value
-  value-any h = record { is = rw h; leads = tt }
+  value_any h = record { is = rw h; leads = tt }
 
   module _ (l : ValueLink (image_from records pool) value.0) (h : value.0 ≡ 0 → ⊥) where
     -- its kind is an object's or an item's
-    kind-some : (k : ℕ) → kind_at (image_from records pool) value.0 ≡ k → 1 ≤ k
-    kind-some zero e = absurd (let f = l.kind (omega arith) in false≢true (rw e at f))
-    kind-some (suc k) e = omega arith
+    kind_some : (k : ℕ) → kind_at (image_from records pool) value.0 ≡ k → 1 ≤ k
+    kind_some zero e = absurd (let f = l.kind (omega arith) in false≢true (rw e at f))
+    kind_some (suc k) e = omega arith
 
-    pub value-lies : Lies records value.0
-    value-lies = number-lies records pool w.checked value.0 (kind_at (image_from records pool) value.0) refl (kind-some (kind_at (image_from records pool) value.0) refl)
+    pub value_lies : Lies records value.0
+    value_lies = number_lies records pool w.checked value.0 (kind_at (image_from records pool) value.0) refl (kind_some (kind_at (image_from records pool) value.0) refl)
 
     module _ (kind : ℕ) (q : kind ≡ (record_in records value.0).kind) where
-      kind-read : kind_at (image_from records pool) value.0 ≡ kind
-      kind-read = sym (kind-there records pool w.checked value.0 (kind_at (image_from records pool) value.0) refl (kind-some (kind_at (image_from records pool) value.0) refl)) ∙ sym q
+      kind_read : kind_at (image_from records pool) value.0 ≡ kind
+      kind_read = sym (kind_there records pool w.checked value.0 (kind_at (image_from records pool) value.0) refl (kind_some (kind_at (image_from records pool) value.0) refl)) ∙ sym q
 
-      items-kind : (kind ≡ 1 → ⊥) → among (kind_at (image_from records pool) value.0) items ≡ true
-      items-kind z = by_kind (kind_at (image_from records pool) value.0) 1 items (l.kind (omega arith)) (λ f. absurd (z (sym kind-read ∙ f))) (λ f. f)
+      items_kind : (kind ≡ 1 → ⊥) → among (kind_at (image_from records pool) value.0) items ≡ true
+      items_kind z = by_kind (kind_at (image_from records pool) value.0) 1 items (l.kind (omega arith)) (λ f. absurd (z (sym kind_read ∙ f))) (λ f. f)
 
       module _ (z : row < rows) (holds : ℕ) (eh : holds ≡ row_number (row_at tape row) 0) where
         -- a block under an object is still to be judged
-        pub value-nested : kind ≡ 1 → holds ≡ 0 → (b : Block) → b ≡ block_on tape row
+        pub value_nested : kind ≡ 1 → holds ≡ 0 → (b : Block) → b ≡ block_on tape row
             → ValueIs (image_from records pool) s rows tape value.0 row (Nested value b)
         unfolding ContentWithin
-        value-nested ek ez b eb =
-            let c = content-block s rows tape row (sym eh ∙ ez) in
+        value_nested ek ez b eb =
+            let c = content_block s rows tape row (sym eh ∙ ez) in
             let g = w.good.rows row z in
             let d : datum_on s rows tape (block_on tape row) ≡ datum_on s rows tape b = ap (datum_on s rows tape) (sym eb) in
             record {
               is = ap (λ x. judge_value (value_in (tree_at (image_from records pool) value.0)) x) (ap Data.block (sym d) ∙ sym c);
               leads = (
-                kind-read ∙ ek,
+                kind_read ∙ ek,
                 rw eb (record { order = g.type_start; ahead = g.type_end; begins = record { there = λ k. g.inside (sym eh ∙ ez) k } }),
                 rw eb (record { there = omega arith; holds = λ _. let r : row + 1 - 1 ≡ row = omega arith in rw r (sym eh ∙ ez); is = λ _. let r : row + 1 - 1 ≡ row = omega arith in rw r }),
                 λ levels k. subst (λ x. ContentWithin x levels) (c ∙ ap Data.block d) k,
@@ -158,30 +158,30 @@ module _ (records pool s tape : List ℕ) (rows : ℕ) (value : RecordNumber) (r
 
         module _ (v : declared.Verdict) (place : ℕ) (er : verdict_in v ≡ fails 20 value.0 place)
             (ep : place ≡ row_number (row_at tape row) 3) where
-          told-20 : fails 20 value.0
+          told_20 : fails 20 value.0
               (row_number (row_at tape row) 3) ≡ judge_value (value_in (tree_at (image_from records pool) value.0))
               (content_on s rows tape row) → ValueIs (image_from records pool) s rows tape value.0 row (Told v)
-          told-20 f = record { is = er ∙ ap (fails 20 value.0) ep ∙ f; leads = tt }
+          told_20 f = record { is = er ∙ ap (fails 20 value.0) ep ∙ f; leads = tt }
 
           -- a leaf under an object
           pub value-leaf : kind ≡ 1 → (holds ≡ 0 → ⊥)
               → ValueIs (image_from records pool) s rows tape value.0 row (Told v)
           unfolding judge_value
           value-leaf ek ez =
-              told-20 (rw (object-tree records pool w.checked value.0 (kind-read ∙ ek))
-              (sym (leaf-under-object s rows tape row value.0 _ (λ f. ez (eh ∙ f)))))
+              told_20 (rw (object_tree records pool w.checked value.0 (kind_read ∙ ek))
+              (sym (leaf_under_object s rows tape row value.0 _ (λ f. ez (eh ∙ f)))))
 
           -- a block under items
-          pub value-block : (kind ≡ 1 → ⊥) → holds ≡ 0
+          pub value_block : (kind ≡ 1 → ⊥) → holds ≡ 0
               → ValueIs (image_from records pool) s rows tape value.0 row (Told v)
           unfolding judge_value
-          value-block ek ez =
-              let i = leaf-there records pool w.checked value.0 (items-kind ek) in
-              told-20 (rw (i.tree, content-block s rows tape row (sym eh ∙ ez), i.number))
+          value_block ek ez =
+              let i = leaf_there records pool w.checked value.0 (items_kind ek) in
+              told_20 (rw (i.tree, content_block s rows tape row (sym eh ∙ ez), i.number))
 
         module _ (ek : kind ≡ 1 → ⊥) (ez : holds ≡ 0 → ⊥) where
           pub value-items : ItemsGood records pool value.0
-          value-items = items-there records pool w.checked value.0 (kind_at (image_from records pool) value.0) refl (kind-some (kind_at (image_from records pool) value.0) refl)
+          value-items = items_there records pool w.checked value.0 (kind_at (image_from records pool) value.0) refl (kind_some (kind_at (image_from records pool) value.0) refl)
 
           pub value_row : LeafRow rows tape row
           value_row = record { there = z; leaf = omega arith }
@@ -192,18 +192,18 @@ module _ (records pool s tape : List ℕ) (rows : ℕ) (value : RecordNumber) (r
               → ValueIs (image_from records pool) s rows tape value.0 row (Told v)
           unfolding judge_value
           value-judged v ev =
-              let i = leaf-there records pool w.checked value.0 (items-kind ek) in
+              let i = leaf_there records pool w.checked value.0 (items_kind ek) in
               record {
-                is = ev ∙ rw i.tree (sym (leaf-under-items s rows tape row records pool i.leaf value.0 i.number i.there (λ f. ez (eh ∙ f))));
+                is = ev ∙ rw i.tree (sym (leaf_under_items s rows tape row records pool i.leaf value.0 i.number i.there (λ f. ez (eh ∙ f))));
                 leads = tt;
               }
 
 -- a member that is found is no deeper than the members
-pub member-within : (w : List ℕ) (ms : Members) (c : Content) (levels : ℕ) → member_of w ms ≡ some c
+pub member_within : (w : List ℕ) (ms : Members) (c : Content) (levels : ℕ) → member_of w ms ≡ some c
     → MembersWithin ms levels → ContentWithin c levels
 unfolding member_of MembersWithin
-member-within w Data.no_more c levels e h = absurd (let z : ◌≡◌ {A = ℕ} 0 1 = cc in omega arith)
-member-within w (member x d more) c levels e h = by (same w x) e (λ g. member-within w more c levels g h.1)
+member_within w Data.no_more c levels e h = absurd (let z : ◌≡◌ {A = ℕ} 0 1 = cc in omega arith)
+member_within w (member x d more) c levels e h = by (same w x) e (λ g. member_within w more c levels g h.1)
   where
     by : (b : Bool) → cond b (some d) (member_of w more) ≡ some c → (member_of w more ≡ some c → ContentWithin c levels)
         → ContentWithin c levels
@@ -211,70 +211,70 @@ member-within w (member x d more) c levels e h = by (same w x) e (λ g. member-w
     by false g k = k g
 
 -- the place of what a row holds
-content-place : (s : List ℕ) (rows : ℕ) (tape : List ℕ) (n : ℕ)
+content_place : (s : List ℕ) (rows : ℕ) (tape : List ℕ) (n : ℕ)
     → place_of (content_on s rows tape n) ≡ row_number (row_at tape n) 3
-content-place s rows tape n =
+content_place s rows tape n =
     let P : Content → Type 0 = λ c. place_of c ≡ row_number (row_at tape n) 3 in
     either P (eqb (row_number (row_at tape n) 0) is_block) refl (either P (eqb (row_number (row_at tape n) 0) is_string) refl refl)
 
 -- the block that a step leads into is within what holds it
-leads-map : (m : Image) (s : List ℕ) (rows : ℕ) (tape : List ℕ) (P Q : ℕ → Type 0)
+leads_map : (m : Image) (s : List ℕ) (rows : ℕ) (tape : List ℕ) (P Q : ℕ → Type 0)
     → ((levels : ℕ) → Q levels → P levels) → (r : AttributeAnswer) → Leads m s rows tape P r → Leads m s rows tape Q r
-leads-map m s rows tape P Q f (Told v) h = tt
-leads-map m s rows tape P Q f (Nested o b) h = (h.0, h.1, h.2, λ levels q. h.3 levels (f levels q))
+leads_map m s rows tape P Q f (Told v) h = tt
+leads_map m s rows tape P Q f (Nested o b) h = (h.0, h.1, h.2, λ levels q. h.3 levels (f levels q))
 
 -- the members of a block, by an attribute
 module _ (records pool s tape : List ℕ) (rows : ℕ) (n : RecordNumber) (e : Entry) (b : Block)
     (w : Walk records pool s tape rows) (a : AttributeAt records pool n.0 e) where
-  pub attribute-name : e.a + e.b ≤ length pool
-  attribute-name = rw (← a.is) at (name-there records pool w.checked n.0 2 a.kind (omega arith) refl)
+  pub attribute_name_lem : e.a + e.b ≤ length pool
+  attribute_name_lem = rw (← a.is) at (name_there records pool w.checked n.0 2 a.kind (omega arith) refl)
 
-  pub attribute-link : ValueLink (image_from records pool) e.c
+  pub attribute_link : ValueLink (image_from records pool) e.c
   unfolding shape_of
-  attribute-link =
+  attribute_link =
       let k : 0 < field (record_in records n.0) 2 → among (kind_at (image_from records pool) (field (record_in records n.0) 2)) (object_kind ∷ items) ≡ true =
-      λ h. (link-there records pool w.checked n.0 2 a.kind (omega arith) 2 (object_kind ∷ items) (lit< tt) refl h).kind in
+      λ h. (link_there records pool w.checked n.0 2 a.kind (omega arith) 2 (object_kind ∷ items) (lit< tt) refl h).kind in
       record { kind = rw (← a.is) at k }
 
   module _ (name : List ℕ) (en : name ≡ name_of pool (record_of e)) (r : Found)
       (begins : Begins rows b.first b.inside)
       (er : found_row r ≡ member_row s tape rows b.first b.inside name) where
     f : FoundIs s rows tape (members_on s rows tape b) name (found_row r)
-    f = rw er (member-holds s rows tape name w.good b.first b.inside begins)
+    f = rw er (member_holds s rows tape name w.good b.first b.inside begins)
 
-    first-is : judge_member (record { number = n.0; existence = e.flag; name = name_of pool (record_of e) }) b.place
+    first_is : judge_member (record { number = n.0; existence = e.flag; name = name_of pool (record_of e) }) b.place
         (found_on s rows tape (found_row r))
         (λ x. judge_value (value_in (tree_at (image_from records pool) e.c)) x)
         ≡ judge_first (attributes_in (tree_at (image_from records pool) n.0))
         b.place (members_on s rows tape b)
-    first-is = rw (attribute-tree records pool w.checked n.0 a.kind, ← a.is, f.is, en)
+    first_is = rw (attribute_tree records pool w.checked n.0 a.kind, ← a.is, f.is, en)
 
     module _ (h : r ≡ Nothing) where
-      pub member-missing : (v : declared.Verdict) → verdict_in v ≡ fails 22 n.0 b.place → e.flag ≡ 2
+      pub member_missing : (v : declared.Verdict) → verdict_in v ≡ fails 22 n.0 b.place → e.flag ≡ 2
           → AttributeAnswerIs (image_from records pool) s rows tape n.0 b (Told v)
-      member-missing v ev z = record { is = ev ∙ (rw (h, z) at first-is); leads = tt }
+      member_missing v ev z = record { is = ev ∙ (rw (h, z) at first_is); leads = tt }
 
-      pub member-absent : (e.flag ≡ 2 → ⊥)
+      pub member_absent : (e.flag ≡ 2 → ⊥)
           → AttributeAnswerIs (image_from records pool) s rows tape n.0 b (Told verdict.Valid)
-      member-absent z = record { is = rw (h, ne_eqb e.flag 2 z) at first-is; leads = tt }
+      member_absent z = record { is = rw (h, ne_eqb e.flag 2 z) at first_is; leads = tt }
 
     module _ (row : ℕ) (h : r ≡ At row) where
-      pub member-row : row < rows
-      member-row = rw h at f.there
+      pub member_row_lem : row < rows
+      member_row_lem = rw h at f.there
 
-      pub member-present : (v : declared.Verdict) (place : ℕ) → verdict_in v ≡ fails 23 n.0 place
+      pub member_present : (v : declared.Verdict) (place : ℕ) → verdict_in v ≡ fails 23 n.0 place
           → place ≡ row_number (row_at tape row) 3 → e.flag ≡ 0
           → AttributeAnswerIs (image_from records pool) s rows tape n.0 b (Told v)
-      member-present v place ev ep z =
-          let k : fails 23 n.0 (place_of (content_on s rows tape row)) ≡ judge_first (attributes_in (tree_at (image_from records pool) n.0)) b.place (members_on s rows tape b) = rw (h, z) at first-is in
-          record { is = ev ∙ ap (fails 23 n.0) (ep ∙ sym (content-place s rows tape row)) ∙ k; leads = tt }
+      member_present v place ev ep z =
+          let k : fails 23 n.0 (place_of (content_on s rows tape row)) ≡ judge_first (attributes_in (tree_at (image_from records pool) n.0)) b.place (members_on s rows tape b) = rw (h, z) at first_is in
+          record { is = ev ∙ ap (fails 23 n.0) (ep ∙ sym (content_place s rows tape row)) ∙ k; leads = tt }
 
-      pub member-judged : (v : AttributeAnswer) → ValueIs (image_from records pool) s rows tape e.c row v
+      pub member_judged : (v : AttributeAnswer) → ValueIs (image_from records pool) s rows tape e.c row v
           → (e.flag ≡ 0 → ⊥) → AttributeAnswerIs (image_from records pool) s rows tape n.0 b v
-      member-judged v i z =
+      member_judged v i z =
           let k : some (content_on s rows tape row) ≡ member_of name (members_on s rows tape b) = rw h at f.is in
           record {
-            is = i.is ∙ (rw (h, ne_eqb e.flag 0 z) at first-is);
-            leads = leads-map (image_from records pool) s rows tape (λ levels. ContentWithin (content_on s rows tape row) levels) (λ levels. MembersWithin (members_on s rows tape b) levels)
-                (λ levels q. member-within name (members_on s rows tape b) (content_on s rows tape row) levels (sym k) q) v i.leads;
+            is = i.is ∙ (rw (h, ne_eqb e.flag 0 z) at first_is);
+            leads = leads_map (image_from records pool) s rows tape (λ levels. ContentWithin (content_on s rows tape row) levels) (λ levels. MembersWithin (members_on s rows tape b) levels)
+                (λ levels q. member_within name (members_on s rows tape b) (content_on s rows tape row) levels (sym k) q) v i.leads;
           }

@@ -17,7 +17,7 @@ use Rattle.dadl.specs.Clauses.Tape.{row_size, row_number, members_at}
 use Rattle.dadl.specs.Clauses.Rows.{row_at, TapeGood, linked, walked}
 use Rattle.dadl.specs.Clauses.Answers.{name_at, NameLies}
 use Rattle.dadl.proofs.TapeLaws.{number_at}
-use Rattle.dadl.proofs.GoodTapes.{good-step}
+use Rattle.dadl.proofs.GoodTapes.{good_step}
 use Rattle.judge_tape.specs.declared.members.Found.TheVariants.{At, Nothing}
 use Rattle.judge_tape.specs.Clauses.Rows.{content_on, found_row, row_from, member_row, Begins, LeafRow}
 
@@ -52,11 +52,11 @@ module _ (s tape : List ℕ) (rows first inside : ℕ) (name : List ℕ) (n : �
   abbrev either : Bool → ℕ → ℕ → Option ℕ
   either here fuel next = cond here (some n) (cond (eqb next 0) none (row_from s tape name fuel next))
 
-  now-or-later : (fuel : ℕ) × (rows ≤ suc n + fuel)
+  now_or_later : (fuel : ℕ) × (rows ≤ suc n + fuel)
       × (either (same name (part s (row_number (row_at tape n) 1) (row_number (row_at tape n) 2))) fuel
       (row_number (row_at tape n) 8) ≡ member_row s tape rows first inside name)
   unfolding row_from
-  now-or-later = by i.fuel i.enough i.is
+  now_or_later = by i.fuel i.enough i.is
     where
       by : (fuel : ℕ) → rows ≤ n + fuel → row_from s tape name fuel n ≡ member_row s tape rows first inside name
           → (fuel : ℕ) × (rows ≤ suc n + fuel)
@@ -65,24 +65,24 @@ module _ (s tape : List ℕ) (rows first inside : ℕ) (name : List ℕ) (n : �
       by zero l e = absurd (let t = i.there in omega arith)
       by (suc fuel) l e = (fuel, omega arith, e)
 
-  pub name-lies : NameLies s tape n
-  name-lies =
+  pub name_lies : NameLies s tape n
+  name_lies =
       let q = g.rows n i.there in
       let x = number_at tape n 1 (omega arith) in
       let y = number_at tape n 2 (omega arith) in
       record { room = let r = row_lies (length s) rows tape n g i.there in omega arith; order = let o = q.name_start in omega arith; inside = rw y at q.name_end }
 
-  name-at : name_at s tape n ≡ part s (row_number (row_at tape n) 1) (row_number (row_at tape n) 2)
-  name-at = rw (number_at tape n 1 (omega arith), number_at tape n 2 (omega arith))
+  name_at_lem : name_at s tape n ≡ part s (row_number (row_at tape n) 1) (row_number (row_at tape n) 2)
+  name_at_lem = rw (number_at tape n 1 (omega arith), number_at tape n 2 (omega arith))
 
   module _ (w : List ℕ) (ew : w ≡ name_at s tape n) (r : Bool) (er : r ≡ same name w) where
-    pub rows-found : r ≡ true → found_row (At n) ≡ member_row s tape rows first inside name
-    rows-found h = ap (λ b. either b now-or-later.0 (row_number (row_at tape n) 8)) (sym h ∙ er ∙ ap (same name) (ew ∙ name-at)) ∙ now-or-later.2
+    pub rows_found : r ≡ true → found_row (At n) ≡ member_row s tape rows first inside name
+    rows_found h = ap (λ b. either b now_or_later.0 (row_number (row_at tape n) 8)) (sym h ∙ er ∙ ap (same name) (ew ∙ name_at_lem)) ∙ now_or_later.2
 
     module _ (h : r ≡ false) (next : ℕ) (en : next ≡ row_number (row_at tape n) 8) where
-      later : cond (eqb next 0) none (row_from s tape name now-or-later.0 next)
+      later : cond (eqb next 0) none (row_from s tape name now_or_later.0 next)
           ≡ member_row s tape rows first inside name
-      later = ap₂ (λ b k. either b now-or-later.0 k) (sym h ∙ er ∙ ap (same name) (ew ∙ name-at)) en ∙ now-or-later.2
+      later = ap₂ (λ b k. either b now_or_later.0 k) (sym h ∙ er ∙ ap (same name) (ew ∙ name_at_lem)) en ∙ now_or_later.2
 
       pub rows_end : next ≡ 0 → found_row Nothing ≡ member_row s tape rows first inside name
       rows_end z = rw z at later
@@ -92,10 +92,10 @@ module _ (s tape : List ℕ) (rows first inside : ℕ) (name : List ℕ) (n : �
         up = let q = (g.rows n i.there).next in let k : 0 < row_number (row_at tape n) 8 = rw (← en) (omega arith) in rw (← en) at (q k)
 
         pub rows_next : InRows s tape rows first inside name next
-        rows_next = record { fuel = now-or-later.0; enough = let l = now-or-later.1 in let u = up in omega arith; there = up.1; is = rw (ne_eqb next 0 z) at later }
+        rows_next = record { fuel = now_or_later.0; enough = let l = now_or_later.1 in let u = up in omega arith; there = up.1; is = rw (ne_eqb next 0 z) at later }
 
-        pub rows-less : rows - next < rows - n
-        rows-less = let u = up in omega arith
+        pub rows_less : rows - next < rows - n
+        rows_less = let u = up in omega arith
 
 -- what the row that was found holds
 abbrev pub found_on : List ℕ → ℕ → List ℕ → Option ℕ → Option Content
@@ -113,40 +113,40 @@ pub record FoundIs (s : List ℕ) (rows : ℕ) (tape : List ℕ) (ms : Members) 
   pub there : FoundThere rows o
 
 module _ (s : List ℕ) (rows : ℕ) (tape name : List ℕ) (g : TapeGood (length s) rows tape) where
-  row-holds : (fuel n : ℕ) → n < rows → rows ≤ n + fuel
+  row_holds : (fuel n : ℕ) → n < rows → rows ≤ n + fuel
       → FoundIs s rows tape (members_at s rows tape n) name (row_from s tape name fuel n)
   unfolding row_from member_of
-  row-holds zero n h l = absurd (omega arith)
-  row-holds (suc fuel) n h l =
+  row_holds zero n h l = absurd (omega arith)
+  row_holds (suc fuel) n h l =
       let row = row_at tape n in
       let next = row_number row 8 in
-      rw (good-step s (length s) rows tape n g h)
+      rw (good_step s (length s) rows tape n g h)
       (by_cond (λ o. FoundIs s rows tape (walked s rows tape n row) name o) (same name (part s (row_number row 1) (row_number row 2)))
       (λ e. record { is = rw e; there = h })
       (λ e. by_cond (λ o. FoundIs s rows tape (walked s rows tape n row) name o) (eqb next 0)
       (λ z. record { is = rw (e, z); there = tt })
       (λ z.
       let u = (g.rows n h).next (let q = eqb-false next 0 z in omega arith) in
-      let k = row-holds fuel next u.1 (omega arith) in
+      let k = row_holds fuel next u.1 (omega arith) in
       record { is = rw (e, z) k.is; there = k.there })))
 
-  pub member-holds : (first inside : ℕ) → Begins rows first inside
+  pub member_holds : (first inside : ℕ) → Begins rows first inside
       → FoundIs s rows tape (linked s rows tape inside first) name (member_row s tape rows first inside name)
   unfolding member_of
-  member-holds first inside b =
+  member_holds first inside b =
       by (eqb inside 0) refl
     where
       by : (z : Bool) → eqb inside 0 ≡ z
           → FoundIs s rows tape (cond z Data.no_more (members_at s rows tape first)) name
           (cond z none (row_from s tape name rows first))
       by true e = record { is = refl; there = tt }
-      by false e = row-holds rows first (b.there (let q = eqb-false inside 0 e in omega arith)) (omega arith)
+      by false e = row_holds rows first (b.there (let q = eqb-false inside 0 e in omega arith)) (omega arith)
 
 -- where the value of a row that holds a string or a word lies
 module _ (s : List ℕ) (rows : ℕ) (tape : List ℕ) (n start end : ℕ) (g : TapeGood (length s) rows tape)
     (l : LeafRow rows tape n) (es : start ≡ row_number (row_at tape n) 6) (ee : end ≡ row_number (row_at tape n) 7) where
-  pub value-order : start ≤ end
-  value-order = let r = (g.rows n l.there).value l.leaf in omega arith
+  pub value_order : start ≤ end
+  value_order = let r = (g.rows n l.there).value l.leaf in omega arith
 
   pub value-ends : end ≤ length s
   value-ends = let r = (g.rows n l.there).value l.leaf in omega arith

@@ -16,10 +16,10 @@ use Rattle.lexis.proofs.Cases.{and_left, and_right}
 abbrev pub alike : Bool → Bool → Bool
 alike x y = cond x y (not y)
 
-alike-eq : (x y : Bool) → alike x y ≡ true → x ≡ y
-alike-eq true y h = sym h
-alike-eq false true h = h
-alike-eq false false h = refl
+alike_eq : (x y : Bool) → alike x y ≡ true → x ≡ y
+alike_eq true y h = sym h
+alike_eq false true h = h
+alike_eq false false h = refl
 
 -- n numbers from one on pass a test
 abbrev pub passes : (ℕ → Bool) → ℕ → ℕ → Bool
@@ -33,7 +33,7 @@ agree g f low zero t b h k = absurd (omega arith)
 agree g f low (suc n) t b h k =
     let here = alike (g low) (f low) in
     let more = passes (λ x. alike (g x) (f x)) (suc low) n in
-    by_place (dec_lt low b) (alike-eq (g low) (f low) (and_left here more t)) (λ l. agree g f (suc low) n (and_right here more t) b l (omega arith))
+    by_place (dec_lt low b) (alike_eq (g low) (f low) (and_left here more t)) (λ l. agree g f (suc low) n (and_right here more t) b l (omega arith))
   where
     by_place : Dec (low < b) → g low ≡ f low → (low < b → g b ≡ f b) → g b ≡ f b
     by_place (yes l) p q = q l
@@ -44,9 +44,9 @@ and-true true = refl
 and-true false = refl
 
 -- a byte other than the two that no string holds
-pub string-last : (b : ℕ) → 32 ≤ b → (b ≡ 34 → ⊥) → (b ≡ 92 → ⊥) → leb b 126 ≡ string_byte b
+pub string_last : (b : ℕ) → 32 ≤ b → (b ≡ 34 → ⊥) → (b ≡ 92 → ⊥) → leb b 126 ≡ string_byte b
 unfolding string_byte
-string-last b h n m = rw (le-leb 32 b h, ne_eqb b 34 n, ne_eqb b 92 m) (and-true (leb b 126))
+string_last b h n m = rw (le-leb 32 b h, ne_eqb b 34 n, ne_eqb b 92 m) (and-true (leb b 126))
 
 -- a byte of words is one of runs
 pub run-word : (b : ℕ) (r : Bool) → r ≡ word_byte b → r ≡ true → true ≡ run_byte b
@@ -54,8 +54,8 @@ unfolding run_byte
 run-word b r h e = rw (← h, e)
 
 -- a byte that is none of three that runs hold besides the bytes of words
-pub mark-last : (b : ℕ) → (b ≡ 43 → ⊥) → (b ≡ 45 → ⊥) → (b ≡ 46 → ⊥) → eqb b 58 ≡ run_mark b
-mark-last b n m k = rw (ne_eqb b 43 n, ne_eqb b 45 m, ne_eqb b 46 k) (or-false (eqb b 58))
+pub mark_last : (b : ℕ) → (b ≡ 43 → ⊥) → (b ≡ 45 → ⊥) → (b ≡ 46 → ⊥) → eqb b 58 ≡ run_mark b
+mark_last b n m k = rw (ne_eqb b 43 n, ne_eqb b 45 m, ne_eqb b 46 k) (or-false (eqb b 58))
   where
     or-false : (x : Bool) → x ≡ (x || false)
     or-false true = refl
@@ -71,6 +71,6 @@ abbrev pub sorts_right : List ℕ → Bool
 sorts_right sorts = passes (λ b. eqb (get_or sorts b 0) (sort_of b)) 0 256
 
 -- what the test says of each entry
-pub sort-entry : (sorts : List ℕ) → sorts_right sorts ≡ true → (b : ℕ) → b < 256 → get_or sorts b 0 ≡ sort_of b
-sort-entry sorts t b h =
+pub sort_entry : (sorts : List ℕ) → sorts_right sorts ≡ true → (b : ℕ) → b < 256 → get_or sorts b 0 ≡ sort_of b
+sort_entry sorts t b h =
     eqb-true (get_or sorts b 0) (sort_of b) (sym (agree (λ x. true) (λ x. eqb (get_or sorts x 0) (sort_of x)) 0 256 t b (omega arith) h))

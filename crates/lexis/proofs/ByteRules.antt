@@ -15,19 +15,19 @@ use Rattle.lexis.specs.Bytes
 use Rattle.lexis.specs.Runs.{past, part, all, StandsAt}
 use Rattle.lexis.proofs.Cases.{by_cond, and_left, and_right}
 use Rattle.lexis.proofs.ByteLaws.{agree, alike, passes}
-use Rattle.lexis.proofs.RunLaws.{part-read, behind}
+use Rattle.lexis.proofs.RunLaws.{part_read, behind}
 use Rattle.lexis.proofs.Parts.{part_length}
-use Rattle.lexis.proofs.Places.{capital-word, small_word, past-between}
+use Rattle.lexis.proofs.Places.{capital-word, small_word, past_between}
 use Rattle.lexis.specs.SpellingRules.{Digit, Small, Capital, WordByte, RunByte, StringByte, All}
 use Rattle.lexis.specs.LongestMatch.{LineEnd, Blank}
-use Rattle.lexis.proofs.TestLaws.{true-or-false, false-true, or_left, or_cases, and_both}
+use Rattle.lexis.proofs.TestLaws.{true_or_false, false_true, or_left, or_cases, and_both}
 
 -- a test that fails does not pass
 pub never : {P : Type 0} → false ≡ true → P
-never e = absurd (false-true e)
+never e = absurd (false_true e)
 
 -- what holds of each sort, where the byte is such, holds of the byte's sort
-by-sort : (P : ℕ → Type 0) (b : ℕ) → (among b blanks ≡ true → P Bytes.blank)
+by_sort : (P : ℕ → Type 0) (b : ℕ) → (among b blanks ≡ true → P Bytes.blank)
     → (within (byte "0") (byte "9") b ≡ true → P Bytes.digit)
     → (within (byte "a") (byte "z") b ≡ true → P Bytes.small)
     → (within (byte "A") (byte "Z") b ≡ true → P Bytes.capital)
@@ -35,7 +35,7 @@ by-sort : (P : ℕ → Type 0) (b : ℕ) → (among b blanks ≡ true → P Byte
     → P Bytes.other
     → P (sort_of b)
 unfolding sort_of
-by-sort P b blank digit small capital mark other =
+by_sort P b blank digit small capital mark other =
     by_cond P (among b blanks) blank (λ e.
     by_cond P (within (byte "0") (byte "9") b) digit (λ e.
     by_cond P (within (byte "a") (byte "z") b) small (λ e.
@@ -56,7 +56,7 @@ row sort x n t b h k = sym (agree (λ y. true) (is sort) x n t b h k)
 pub is_digit : (b : ℕ) → (is Bytes.digit b ≡ true) ↔ Digit b
 unfolding sort_of
 is_digit b = (
-  by-sort (λ x. eqb x Bytes.digit ≡ true → Digit b) b
+  by_sort (λ x. eqb x Bytes.digit ≡ true → Digit b) b
       (λ k. never) (λ k e. Digit.digit (low _ _ b k) (high _ _ b k)) (λ k. never) (λ k. never) never never,
   of,
 )
@@ -64,10 +64,10 @@ is_digit b = (
     of : Digit b → is Bytes.digit b ≡ true
     of (Digit.digit l h) = row Bytes.digit (byte "0") 10 refl b l (omega arith)
 
-pub is-small : (b : ℕ) → (is Bytes.small b ≡ true) ↔ Small b
+pub is_small : (b : ℕ) → (is Bytes.small b ≡ true) ↔ Small b
 unfolding sort_of
-is-small b = (
-  by-sort (λ x. eqb x Bytes.small ≡ true → Small b) b
+is_small b = (
+  by_sort (λ x. eqb x Bytes.small ≡ true → Small b) b
       (λ k. never) (λ k. never) (λ k e. Small.small (low _ _ b k) (high _ _ b k)) (λ k. never) never never,
   of,
 )
@@ -75,10 +75,10 @@ is-small b = (
     of : Small b → is Bytes.small b ≡ true
     of (Small.small l h) = row Bytes.small (byte "a") 26 refl b l (omega arith)
 
-pub is-capital : (b : ℕ) → (is Bytes.capital b ≡ true) ↔ Capital b
+pub is_capital : (b : ℕ) → (is Bytes.capital b ≡ true) ↔ Capital b
 unfolding sort_of
-is-capital b = (
-  by-sort (λ x. eqb x Bytes.capital ≡ true → Capital b) b
+is_capital b = (
+  by_sort (λ x. eqb x Bytes.capital ≡ true → Capital b) b
       (λ k. never) (λ k. never) (λ k. never) (λ k e. Capital.capital (low _ _ b k) (high _ _ b k)) never never,
   of,
 )
@@ -90,65 +90,65 @@ is-capital b = (
 among_cases : (P : ℕ → Type 0) (b x : ℕ) (xs : List ℕ) → among b (x ∷ xs) ≡ true → P x → (among b xs ≡ true → P b) → P b
 among_cases P b x xs h p f = or_cases (eqb b x) (among b xs) h (λ e. subst P (sym (eqb-true b x e)) p) f
 
-of-line-end : {b : ℕ} → LineEnd b → line_end b ≡ true
+of_line_end : {b : ℕ} → LineEnd b → line_end b ≡ true
 unfolding line_end
-of-line-end LineEnd.return = refl
-of-line-end LineEnd.feed = refl
+of_line_end LineEnd.return = refl
+of_line_end LineEnd.feed = refl
 
-pub is-line-end : (b : ℕ) → (line_end b ≡ true) ↔ LineEnd b
+pub is_line_end : (b : ℕ) → (line_end b ≡ true) ↔ LineEnd b
 unfolding line_end
-is-line-end b = (λ h. among_cases LineEnd b (byte "\r") (bytes "\n") h LineEnd.return (λ e. among_cases LineEnd b (byte "\n") [] e LineEnd.feed never), of-line-end)
+is_line_end b = (λ h. among_cases LineEnd b (byte "\r") (bytes "\n") h LineEnd.return (λ e. among_cases LineEnd b (byte "\n") [] e LineEnd.feed never), of_line_end)
 
 among-blanks : (b : ℕ) → among b blanks ≡ true → Blank b
 unfolding line_end
 among-blanks b h =
     among_cases Blank b (byte " ") (bytes "\t\r\n") h Blank.space (λ e.
-    among_cases Blank b (byte "\t") (bytes "\r\n") e Blank.tab (λ f. Blank.line_end ((is-line-end b).0 f)))
+    among_cases Blank b (byte "\t") (bytes "\r\n") e Blank.tab (λ f. Blank.line_end ((is_line_end b).0 f)))
 
-of-blank : {b : ℕ} → Blank b → is Bytes.blank b ≡ true
+of_blank : {b : ℕ} → Blank b → is Bytes.blank b ≡ true
 unfolding sort_of
-of-blank Blank.space = refl
-of-blank Blank.tab = refl
-of-blank (Blank.line_end LineEnd.return) = refl
-of-blank (Blank.line_end LineEnd.feed) = refl
+of_blank Blank.space = refl
+of_blank Blank.tab = refl
+of_blank (Blank.line_end LineEnd.return) = refl
+of_blank (Blank.line_end LineEnd.feed) = refl
 
-pub is-blank : (b : ℕ) → (is Bytes.blank b ≡ true) ↔ Blank b
-is-blank b = (by-sort (λ x. eqb x Bytes.blank ≡ true → Blank b) b (λ k e. among-blanks b k) (λ k. never) (λ k. never) (λ k. never) never never, of-blank)
+pub is_blank : (b : ℕ) → (is Bytes.blank b ≡ true) ↔ Blank b
+is_blank b = (by_sort (λ x. eqb x Bytes.blank ≡ true → Blank b) b (λ k e. among-blanks b k) (λ k. never) (λ k. never) (λ k. never) never never, of_blank)
 
-of-word-byte : {b : ℕ} → WordByte b → word_byte b ≡ true
+of_word-byte : {b : ℕ} → WordByte b → word_byte b ≡ true
 unfolding word_byte sort_of
-of-word-byte {b} (WordByte.small h) = small_word b ((is-small b).1 h)
-of-word-byte {b} (WordByte.capital h) = capital-word b ((is-capital b).1 h)
-of-word-byte {b} (WordByte.digit h) = rw ((is_digit b).1 h, or-true)
-of-word-byte WordByte.underscore = refl
+of_word-byte {b} (WordByte.small h) = small_word b ((is_small b).1 h)
+of_word-byte {b} (WordByte.capital h) = capital-word b ((is_capital b).1 h)
+of_word-byte {b} (WordByte.digit h) = rw ((is_digit b).1 h, or-true)
+of_word-byte WordByte.underscore = refl
 
-pub is-word-byte : (b : ℕ) → (word_byte b ≡ true) ↔ WordByte b
+pub is_word-byte : (b : ℕ) → (word_byte b ≡ true) ↔ WordByte b
 unfolding word_byte
-is-word-byte b = (to, of-word-byte)
+is_word-byte b = (to, of_word-byte)
   where
     to : word_byte b ≡ true → WordByte b
     to h =
         or_cases _ (eqb b (byte "_")) h
         (λ k. or_cases _ (is Bytes.digit b) k
-        (λ l. or_cases (is Bytes.small b) (is Bytes.capital b) l (λ e. WordByte.small ((is-small b).0 e)) (λ e. WordByte.capital ((is-capital b).0 e)))
+        (λ l. or_cases (is Bytes.small b) (is Bytes.capital b) l (λ e. WordByte.small ((is_small b).0 e)) (λ e. WordByte.capital ((is_capital b).0 e)))
         (λ e. WordByte.digit ((is_digit b).0 e)))
         (λ e. subst WordByte (sym (eqb-true b (byte "_") e)) WordByte.underscore)
 
-of-run-byte : {b : ℕ} → RunByte b → run_byte b ≡ true
+of_run-byte : {b : ℕ} → RunByte b → run_byte b ≡ true
 unfolding run_byte word_byte sort_of
-of-run-byte {b} (RunByte.word h) = or_left (word_byte b) _ ((is-word-byte b).1 h)
-of-run-byte RunByte.plus = refl
-of-run-byte RunByte.minus = refl
-of-run-byte RunByte.dot = refl
-of-run-byte RunByte.colon = refl
+of_run-byte {b} (RunByte.word h) = or_left (word_byte b) _ ((is_word-byte b).1 h)
+of_run-byte RunByte.plus = refl
+of_run-byte RunByte.minus = refl
+of_run-byte RunByte.dot = refl
+of_run-byte RunByte.colon = refl
 
-pub is-run-byte : (b : ℕ) → (run_byte b ≡ true) ↔ RunByte b
+pub is_run-byte : (b : ℕ) → (run_byte b ≡ true) ↔ RunByte b
 unfolding run_byte
-is-run-byte b = (to, of-run-byte)
+is_run-byte b = (to, of_run-byte)
   where
     to : run_byte b ≡ true → RunByte b
     to h =
-        or_cases (word_byte b) (among b (bytes "+-.:")) h (λ e. RunByte.word ((is-word-byte b).0 e)) (λ k.
+        or_cases (word_byte b) (among b (bytes "+-.:")) h (λ e. RunByte.word ((is_word-byte b).0 e)) (λ k.
         among_cases RunByte b (byte "+") (bytes "-.:") k RunByte.plus (λ l.
         among_cases RunByte b (byte "-") (bytes ".:") l RunByte.minus (λ m.
         among_cases RunByte b (byte ".") (bytes ":") m RunByte.dot (λ n.
@@ -157,11 +157,11 @@ is-run-byte b = (to, of-run-byte)
 -- neither of two bytes
 neither : (b x y : ℕ) → cond (among b (x ∷ y ∷ [])) false true ≡ true → (b ≢ x) × (b ≢ y)
 neither b x y h =
-    (λ e. false-true (rw (eq-eqb b x e) at h), λ e. false-true (rw (eq-eqb b y e, or-true) at h))
+    (λ e. false_true (rw (eq-eqb b x e) at h), λ e. false_true (rw (eq-eqb b y e, or-true) at h))
 
-pub is-string-byte : (b : ℕ) → (string_byte b ≡ true) ↔ StringByte b
+pub is_string-byte : (b : ℕ) → (string_byte b ≡ true) ↔ StringByte b
 unfolding string_byte
-is-string-byte b = (to, of)
+is_string-byte b = (to, of)
   where
     to : string_byte b ≡ true → StringByte b
     to h =
@@ -173,18 +173,18 @@ is-string-byte b = (to, of)
     of (StringByte.string_byte l k m n) = rw (le-leb 0x20 b l, le-leb b 0x7E k, ne_eqb b (byte "\"") m, ne_eqb b (byte "\\") n)
 
 -- lists by their first element
-pub empty-cons : {b : ℕ} {bs : List ℕ} → [] ≡ b ∷ bs → ⊥
-empty-cons e = let n = ap length e in omega arith
+pub empty_cons : {b : ℕ} {bs : List ℕ} → [] ≡ b ∷ bs → ⊥
+empty_cons e = let n = ap length e in omega arith
 
-pub cons-first : {b c : ℕ} {bs cs : List ℕ} → b ∷ bs ≡ c ∷ cs → b ≡ c
-cons-first {b} {c} {bs} {cs} e = cc
+pub cons_first : {b c : ℕ} {bs cs : List ℕ} → b ∷ bs ≡ c ∷ cs → b ≡ c
+cons_first {b} {c} {bs} {cs} e = cc
 
 -- all bytes pass a test where all are such
 module _ (Such : ℕ → Type 0) (test : ℕ → Bool) (rule : (b : ℕ) → (test b ≡ true) ↔ Such b) where
-  all-to : (w : List ℕ) → all test w ≡ true → All Such w
+  all_to : (w : List ℕ) → all test w ≡ true → All Such w
   unfolding all
-  all-to [] h = All.none
-  all-to (b ∷ w) h = All.more ((rule b).0 (and_left (test b) (all test w) h)) (all-to w (and_right (test b) (all test w) h))
+  all_to [] h = All.none
+  all_to (b ∷ w) h = All.more ((rule b).0 (and_left (test b) (all test w) h)) (all_to w (and_right (test b) (all test w) h))
 
   all_of : {w : List ℕ} → All Such w → all test w ≡ true
   unfolding all
@@ -192,18 +192,18 @@ module _ (Such : ℕ → Type 0) (test : ℕ → Bool) (rule : (b : ℕ) → (te
   all_of (All.more {b = b} {w = w} h t) = and_both (test b) (all test w) ((rule b).1 h) (all_of t)
 
   pub is_all : (w : List ℕ) → (all test w ≡ true) ↔ All Such w
-  is_all w = (all-to w, all_of)
+  is_all w = (all_to w, all_of)
 
 -- bytes that stand at a place, and what follows them
-pub stands-split : (s : List ℕ) (at : ℕ) (w : List ℕ) → StandsAt s at w → drop at s ≡ w ++ drop (at + length w) s
-stands-split s at w h = rw (h, drop-drop) at (sym (take-append-drop (length w) (drop at s)))
+pub stands_split : (s : List ℕ) (at : ℕ) (w : List ℕ) → StandsAt s at w → drop at s ≡ w ++ drop (at + length w) s
+stands_split s at w h = rw (h, drop-drop) at (sym (take-append-drop (length w) (drop at s)))
 
-pub split-stands : (s : List ℕ) (at : ℕ) (w rest : List ℕ) → drop at s ≡ w ++ rest → StandsAt s at w
-split-stands s at w rest h = rw h (take-append_seam w rest)
+pub split_stands : (s : List ℕ) (at : ℕ) (w rest : List ℕ) → drop at s ≡ w ++ rest → StandsAt s at w
+split_stands s at w rest h = rw h (take-append_seam w rest)
 
 -- a part of the text, and what follows it
-pub part-splits : (s : List ℕ) (at end : ℕ) → at ≤ end → drop at s ≡ part s at end ++ drop end s
-part-splits s at end h =
+pub part_splits : (s : List ℕ) (at end : ℕ) → at ≤ end → drop at s ≡ part s at end ++ drop end s
+part_splits s at end h =
     let e : at + (end - at) ≡ end = omega arith in
     rw (drop-drop, e) at (sym (take-append-drop (end - at) (drop at s)))
 
@@ -218,12 +218,12 @@ past_end test at (b ∷ w) rest a n =
     rw (and_left (test b) (all test w) a, past_end test (at + 1) w rest (and_right (test b) (all test w) a) n) (omega arith)
 
 -- it does not end before them
-pub past-least : (test : ℕ → Bool) (at : ℕ) (w rest : List ℕ) → all test w ≡ true
+pub past_least : (test : ℕ → Bool) (at : ℕ) (w rest : List ℕ) → all test w ≡ true
     → at + length w ≤ past test at (w ++ rest)
 unfolding past all
-past-least test at [] rest a = let h = past-between test at rest in omega arith
-past-least test at (b ∷ w) rest a =
-    let h = past-least test (at + 1) w rest (and_right (test b) (all test w) a) in
+past_least test at [] rest a = let h = past_between test at rest in omega arith
+past_least test at (b ∷ w) rest a =
+    let h = past_least test (at + 1) w rest (and_right (test b) (all test w) a) in
     rw (and_left (test b) (all test w) a) (omega arith)
 
 -- bytes by a test: those that pass, and the rest from the first on that fails
@@ -235,28 +235,28 @@ pub record Splits (test : ℕ → Bool) (at : ℕ) (bs : List ℕ) : Type 0 wher
   pub pass : all test run ≡ true
   pub fails : (b : ℕ) (cs : List ℕ) → rest ≡ b ∷ cs → test b ≡ false
 
-pub past-splits : (test : ℕ → Bool) (at : ℕ) (bs : List ℕ) → Splits test at bs
+pub past_splits : (test : ℕ → Bool) (at : ℕ) (bs : List ℕ) → Splits test at bs
 unfolding past all
-past-splits test at [] = record { run = []; rest = []; both = refl; end = omega arith; pass = refl; fails = λ b cs e. absurd (empty-cons e) }
-past-splits test at (b ∷ bs) =
-    let m = past-splits test (at + 1) bs in
-    true-or-false (test b)
+past_splits test at [] = record { run = []; rest = []; both = refl; end = omega arith; pass = refl; fails = λ b cs e. absurd (empty_cons e) }
+past_splits test at (b ∷ bs) =
+    let m = past_splits test (at + 1) bs in
+    true_or_false (test b)
     (λ e. record { run = b ∷ m.run; rest = m.rest; both = ap (λ l. b ∷ l) m.both; end = rw (e, m.end) (omega arith); pass = rw (e, m.pass); fails = m.fails })
-    (λ e. record { run = []; rest = b ∷ bs; both = refl; end = rw e (omega arith); pass = refl; fails = λ c cs f. rw (cons-first f) at e })
+    (λ e. record { run = []; rest = b ∷ bs; both = refl; end = rw e (omega arith); pass = refl; fails = λ c cs f. rw (cons_first f) at e })
 
 module _ (test : ℕ → Bool) (s : List ℕ) (at : ℕ) where
   -- the bytes of a text before a run's end pass
   pub past_all : all test (part s at (past test at (drop at s))) ≡ true
   past_all =
-      let m = past-splits test at (drop at s) in
-      rw (m.end, part-read s at m.run m.rest m.both) m.pass
+      let m = past_splits test at (drop at s) in
+      rw (m.end, part_read s at m.run m.rest m.both) m.pass
 
   -- the byte at a run's end, if there is one, does not
   pub past_next : (b : ℕ) → StandsAt s (past test at (drop at s)) (b ∷ []) → test b ≡ false
   past_next b h =
-      let m = past-splits test at (drop at s) in
+      let m = past_splits test at (drop at s) in
       let e = past test at (drop at s) in
-      let f : m.rest ≡ b ∷ drop (e + 1) s = sym (rw (← m.end) at (behind s at m.run m.rest m.both)) ∙ stands-split s e (b ∷ []) h in
+      let f : m.rest ≡ b ∷ drop (e + 1) s = sym (rw (← m.end) at (behind s at m.run m.rest m.both)) ∙ stands_split s e (b ∷ []) h in
       m.fails b (drop (e + 1) s) f
 
   -- the end of a run is the one place before which all bytes pass, and at which none does
@@ -265,5 +265,5 @@ module _ (test : ℕ → Bool) (s : List ℕ) (at : ℕ) where
       → past test at (drop at s) ≡ end
   past_is end h k a n =
       let l = part_length s at end k in
-      let e = past_end test at (part s at end) (drop end s) a (λ b bs f. n b (split-stands s end (b ∷ []) bs f)) in
-      ap (past test at) (part-splits s at end h) ∙ e ∙ omega arith
+      let e = past_end test at (part s at end) (drop end s) a (λ b bs f. n b (split_stands s end (b ∷ []) bs f)) in
+      ap (past test at) (part_splits s at end h) ∙ e ∙ omega arith

@@ -6,7 +6,7 @@ use Prim.Native.Nat.{ℕ, ◌+◌, ◌<◌}
 use native.Mathlib.Omega.{arith}
 use lib.ListN.{length}
 use Rattle.lexis.specs.Runs.{byte_at, same}
-use Rattle.lexis.proofs.RunSteps.{InBoth, both_first, both_end, both_out, both-on}
+use Rattle.lexis.proofs.RunSteps.{InBoth, both_first, both_end, both_out, both_on}
 
 -- at byte i of two names of one length
 pub record InBytes (a b : List ℕ) (i : ℕ) (again : Bool) : Type 0 where
@@ -17,18 +17,18 @@ pub bytes-start : (a b : List ℕ) (again : Bool) → again ≡ false → length
 bytes-start a b again k e = record { not_yet = k; both = both_first a b e }
 
 module _ (a b : List ℕ) (i : ℕ) (again : Bool) (inv : InBytes a b i again) where
-  pub bytes-end : i ≡ length a → true ≡ same a b
-  bytes-end e = both_end a b i inv.both (omega arith)
+  pub bytes_end : i ≡ length a → true ≡ same a b
+  bytes_end e = both_end a b i inv.both (omega arith)
 
   module _ (k : i ≡ length a → ⊥) where
-    pub bytes-in : i < length a
-    bytes-in = let h = inv.both.high in omega arith
+    pub bytes_in : i < length a
+    bytes_in = let h = inv.both.high in omega arith
 
-    pub bytes-there : i < length b
-    bytes-there = let h = bytes-in in let l = inv.both.long in omega arith
+    pub bytes_there : i < length b
+    bytes_there = let h = bytes_in in let l = inv.both.long in omega arith
 
-    pub bytes-differ : (byte_at a i ≡ byte_at b i → ⊥) → false ≡ same a b
-    bytes-differ d = both_out a b i inv.both bytes-in d
+    pub bytes_differ : (byte_at a i ≡ byte_at b i → ⊥) → false ≡ same a b
+    bytes_differ d = both_out a b i inv.both bytes_in d
 
     pub bytes_on : byte_at a i ≡ byte_at b i → InBytes a b (i + 1) again
-    bytes_on e = record { not_yet = inv.not_yet; both = both-on a b i inv.both bytes-in e }
+    bytes_on e = record { not_yet = inv.not_yet; both = both_on a b i inv.both bytes_in e }

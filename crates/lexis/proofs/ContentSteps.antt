@@ -21,38 +21,38 @@ use Rattle.lexis.proofs.Places.{Found, token-found}
 use Rattle.lexis.proofs.TokenSteps.{promised}
 
 -- the next token is `}`
-pub closing-told : (s : List ℕ) (from : ℕ) (t : Token) → TokenIs s from (token_at s from) t
+pub closing_told : (s : List ℕ) (from : ℕ) (t : Token) → TokenIs s from (token_at s from) t
     → eqb t.sort close_brace ≡ eqb (token_at s from).sort close_brace
-closing-told s from t p = ap (λ u. eqb u.sort close_brace) p.is
+closing_told s from t p = ap (λ u. eqb u.sort close_brace) p.is
 
 -- the first byte of a part that has one
-first-of-part : (s : List ℕ) (start end : ℕ) → start < end → byte_at (part s start end) 0 ≡ byte_at s start
-first-of-part s start end l =
+first_of_part : (s : List ℕ) (start end : ℕ) → start < end → byte_at (part s start end) 0 ≡ byte_at s start
+first_of_part s start end l =
     let e = get_or-take (end - start) (drop start s) 0 0 (omega arith) in
     let f = get_or-drop start s 0 0 in
     e ∙ rw add-zero at f
 
 -- a TYPE where a value may stand
 module _ (s : List ℕ) (t : Token) (d : TypeThere s t) where
-  pub type-other : (byte_at s t.start ≡ byte "P" → ⊥) → t ≡ pattern_or s t (pattern_slots (spelling s t))
+  pub type_other : (byte_at s t.start ≡ byte "P" → ⊥) → t ≡ pattern_or s t (pattern_slots (spelling s t))
   unfolding pattern_slots slots_of
-  type-other n = rw (first-of-part s t.start t.end d.order, ne_eqb (byte_at s t.start) (byte "P") n) refl
+  type_other n = rw (first_of_part s t.start t.end d.order, ne_eqb (byte_at s t.start) (byte "P") n) refl
 
   module _ (flag : ℕ) (q : FlagIs (pattern_slots (part s t.start t.end)) flag) where
-    pub type-no-pattern : flag < 1 → t ≡ pattern_or s t (pattern_slots (spelling s t))
-    type-no-pattern l = rw (← q.is, lt-leb 1 flag l) refl
+    pub type_no_pattern : flag < 1 → t ≡ pattern_or s t (pattern_slots (spelling s t))
+    type_no_pattern l = rw (← q.is, lt-leb 1 flag l) refl
 
     module _ (l : 1 ≤ flag) (r : Bool) (p : r ≡ eqb (token_at s t.end).sort close_brace) where
-      pub type-stays : not r ≡ true → t ≡ pattern_or s t (pattern_slots (spelling s t))
-      type-stays e = rw (← q.is, le-leb 1 flag l, ← p, not-true r e) refl
+      pub type_stays : not r ≡ true → t ≡ pattern_or s t (pattern_slots (spelling s t))
+      type_stays e = rw (← q.is, le-leb 1 flag l, ← p, not-true r e) refl
 
-      pub type-pattern : not r ≡ false → token (duration_pattern + flag) t.start t.end ≡ pattern_or s t (pattern_slots (spelling s t))
-      type-pattern e = rw (← q.is, le-leb 1 flag l, ← p, not-false r e) refl
+      pub type_pattern : not r ≡ false → token (duration_pattern + flag) t.start t.end ≡ pattern_or s t (pattern_slots (spelling s t))
+      type_pattern e = rw (← q.is, le-leb 1 flag l, ← p, not-false r e) refl
 
 -- a TYPE that was read
-pub type-there : (s : List ℕ) (from : ℕ) (t : Token) → TokenIs s from (token_at s from) t → t.sort ≡ type_name
+pub type_there : (s : List ℕ) (from : ℕ) (t : Token) → TokenIs s from (token_at s from) t → t.sort ≡ type_name
     → TypeThere s t
-type-there s from t p e = record { is = e; order = p.strict (omega (arith, e)); inside = p.inside }
+type_there s from t p e = record { is = e; order = p.strict (omega (arith, e)); inside = p.inside }
 
 -- a token where a value may stand lies where the next token lies
 found_as : (s : List ℕ) (from : ℕ) (t : Token) (sort : ℕ) → Found s from t → t.sort ≡ type_name
@@ -64,35 +64,35 @@ found_as s from t sort f e = record {
   strict = λ m n. f.strict (λ z. omega (arith, e, z)) (λ z. omega (arith, e, z));
 }
 
-pub flag-type : (s : List ℕ) (t : Token) → leb 1 (duration_flag s t) ≡ true → t.sort ≡ type_name
-flag-type s t h = by (eqb t.sort type_name) refl h
+pub flag_type : (s : List ℕ) (t : Token) → leb 1 (duration_flag s t) ≡ true → t.sort ≡ type_name
+flag_type s t h = by (eqb t.sort type_name) refl h
   where
     by : (b : Bool) → eqb t.sort type_name ≡ b → leb 1 (cond b (pattern_slots (spelling s t)) 0) ≡ true → t.sort ≡ type_name
     by true e k = eqb-true t.sort type_name e
     by false e k = absurd (omega (arith, leb-true 1 0 k))
 
-pub content-found : (s : List ℕ) (from : ℕ) → from ≤ length s → Found s from (content_token_at s from)
+pub content_found : (s : List ℕ) (from : ℕ) → from ≤ length s → Found s from (content_token_at s from)
 unfolding content_token_at
-content-found s from h =
+content_found s from h =
     let t = token_at s from in
     let f = token-found s from h in
     by_cond (Found s from) (leb 1 (duration_flag s t) && eqb (token_at s t.end).sort close_brace)
-    (λ e. found_as s from t _ f (flag-type s t (and_left (leb 1 (duration_flag s t)) (eqb (token_at s t.end).sort close_brace) e)))
+    (λ e. found_as s from t _ f (flag_type s t (and_left (leb 1 (duration_flag s t)) (eqb (token_at s t.end).sort close_brace) e)))
     (λ e. f)
 
 -- the next token where a value may stand
 module _ (s : List ℕ) (from : ℕ) (h : from ≤ length s) (t : Token) (p : TokenIs s from (token_at s from) t) where
-  pub content-type : (r : Token) → t.sort ≡ type_name → r ≡ pattern_or s t (pattern_slots (spelling s t))
+  pub content_type : (r : Token) → t.sort ≡ type_name → r ≡ pattern_or s t (pattern_slots (spelling s t))
       → TokenIs s from (content_token_at s from) r
   unfolding content_token_at
-  content-type r e q = promised s from (content_token_at s from) r (q ∙ as-content t p.is e) (content-found s from h)
+  content_type r e q = promised s from (content_token_at s from) r (q ∙ as_content t p.is e) (content_found s from h)
     where
-      as-content : (u : Token) → u ≡ token_at s from → u.sort ≡ type_name → pattern_or s u (pattern_slots (spelling s u)) ≡ content_token_at s from
-      as-content u i k = rw (← i, eq-eqb u.sort type_name k) refl
+      as_content : (u : Token) → u ≡ token_at s from → u.sort ≡ type_name → pattern_or s u (pattern_slots (spelling s u)) ≡ content_token_at s from
+      as_content u i k = rw (← i, eq-eqb u.sort type_name k) refl
 
-  pub content-other : (t.sort ≡ type_name → ⊥) → TokenIs s from (content_token_at s from) t
+  pub content_other : (t.sort ≡ type_name → ⊥) → TokenIs s from (content_token_at s from) t
   unfolding content_token_at
-  content-other n = promised s from (content_token_at s from) t (as-content t p.is n) (content-found s from h)
+  content_other n = promised s from (content_token_at s from) t (as_content t p.is n) (content_found s from h)
     where
-      as-content : (u : Token) → u ≡ token_at s from → (u.sort ≡ type_name → ⊥) → u ≡ content_token_at s from
-      as-content u i k = rw (← i, ne_eqb u.sort type_name k) refl
+      as_content : (u : Token) → u ≡ token_at s from → (u.sort ≡ type_name → ⊥) → u ≡ content_token_at s from
+      as_content u i k = rw (← i, ne_eqb u.sort type_name k) refl

@@ -17,9 +17,9 @@ use Rattle.lexis.specs.Tokens.{token, no_token, spelled, quoted, text_end, type_
 use Rattle.lexis.specs.DataTokens.{data_marks, name_sort, run, data_token_on, data_token_at, type_token_at}
 use Rattle.lexis.specs.Clauses.Answers.{PlaceIs, WordEnds, TokenIs, run_mark, sorting}
 use Rattle.lexis.specs.declared.Token.{Token}
-use Rattle.lexis.proofs.Places.{past-between, drop-in}
+use Rattle.lexis.proofs.Places.{past_between, drop_in}
 use Rattle.lexis.proofs.ByteLaws.{run-word}
-use Rattle.lexis.proofs.DataPlaces.{data-token-found, type-token-found}
+use Rattle.lexis.proofs.DataPlaces.{data_token-found, type_token-found}
 use Rattle.lexis.proofs.TokenSteps.{promised}
 
 -- a run that may be a NAME or a TYPE
@@ -31,25 +31,25 @@ module _ (ls : List Literal) (w : List ℕ) (sort : ℕ) (whole : Bool) (p : who
     pub name-spelled : (k ≡ sort → ⊥) → 1 ≡ name_sort ls sort w
     name-spelled n = rw (← p, not-false whole e, ← q, ne_eqb k sort n)
 
-    pub name-is : k ≡ sort → sort ≡ name_sort ls sort w
-    name-is m = rw (← p, not-false whole e, ← q, eq-eqb k sort m)
+    pub name_is_lem : k ≡ sort → sort ≡ name_sort ls sort w
+    name_is_lem m = rw (← p, not-false whole e, ← q, eq-eqb k sort m)
 
 -- a byte of words is one of runs
-word-runs : (b : ℕ) → word_byte b ≡ true → run_byte b ≡ true
-word-runs b e = sym (run-word b (word_byte b) refl e)
+word_runs : (b : ℕ) → word_byte b ≡ true → run_byte b ≡ true
+word_runs b e = sym (run-word b (word_byte b) refl e)
 
 -- a run goes on behind another whose bytes it also has
-past-on : (f g : ℕ → Bool) → ((b : ℕ) → f b ≡ true → g b ≡ true) → (at : ℕ) (bs : List ℕ)
+past_on : (f g : ℕ → Bool) → ((b : ℕ) → f b ≡ true → g b ≡ true) → (at : ℕ) (bs : List ℕ)
     → past g (past f at bs) (drop (past f at bs - at) bs) ≡ past g at bs
 unfolding past
-past-on f g more at [] = rw drop-nil
-past-on f g more at (b ∷ bs) = by_byte (past-on f g more (at + 1) bs) (f b) refl
+past_on f g more at [] = rw drop-nil
+past_on f g more at (b ∷ bs) = by_byte (past_on f g more (at + 1) bs) (f b) refl
   where
     by_byte : past g (past f (at + 1) bs) (drop (past f (at + 1) bs - (at + 1)) bs) ≡ past g (at + 1) bs
         → (k : Bool) → f b ≡ k
         → past g (past f at (b ∷ bs)) (drop (past f at (b ∷ bs) - at) (b ∷ bs)) ≡ past g at (b ∷ bs)
     by_byte ih true e =
-        let l = (past-between f (at + 1) bs).least in
+        let l = (past_between f (at + 1) bs).least in
         let n : past f (at + 1) bs - at ≡ suc (past f (at + 1) bs - (at + 1)) = omega arith in
         rw (e, more b e, n) ih
     by_byte ih false e = let n : at - at ≡ 0 = omega arith in rw (e, n)
@@ -59,28 +59,28 @@ pub run_on : (f g : ℕ → Bool) → ((b : ℕ) → f b ≡ true → g b ≡ tr
     → PlaceIs s at (past f at (drop at s)) w → past g w (drop w s) ≡ past g at (drop at s)
 run_on f g more s at w p =
     let e : at + (w - at) ≡ w = omega (arith, p.low) in
-    rw (← p.is, drop-drop, e) at (past-on f g more at (drop at s))
+    rw (← p.is, drop-drop, e) at (past_on f g more at (drop at s))
 
 -- behind a run stands no byte of it
-past-stops : (f : ℕ → Bool) → f 0 ≡ false → (at : ℕ) (bs : List ℕ) → f (byte_at bs (past f at bs - at)) ≡ false
+past_stops : (f : ℕ → Bool) → f 0 ≡ false → (at : ℕ) (bs : List ℕ) → f (byte_at bs (past f at bs - at)) ≡ false
 unfolding past
-past-stops f z at [] = z
-past-stops f z at (b ∷ bs) = by_byte (past-stops f z (at + 1) bs) (f b) refl
+past_stops f z at [] = z
+past_stops f z at (b ∷ bs) = by_byte (past_stops f z (at + 1) bs) (f b) refl
   where
     by_byte : f (byte_at bs (past f (at + 1) bs - (at + 1))) ≡ false → (k : Bool) → f b ≡ k
         → f (byte_at (b ∷ bs) (past f at (b ∷ bs) - at)) ≡ false
     by_byte ih true e =
-        let l = (past-between f (at + 1) bs).least in
+        let l = (past_between f (at + 1) bs).least in
         let n : past f (at + 1) bs - at ≡ suc (past f (at + 1) bs - (at + 1)) = omega arith in
         rw (e, n) ih
     by_byte ih false e = let n : at - at ≡ 0 = omega arith in rw (e, n) e
 
 -- the word at a place ends where it stops
-pub word-stops : (s : List ℕ) (at w : ℕ) → PlaceIs s at (past word_byte at (drop at s)) w → WordEnds s w
+pub word_stops : (s : List ℕ) (at w : ℕ) → PlaceIs s at (past word_byte at (drop at s)) w → WordEnds s w
 unfolding word_byte sort_of
-word-stops s at w p =
+word_stops s at w p =
     let e : at + (w - at) ≡ w = omega (arith, p.low) in
-    record { inside = p.high; stops = rw (← p.is, get_or-drop at s, e) at (past-stops word_byte refl at (drop at s)) }
+    record { inside = p.high; stops = rw (← p.is, get_or-drop at s, e) at (past_stops word_byte refl at (drop at s)) }
 
 -- a run ends at a byte that it does not have
 pub run_ends : (g : ℕ → Bool) (s : List ℕ) (at : ℕ) → at ≤ length s → g (byte_at s at) ≡ false
@@ -89,21 +89,21 @@ unfolding past
 run_ends g s at h e = record { is = by_place (dec_lt at (length s)); low = omega arith; high = h }
   where
     by_place : Dec (at < length s) → at ≡ past g at (drop at s)
-    by_place (yes l) = rw (drop-in s at l, e)
+    by_place (yes l) = rw (drop_in s at l, e)
     by_place (no l) = let n : length s ≤ at = omega arith in rw (drop_of_length-le s n)
 
 -- where a word ends, the run ends too, unless one of four bytes stands there
-pub end-here : (s : List ℕ) (at b : ℕ) → WordEnds s at → b ≡ byte_at s at → (r : Bool) → r ≡ run_mark b → not r ≡ true
+pub end_here : (s : List ℕ) (at b : ℕ) → WordEnds s at → b ≡ byte_at s at → (r : Bool) → r ≡ run_mark b → not r ≡ true
     → PlaceIs s at (past run_byte at (drop at s)) at
 unfolding run_byte
-end-here s at b w u r q n = run_ends run_byte s at w.inside (rw (w.stops, ← u, ← q, not-true r n))
+end_here s at b w u r q n = run_ends run_byte s at w.inside (rw (w.stops, ← u, ← q, not-true r n))
 
 -- a run is a word where the word at its place ends with it
-run-words : (at : ℕ) (bs : List ℕ)
+run_words : (at : ℕ) (bs : List ℕ)
     → eqb (past word_byte at bs) (past run_byte at bs) ≡ all word_byte (take (past run_byte at bs - at) bs)
 unfolding past all
-run-words at [] = let n : at - at ≡ 0 = omega arith in rw n (eq-eqb at at refl)
-run-words at (b ∷ bs) = by_byte (run-words (at + 1) bs) (word_byte b) refl (run_byte b) refl
+run_words at [] = let n : at - at ≡ 0 = omega arith in rw n (eq-eqb at at refl)
+run_words at (b ∷ bs) = by_byte (run_words (at + 1) bs) (word_byte b) refl (run_byte b) refl
   where
     by_byte : eqb (past word_byte (at + 1) bs)
         (past run_byte (at + 1) bs) ≡ all word_byte (take (past run_byte (at + 1) bs - (at + 1)) bs)
@@ -111,11 +111,11 @@ run-words at (b ∷ bs) = by_byte (run-words (at + 1) bs) (word_byte b) refl (ru
         → eqb (past word_byte at (b ∷ bs)) (past run_byte at (b ∷ bs))
         ≡ all word_byte (take (past run_byte at (b ∷ bs) - at) (b ∷ bs))
     by_byte ih true e r f =
-        let l = (past-between run_byte (at + 1) bs).least in
+        let l = (past_between run_byte (at + 1) bs).least in
         let n : past run_byte (at + 1) bs - at ≡ suc (past run_byte (at + 1) bs - (at + 1)) = omega arith in
-        rw (word-runs b e, n, e) ih
+        rw (word_runs b e, n, e) ih
     by_byte ih false e true f =
-        let l = (past-between run_byte (at + 1) bs).least in
+        let l = (past_between run_byte (at + 1) bs).least in
         let n : past run_byte (at + 1) bs - at ≡ suc (past run_byte (at + 1) bs - (at + 1)) = omega arith in
         rw (f, n, e) (ne_eqb at (past run_byte (at + 1) bs) (λ k. omega arith))
     by_byte ih false e false f = let n : at - at ≡ 0 = omega arith in rw (f, e, n) (eq-eqb at at refl)
@@ -124,10 +124,10 @@ run-words at (b ∷ bs) = by_byte (run-words (at + 1) bs) (word_byte b) refl (ru
 module _ (s : List ℕ) (at w : ℕ) (p : PlaceIs s at (past word_byte at (drop at s)) w) where
   module _ (end : ℕ) (q : PlaceIs s w (past run_byte w (drop w s)) end) where
     run_end : end ≡ past run_byte at (drop at s)
-    run_end = q.is ∙ run_on word_byte run_byte word-runs s at w p
+    run_end = q.is ∙ run_on word_byte run_byte word_runs s at w p
 
-    pub run-whole : eqb w end ≡ all word_byte (part s at end)
-    run-whole = rw (p.is, run_end) (run-words at (drop at s))
+    pub run_whole : eqb w end ≡ all word_byte (part s at end)
+    run_whole = rw (p.is, run_end) (run_words at (drop at s))
 
     pub run_is : (sorted : List ℕ → ℕ → ℕ) (k : ℕ) → k ≡ sorted (part s at end) (byte_at s at)
         → token k at end ≡ run sorted s at
@@ -135,12 +135,12 @@ module _ (s : List ℕ) (at w : ℕ) (p : PlaceIs s at (past word_byte at (drop 
 
 -- the sort of a run
 module _ (behind : Bool) (w : List ℕ) (first : ℕ) (k : Bool) where
-  pub sorting-type : (r : ℕ) → k ≡ is capital first → behind ≡ true → k ≡ true → r ≡ name_sort booleans type_name w
+  pub sorting_type : (r : ℕ) → k ≡ is capital first → behind ≡ true → k ≡ true → r ≡ name_sort booleans type_name w
       → r ≡ sorting behind w first
-  sorting-type r q b e p = rw (b, ← q, e) p
+  sorting_type r q b e p = rw (b, ← q, e) p
 
-  pub sorting-none : k ≡ is capital first → behind ≡ true → k ≡ false → 1 ≡ sorting behind w first
-  sorting-none q b e = rw (b, ← q, e)
+  pub sorting_none : k ≡ is capital first → behind ≡ true → k ≡ false → 1 ≡ sorting behind w first
+  sorting_none q b e = rw (b, ← q, e)
 
   pub sorting-name : (r : ℕ) → k ≡ is small first → behind ≡ false → k ≡ true → r ≡ name_sort keywords name w
       → r ≡ sorting behind w first
@@ -151,28 +151,28 @@ module _ (behind : Bool) (w : List ℕ) (first : ℕ) (k : Bool) where
 
 -- the token that starts at a place
 module _ (sorted : List ℕ → ℕ → ℕ) (s : List ℕ) (at : ℕ) where
-  pub data-end : length s ≤ at → token text_end at at ≡ data_token_on sorted s at
+  pub data_end : length s ≤ at → token text_end at at ≡ data_token_on sorted s at
   unfolding data_token_on
-  data-end h = rw (le-leb (length s) at h)
+  data_end h = rw (le-leb (length s) at h)
 
   module _ (t : Token) (r : Bool) (h : at < length s) (q : r ≡ run_byte (byte_at s at)) where
-    pub data-run : r ≡ true → t ≡ run sorted s at → t ≡ data_token_on sorted s at
+    pub data_run : r ≡ true → t ≡ run sorted s at → t ≡ data_token_on sorted s at
     unfolding data_token_on
-    data-run e p = rw (lt-leb (length s) at h, ← q, e) p
+    data_run e p = rw (lt-leb (length s) at h, ← q, e) p
 
-    pub data-string : r ≡ false → byte_at s at ≡ byte "\"" → t ≡ quoted s at → t ≡ data_token_on sorted s at
+    pub data_string : r ≡ false → byte_at s at ≡ byte "\"" → t ≡ quoted s at → t ≡ data_token_on sorted s at
     unfolding data_token_on
-    data-string e b p = rw (lt-leb (length s) at h, ← q, e, eq-eqb (byte_at s at) (byte "\"") b) p
+    data_string e b p = rw (lt-leb (length s) at h, ← q, e, eq-eqb (byte_at s at) (byte "\"") b) p
 
-    pub data-mark : r ≡ false → (byte_at s at ≡ byte "\"" → ⊥) → t ≡ spelled data_marks at (drop at s) (no_token at)
+    pub data_mark : r ≡ false → (byte_at s at ≡ byte "\"" → ⊥) → t ≡ spelled data_marks at (drop at s) (no_token at)
         → t ≡ data_token_on sorted s at
     unfolding data_token_on
-    data-mark e n p = rw (lt-leb (length s) at h, ← q, e, ne_eqb (byte_at s at) (byte "\"") n) p
+    data_mark e n p = rw (lt-leb (length s) at h, ← q, e, ne_eqb (byte_at s at) (byte "\"") n) p
 
 -- the next token
 module _ (s : List ℕ) (from : ℕ) (r : Token) (h : from ≤ length s) where
-  pub data-told : r ≡ data_token_at s from → TokenIs s from (data_token_at s from) r
-  data-told q = promised s from (data_token_at s from) r q (data-token-found s from h)
+  pub data_told : r ≡ data_token_at s from → TokenIs s from (data_token_at s from) r
+  data_told q = promised s from (data_token_at s from) r q (data_token-found s from h)
 
-  pub type-told : r ≡ type_token_at s from → TokenIs s from (type_token_at s from) r
-  type-told q = promised s from (type_token_at s from) r q (type-token-found s from h)
+  pub type_told : r ≡ type_token_at s from → TokenIs s from (type_token_at s from) r
+  type_told q = promised s from (type_token_at s from) r q (type_token-found s from h)

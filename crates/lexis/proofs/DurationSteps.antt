@@ -14,7 +14,7 @@ use Rattle.lexis.specs.Runs.{past, byte_at}
 use Rattle.lexis.specs.Durations.{letter_slot, in_either_case, letter_behind, digit_slot, filled, fill, fill_all, behind_time, behind_date, slots_of, pattern_slots}
 use Rattle.lexis.specs.Clauses.Answers.{PlaceIs, slot_by, SlotIs, filled_at, FillRoom, FillIs, FlagIs}
 use Rattle.lexis.specs.declared.durations.Slots.{Slots}
-use Rattle.lexis.proofs.Places.{drop-in}
+use Rattle.lexis.proofs.Places.{drop_in}
 
 nothing_left : (w : List ℕ) (at : ℕ) → at ≡ length w → drop at w ≡ []
 nothing_left w at e = let l : length w ≤ at = omega arith in drop_of_length-le w l
@@ -24,30 +24,30 @@ module _ (letter b : ℕ) where
   pub case_same : b ≡ letter → true ≡ in_either_case letter b
   case_same e = rw (eq-eqb b letter e)
 
-  pub case-other : (b ≡ letter → ⊥) → eqb (b + 32) letter ≡ in_either_case letter b
-  case-other n = rw (ne_eqb b letter n)
+  pub case_other : (b ≡ letter → ⊥) → eqb (b + 32) letter ≡ in_either_case letter b
+  case_other n = rw (ne_eqb b letter n)
 
 -- a slot of a pattern
 module _ (w : List ℕ) (at letter : ℕ) where
-  pub letter-none : at ≡ length w → SlotIs w at (letter_slot letter (drop at w)) 0
+  pub letter_none : at ≡ length w → SlotIs w at (letter_slot letter (drop at w)) 0
   unfolding letter_slot
-  letter-none e = record { is = rw (nothing_left w at e) refl; inside = omega arith }
+  letter_none e = record { is = rw (nothing_left w at e) refl; inside = omega arith }
 
   module _ (h : at ≤ length w) (n : at ≡ length w → ⊥) where
-    pub letter-here : byte_at w at ≡ letter → SlotIs w at (letter_slot letter (drop at w)) 1
+    pub letter_here : byte_at w at ≡ letter → SlotIs w at (letter_slot letter (drop at w)) 1
     unfolding letter_slot
-    letter-here e = record { is = rw (drop-in w at (omega arith), eq-eqb (byte_at w at) letter e) refl; inside = omega arith }
+    letter_here e = record { is = rw (drop_in w at (omega arith), eq-eqb (byte_at w at) letter e) refl; inside = omega arith }
 
-    pub letter-other : (byte_at w at ≡ letter → ⊥) → SlotIs w at (letter_slot letter (drop at w)) 0
+    pub letter_other : (byte_at w at ≡ letter → ⊥) → SlotIs w at (letter_slot letter (drop at w)) 0
     unfolding letter_slot
-    letter-other e = record { is = rw (drop-in w at (omega arith), ne_eqb (byte_at w at) letter e) refl; inside = omega arith }
+    letter_other e = record { is = rw (drop_in w at (omega arith), ne_eqb (byte_at w at) letter e) refl; inside = omega arith }
 
 -- a run counted from its start
-pub past-from : (test : ℕ → Bool) (at n : ℕ) (bs : List ℕ) → past test (at + n) bs ≡ at + past test n bs
+pub past_from : (test : ℕ → Bool) (at n : ℕ) (bs : List ℕ) → past test (at + n) bs ≡ at + past test n bs
 unfolding past
-past-from test at n [] = refl
-past-from test at n (b ∷ bs) =
-    let h = past-from test at (n + 1) bs in
+past_from test at n [] = refl
+past_from test at n (b ∷ bs) =
+    let h = past_from test at (n + 1) bs in
     let a : at + n + 1 ≡ at + (n + 1) = omega arith in
     by (test b) (past test (n + 1) bs) (ap (λ k. past test k bs) a ∙ h)
   where
@@ -59,56 +59,56 @@ past-from test at n (b ∷ bs) =
 module _ (w : List ℕ) (at letter end : ℕ) (p : PlaceIs w at (past (is digit) at (drop at w)) end) where
   digits_are : past (is digit) 0 (drop at w) ≡ end - at
   digits_are =
-      let e = past-from (is digit) at 0 (drop at w) in
+      let e = past_from (is digit) at 0 (drop at w) in
       let a : at + 0 ≡ at = omega arith in
       let f : past (is digit) at (drop at w) ≡ at + past (is digit) 0 (drop at w) = rw a at e in
       let g = p.is in
       omega arith
 
-  behind-digits : drop (end - at) (drop at w) ≡ drop end w
-  behind-digits = let a : at + (end - at) ≡ end = let l = p.low in omega arith in rw (drop-drop, a)
+  behind_digits : drop (end - at) (drop at w) ≡ drop end w
+  behind_digits = let a : at + (end - at) ≡ end = let l = p.low in omega arith in rw (drop-drop, a)
 
-  pub digit-few : end - at < 1 → SlotIs w at (digit_slot letter (drop at w)) 0
+  pub digit_few : end - at < 1 → SlotIs w at (digit_slot letter (drop at w)) 0
   unfolding digit_slot
-  digit-few l = record { is = rw (digits_are, lt-leb 1 (end - at) l) refl; inside = let h = p.high in let k = p.low in omega arith }
+  digit_few l = record { is = rw (digits_are, lt-leb 1 (end - at) l) refl; inside = let h = p.high in let k = p.low in omega arith }
 
-  pub digit-many : 4 < end - at → SlotIs w at (digit_slot letter (drop at w)) 0
+  pub digit_many : 4 < end - at → SlotIs w at (digit_slot letter (drop at w)) 0
   unfolding digit_slot
-  digit-many l = record { is = rw (digits_are, le-leb 1 (end - at) (omega arith), lt-leb (end - at) 4 l) refl; inside = let h = p.high in let k = p.low in omega arith }
+  digit_many l = record { is = rw (digits_are, le-leb 1 (end - at) (omega arith), lt-leb (end - at) 4 l) refl; inside = let h = p.high in let k = p.low in omega arith }
 
   module _ (l : 1 ≤ end - at) (m : end - at ≤ 4) where
     reached : digit_slot letter (drop at w) ≡ letter_behind (end - at) letter (drop end w)
     unfolding digit_slot
-    reached = rw (digits_are, le-leb 1 (end - at) l, le-leb (end - at) 4 m, behind-digits) refl
+    reached = rw (digits_are, le-leb 1 (end - at) l, le-leb (end - at) 4 m, behind_digits) refl
 
-    pub digit-ended : end ≡ length w → SlotIs w at (digit_slot letter (drop at w)) 0
+    pub digit_ended : end ≡ length w → SlotIs w at (digit_slot letter (drop at w)) 0
     unfolding letter_behind
-    digit-ended e = record { is = rw (reached, nothing_left w end e) refl; inside = let h = p.high in let k = p.low in omega arith }
+    digit_ended e = record { is = rw (reached, nothing_left w end e) refl; inside = let h = p.high in let k = p.low in omega arith }
 
     module _ (n : end ≡ length w → ⊥) (r : Bool) (q : r ≡ in_either_case letter (byte_at w end)) where
-      pub digit-letter : r ≡ true → SlotIs w at (digit_slot letter (drop at w)) (end - at + 1)
+      pub digit_letter : r ≡ true → SlotIs w at (digit_slot letter (drop at w)) (end - at + 1)
       unfolding letter_behind
-      digit-letter e =
+      digit_letter e =
           let h = p.high in
           let k = p.low in
-          record { is = rw (reached, drop-in w end (omega arith), ← q, e) refl; inside = omega arith }
+          record { is = rw (reached, drop_in w end (omega arith), ← q, e) refl; inside = omega arith }
 
       pub digit-other : r ≡ false → SlotIs w at (digit_slot letter (drop at w)) 0
       unfolding letter_behind
       digit-other e =
           let h = p.high in
           let k = p.low in
-          record { is = rw (reached, drop-in w end (omega arith), ← q, e) refl; inside = omega arith }
+          record { is = rw (reached, drop_in w end (omega arith), ← q, e) refl; inside = omega arith }
 
 -- a slot of either sort
 module _ (w : List ℕ) (at letter n : ℕ) (digits : Bool) where
-  pub slot-digits : digits ≡ true → SlotIs w at (digit_slot letter (drop at w)) n
+  pub slot_digits : digits ≡ true → SlotIs w at (digit_slot letter (drop at w)) n
       → SlotIs w at (slot_by digits letter (drop at w)) n
-  slot-digits e h = rw e h
+  slot_digits e h = rw e h
 
-  pub slot-letter : digits ≡ false → SlotIs w at (letter_slot letter (drop at w)) n
+  pub slot_letter : digits ≡ false → SlotIs w at (letter_slot letter (drop at w)) n
       → SlotIs w at (slot_by digits letter (drop at w)) n
-  slot-letter e h = rw e h
+  slot_letter e h = rw e h
 
 -- one slot
 module _ (w : List ℕ) (x : Slots) (bit letter : ℕ) (digits : Bool) (size : ℕ)
@@ -117,65 +117,65 @@ module _ (w : List ℕ) (x : Slots) (bit letter : ℕ) (digits : Bool) (size : �
   unfolding fill
   fill_none e d = record { is = rw (← q.is, eq-eqb size 0 e) refl; inside = d.inside; few = omega arith }
 
-  pub fill-some : (size ≡ 0 → ⊥) → FillIs w (x.flag + bit) (fill (slot_by digits) bit letter (filled_at w x))
+  pub fill_some : (size ≡ 0 → ⊥) → FillIs w (x.flag + bit) (fill (slot_by digits) bit letter (filled_at w x))
       (record { flag = x.flag + bit; at = x.at + size })
   unfolding fill
-  fill-some n = record { is = rw (← q.is, ne_eqb size 0 n, drop-drop) refl; inside = q.inside; few = omega arith }
+  fill_some n = record { is = rw (← q.is, ne_eqb size 0 n, drop-drop) refl; inside = q.inside; few = omega arith }
 
 -- slot after slot
 module _ (w : List ℕ) (at : ℕ) (digits : Bool) (a b c : Slots) where
-  pub dates-filled : (d : Slots)
+  pub dates_filled : (d : Slots)
       → FillIs w 1 (fill (slot_by digits) 1 (byte "y") (filled 0 (drop at w))) a
       → FillIs w (a.flag + 2) (fill (slot_by digits) 2 (byte "m") (filled_at w a)) b
       → FillIs w (b.flag + 4) (fill (slot_by digits) 4 (byte "w") (filled_at w b)) c
       → FillIs w (c.flag + 8) (fill (slot_by digits) 8 (byte "d") (filled_at w c)) d
       → FillIs w 15 (fill_all (slot_by digits) 1 (bytes "ymwd") (filled 0 (drop at w))) d
   unfolding fill_all
-  dates-filled d f g h k =
+  dates_filled d f g h k =
       record { is = rw (← f.is, ← g.is, ← h.is) k.is; inside = k.inside; few = let i = f.few in let j = g.few in let l = h.few in let m = k.few in omega arith }
 
-  pub times-filled : FillIs w 16 (fill (slot_by digits) 16 (byte "h") (filled 0 (drop at w))) a
+  pub times_filled : FillIs w 16 (fill (slot_by digits) 16 (byte "h") (filled 0 (drop at w))) a
       → FillIs w (a.flag + 32) (fill (slot_by digits) 32 (byte "m") (filled_at w a)) b
       → FillIs w (b.flag + 64) (fill (slot_by digits) 64 (byte "s") (filled_at w b)) c
       → FillIs w 112 (fill_all (slot_by digits) 16 (bytes "hms") (filled 0 (drop at w))) c
   unfolding fill_all
-  times-filled f g h =
+  times_filled f g h =
       record { is = rw (← f.is, ← g.is) h.is; inside = h.inside; few = let i = f.few in let j = g.few in let l = h.few in omega arith }
 
 -- behind T
 module _ (w : List ℕ) (at flag : ℕ) (digits : Bool) (x : Slots)
     (q : FillIs w 112 (fill_all (slot_by digits) 16 (bytes "hms") (filled 0 (drop at w))) x) where
-  pub time-left : x.at < length w → FlagIs (behind_time (slot_by digits) flag (drop at w)) 0
+  pub time_left : x.at < length w → FlagIs (behind_time (slot_by digits) flag (drop at w)) 0
   unfolding behind_time
-  time-left l =
+  time_left l =
       let e = length-drop x.at w in
       record { is = rw (← q.is, ne_eqb (length (drop x.at w)) 0 (λ z. omega arith)) refl; few = omega arith }
 
   module _ (l : length w ≤ x.at) where
-    at-end : eqb (length (drop x.at w)) 0 ≡ true
-    at-end = let e = length-drop x.at w in eq-eqb (length (drop x.at w)) 0 (omega arith)
+    at_end_lem : eqb (length (drop x.at w)) 0 ≡ true
+    at_end_lem = let e = length-drop x.at w in eq-eqb (length (drop x.at w)) 0 (omega arith)
 
-    pub time-none : x.flag < 1 → FlagIs (behind_time (slot_by digits) flag (drop at w)) 0
+    pub time_none : x.flag < 1 → FlagIs (behind_time (slot_by digits) flag (drop at w)) 0
     unfolding behind_time
-    time-none k = record { is = rw (← q.is, at-end, lt-leb 1 x.flag k) refl; few = omega arith }
+    time_none k = record { is = rw (← q.is, at_end_lem, lt-leb 1 x.flag k) refl; few = omega arith }
 
-    pub time-some : 1 ≤ x.flag → flag ≤ 15 → FlagIs (behind_time (slot_by digits) flag (drop at w)) (flag + x.flag)
+    pub time_some : 1 ≤ x.flag → flag ≤ 15 → FlagIs (behind_time (slot_by digits) flag (drop at w)) (flag + x.flag)
     unfolding behind_time
-    time-some k f = record { is = rw (← q.is, at-end, le-leb 1 x.flag k) refl; few = let m = q.few in omega arith }
+    time_some k f = record { is = rw (← q.is, at_end_lem, le-leb 1 x.flag k) refl; few = let m = q.few in omega arith }
 
 -- P and slots
 module _ (w : List ℕ) (digits : Bool) where
-  pub slots-empty : length w ≡ 0 → FlagIs (slots_of (slot_by digits) w) 0
+  pub slots_empty : length w ≡ 0 → FlagIs (slots_of (slot_by digits) w) 0
   unfolding slots_of
-  slots-empty e = record { is = no_byte w e; few = omega arith }
+  slots_empty e = record { is = no_byte w e; few = omega arith }
     where
       no_byte : (v : List ℕ) → length v ≡ 0 → 0 ≡ slots_of (slot_by digits) v
       no_byte [] e = refl
       no_byte (b ∷ v) e = absurd (omega arith)
 
-  pub slots-other : (byte_at w 0 ≡ byte "P" → ⊥) → FlagIs (slots_of (slot_by digits) w) 0
+  pub slots_other : (byte_at w 0 ≡ byte "P" → ⊥) → FlagIs (slots_of (slot_by digits) w) 0
   unfolding slots_of
-  slots-other n = record { is = rw (ne_eqb (byte_at w 0) (byte "P") n) refl; few = omega arith }
+  slots_other n = record { is = rw (ne_eqb (byte_at w 0) (byte "P") n) refl; few = omega arith }
 
   module _ (x : Slots) (p : byte_at w 0 ≡ byte "P")
       (q : FillIs w 15 (fill_all (slot_by digits) 1 (bytes "ymwd") (filled 0 (drop 1 w))) x) where
@@ -196,17 +196,17 @@ module _ (w : List ℕ) (digits : Bool) where
       unended =
           let d = length-drop x.at w in
           let i = q.inside in
-          rw (ne_eqb (length (drop x.at w)) 0 (λ z. omega arith), drop-drop, drop-in w x.at (omega arith)) refl
+          rw (ne_eqb (length (drop x.at w)) 0 (λ z. omega arith), drop-drop, drop_in w x.at (omega arith)) refl
 
-      pub slots-not-time : (byte_at w x.at ≡ byte "T" → ⊥) → FlagIs (slots_of (slot_by digits) w) 0
-      slots-not-time m = record { is = rw (opened, unended, ne_eqb (byte_at w x.at) (byte "T") m) refl; few = omega arith }
+      pub slots_not_time : (byte_at w x.at ≡ byte "T" → ⊥) → FlagIs (slots_of (slot_by digits) w) 0
+      slots_not_time m = record { is = rw (opened, unended, ne_eqb (byte_at w x.at) (byte "T") m) refl; few = omega arith }
 
-      pub slots-time : (r : ℕ) → byte_at w x.at ≡ byte "T"
+      pub slots_time : (r : ℕ) → byte_at w x.at ≡ byte "T"
           → FlagIs (behind_time (slot_by digits) x.flag (drop (x.at + 1) w)) r
           → FlagIs (slots_of (slot_by digits) w) r
-      slots-time r e k = record { is = rw (opened, unended, eq-eqb (byte_at w x.at) (byte "T") e) k.is; few = k.few }
+      slots_time r e k = record { is = rw (opened, unended, eq-eqb (byte_at w x.at) (byte "T") e) k.is; few = k.few }
 
 -- without digits it is a pattern
-pub pattern-told : (w : List ℕ) (r : ℕ) → FlagIs (slots_of letter_slot w) r → FlagIs (pattern_slots w) r
+pub pattern_told : (w : List ℕ) (r : ℕ) → FlagIs (slots_of letter_slot w) r → FlagIs (pattern_slots w) r
 unfolding pattern_slots
-pattern-told w r h = h
+pattern_told w r h = h

@@ -15,16 +15,16 @@ use Rattle.lexis.specs.DataTokens.{data_token_at, type_token_at, equals, open_ro
 use Rattle.lexis.specs.declared.Token.{Token}
 
 -- the sorts of bytes are six numbers, and those of tokens one after the other, so that no two are the same
-pub byte-sorts-apart : (blank ∷ digit ∷ small ∷ capital ∷ mark ∷ other ∷ []) ≡ (0 ∷ 1 ∷ 2 ∷ 3 ∷ 4 ∷ 5 ∷ [])
-byte-sorts-apart = refl
+pub byte_sorts_apart : (blank ∷ digit ∷ small ∷ capital ∷ mark ∷ other ∷ []) ≡ (0 ∷ 1 ∷ 2 ∷ 3 ∷ 4 ∷ 5 ∷ [])
+byte_sorts_apart = refl
 
-pub token-sorts-apart :
+pub token_sorts_apart :
     (text_end ∷ unreadable ∷ type_name ∷ name ∷ matches ∷ existence ∷ true_word ∷ false_word ∷ code ∷ integer ∷ date
     ∷ string ∷ open_brace ∷ close_brace ∷ comma ∷ star ∷ bar ∷ dots ∷ less ∷ greater ∷ at_most ∷ at_least ∷ plus_minus
     ∷ equals ∷ open_round ∷ close_round ∷ word_run ∷ date_pattern ∷ time_pattern ∷ duration_pattern ∷ [])
     ≡ (0 ∷ 1 ∷ 2 ∷ 3 ∷ 4 ∷ 5 ∷ 6 ∷ 7 ∷ 8 ∷ 9 ∷ 10 ∷ 11 ∷ 12 ∷ 13 ∷ 14 ∷ 15 ∷ 16 ∷ 17 ∷ 18 ∷ 19 ∷ 20 ∷ 21 ∷ 22 ∷ 23 ∷ 24
     ∷ 25 ∷ 26 ∷ 30 ∷ 40 ∷ 100 ∷ [])
-token-sorts-apart = refl
+token_sorts_apart = refl
 
 abbrev pub agree : Bool → Bool → Bool
 agree true b = b

@@ -13,48 +13,48 @@ use Rattle.lexis.specs.Clauses.Subsequence.{Sub, none, keep, pass}
 pub part_length : (s : List ℕ) (start end : ℕ) → end ≤ length s → length (part s start end) ≡ end - start
 part_length s start end h = simp (length-take, length-drop) (omega arith)
 
-pub sub-none : (ys : List ℕ) → Sub [] ys
-sub-none [] = none
-sub-none (y ∷ ys) = pass (sub-none ys)
+pub sub_none : (ys : List ℕ) → Sub [] ys
+sub_none [] = none
+sub_none (y ∷ ys) = pass (sub_none ys)
 
-pub sub-all : (xs : List ℕ) → Sub xs xs
-sub-all [] = none
-sub-all (x ∷ xs) = keep (sub-all xs)
+pub sub_all : (xs : List ℕ) → Sub xs xs
+sub_all [] = none
+sub_all (x ∷ xs) = keep (sub_all xs)
 
-pub sub-append : {a b c d : List ℕ} → Sub a b → Sub c d → Sub (a ++ c) (b ++ d)
-sub-append none y = y
-sub-append (keep x) y = keep (sub-append x y)
-sub-append (pass x) y = pass (sub-append x y)
+pub sub_append : {a b c d : List ℕ} → Sub a b → Sub c d → Sub (a ++ c) (b ++ d)
+sub_append none y = y
+sub_append (keep x) y = keep (sub_append x y)
+sub_append (pass x) y = pass (sub_append x y)
 
 -- there are no more of them
-pub sub-length : {a b : List ℕ} → Sub a b → length a ≤ length b
-sub-length none = omega arith
-sub-length (keep x) = let h = sub-length x in omega arith
-sub-length (pass x) = let h = sub-length x in omega arith
+pub sub_length : {a b : List ℕ} → Sub a b → length a ≤ length b
+sub_length none = omega arith
+sub_length (keep x) = let h = sub_length x in omega arith
+sub_length (pass x) = let h = sub_length x in omega arith
 
 module _ (s : List ℕ) where
-  pub part-split : (a b c : ℕ) → a ≤ b → b ≤ c → part s a c ≡ part s a b ++ part s b c
-  part-split a b c h k =
+  pub part_split : (a b c : ℕ) → a ≤ b → b ≤ c → part s a c ≡ part s a b ++ part s b c
+  part_split a b c h k =
       let n : c - a ≡ b - a + (c - b) = omega arith in
       let m : a + (b - a) ≡ b = omega arith in
       rw (n, take-add, drop-drop, m)
 
   -- parts that follow one another
-  pub sub-join : (a b c : ℕ) {xs ys : List ℕ} → a ≤ b → b ≤ c → Sub xs (part s a b) → Sub ys (part s b c)
+  pub sub_join : (a b c : ℕ) {xs ys : List ℕ} → a ≤ b → b ≤ c → Sub xs (part s a b) → Sub ys (part s b c)
       → Sub (xs ++ ys) (part s a c)
-  sub-join a b c h k x y = rw (part-split a b c h k) (sub-append x y)
+  sub_join a b c h k x y = rw (part_split a b c h k) (sub_append x y)
 
   -- a part of a part
-  pub sub-wider : (a b c d : ℕ) {xs : List ℕ} → a ≤ b → b ≤ c → c ≤ d → Sub xs (part s b c) → Sub xs (part s a d)
-  sub-wider a b c d h k l x = rw (part-split a b d h (omega arith), part-split b c d k l) (sub-append (sub-none (part s a b)) (at_front x))
+  pub sub_wider : (a b c d : ℕ) {xs : List ℕ} → a ≤ b → b ≤ c → c ≤ d → Sub xs (part s b c) → Sub xs (part s a d)
+  sub_wider a b c d h k l x = rw (part_split a b d h (omega arith), part_split b c d k l) (sub_append (sub_none (part s a b)) (at_front x))
     where
       at_front : {xs : List ℕ} → Sub xs (part s b c) → Sub xs (part s b c ++ part s c d)
-      at_front {xs} y = subst (λ (l : List ℕ). Sub l (part s b c ++ part s c d)) (append-nil xs) (sub-append y (sub-none (part s c d)))
+      at_front {xs} y = subst (λ (l : List ℕ). Sub l (part s b c ++ part s c d)) (append-nil xs) (sub_append y (sub_none (part s c d)))
 
   -- a part between two places of a part
-  pub part-sub : (a b c d : ℕ) → a ≤ b → c ≤ d → Sub (part s b c) (part s a d)
-  part-sub a b c d h k = by_order (dec_le b c)
+  pub part_sub : (a b c d : ℕ) → a ≤ b → c ≤ d → Sub (part s b c) (part s a d)
+  part_sub a b c d h k = by_order (dec_le b c)
     where
       by_order : Dec (b ≤ c) → Sub (part s b c) (part s a d)
-      by_order (yes l) = sub-wider a b c d h l k (sub-all (part s b c))
-      by_order (no l) = let e : c - b ≡ 0 = omega arith in rw e (sub-none (part s a d))
+      by_order (yes l) = sub_wider a b c d h l k (sub_all (part s b c))
+      by_order (no l) = let e : c - b ≡ 0 = omega arith in rw e (sub_none (part s a d))

@@ -24,10 +24,10 @@ pub record Between (low high x : ℕ) : Type 0 where
   pub least : low ≤ x
   pub most : x ≤ high
 
-between-cond : (low high : ℕ) (b : Bool) (x y : ℕ) → Between low high x → Between low high y
+between_cond : (low high : ℕ) (b : Bool) (x y : ℕ) → Between low high x → Between low high y
     → Between low high (cond b x y)
-between-cond low high true x y f g = f
-between-cond low high false x y f g = g
+between_cond low high true x y f g = f
+between_cond low high false x y f g = g
 
 -- blanks and comments
 pub skip-between : (bs : List ℕ) (inside : Bool) (at : ℕ) → Between at (at + length bs) (skip inside at bs)
@@ -37,15 +37,15 @@ skip-between [] false at = omega arith
 skip-between (b ∷ bs) true at = let h = skip-between bs (not (line_end b)) (at + 1) in omega arith
 skip-between (b ∷ bs) false at =
     let h = skip-between bs (opens_comment b bs) (at + 1) in
-    between-cond at (at + suc (length bs)) (is blank b || opens_comment b bs) (skip (opens_comment b bs) (at + 1) bs) at (omega arith) (omega arith)
+    between_cond at (at + suc (length bs)) (is blank b || opens_comment b bs) (skip (opens_comment b bs) (at + 1) bs) at (omega arith) (omega arith)
 
 -- a run
-pub past-between : (test : ℕ → Bool) (at : ℕ) (bs : List ℕ) → Between at (at + length bs) (past test at bs)
+pub past_between : (test : ℕ → Bool) (at : ℕ) (bs : List ℕ) → Between at (at + length bs) (past test at bs)
 unfolding past
-past-between test at [] = omega arith
-past-between test at (b ∷ bs) =
-    let h = past-between test (at + 1) bs in
-    between-cond at (at + suc (length bs)) (test b) (past test (at + 1) bs) at (omega arith) (omega arith)
+past_between test at [] = omega arith
+past_between test at (b ∷ bs) =
+    let h = past_between test (at + 1) bs in
+    between_cond at (at + suc (length bs)) (test b) (past test (at + 1) bs) at (omega arith) (omega arith)
 
 -- from a place of the text on
 module _ (s : List ℕ) (from : ℕ) (h : from ≤ length s) where
@@ -53,20 +53,20 @@ module _ (s : List ℕ) (from : ℕ) (h : from ≤ length s) where
   start_between = let b = skip-between (drop from s) false from in let e = length-drop from s in omega arith
 
   pub run-between : (test : ℕ → Bool) → Between from (length s) (past test from (drop from s))
-  run-between test = let b = past-between test from (drop from s) in let e = length-drop from s in omega arith
+  run-between test = let b = past_between test from (drop from s) in let e = length-drop from s in omega arith
 
 -- bytes that begin as a word or a shape is spelled are as many
-pub starts-long : (w bs : List ℕ) → starts_with w bs ≡ true → length w ≤ length bs
+pub starts_long : (w bs : List ℕ) → starts_with w bs ≡ true → length w ≤ length bs
 unfolding starts_with
-starts-long [] bs h = omega arith
-starts-long (x ∷ w) [] h = absurd (false≢true h)
-starts-long (x ∷ w) (b ∷ bs) h = let g = starts-long w bs (and_right (eqb x b) (starts_with w bs) h) in omega arith
+starts_long [] bs h = omega arith
+starts_long (x ∷ w) [] h = absurd (false≢true h)
+starts_long (x ∷ w) (b ∷ bs) h = let g = starts_long w bs (and_right (eqb x b) (starts_with w bs) h) in omega arith
 
-pub shaped-long : (w bs : List ℕ) → shaped w bs ≡ true → length w ≤ length bs
+pub shaped_long : (w bs : List ℕ) → shaped w bs ≡ true → length w ≤ length bs
 unfolding shaped
-shaped-long [] bs h = omega arith
-shaped-long (x ∷ w) [] h = absurd (false≢true h)
-shaped-long (x ∷ w) (b ∷ bs) h = let g = shaped-long w bs (and_right (allows x b) (shaped w bs) h) in omega arith
+shaped_long [] bs h = omega arith
+shaped_long (x ∷ w) [] h = absurd (false≢true h)
+shaped_long (x ∷ w) (b ∷ bs) h = let g = shaped_long w bs (and_right (allows x b) (shaped w bs) h) in omega arith
 
 -- a token that starts at a place of the text
 pub record Spans (s : List ℕ) (at : ℕ) (t : Token) : Type 0 where
@@ -81,30 +81,30 @@ Nonempty [] = Unit {0}
 Nonempty (l ∷ ls) = (0 < length l.spelling) × Nonempty ls
 
 module _ (s : List ℕ) (at : ℕ) where
-  pub spans-cond : (b : Bool) (x y : Token) → (b ≡ true → Spans s at x) → (b ≡ false → Spans s at y)
+  pub spans_cond : (b : Bool) (x y : Token) → (b ≡ true → Spans s at x) → (b ≡ false → Spans s at y)
       → Spans s at (cond b x y)
-  spans-cond true x y f g = f refl
-  spans-cond false x y f g = g refl
+  spans_cond true x y f g = f refl
+  spans_cond false x y f g = g refl
 
-  pub none-spans : at ≤ length s → Spans s at (no_token at)
-  none-spans h = record { here = refl; order = omega arith; inside = h; strict = λ m n. absurd (n refl) }
+  pub none_spans : at ≤ length s → Spans s at (no_token at)
+  none_spans h = record { here = refl; order = omega arith; inside = h; strict = λ m n. absurd (n refl) }
 
-  pub end-spans : at ≤ length s → Spans s at (token text_end at at)
-  end-spans h = record { here = refl; order = omega arith; inside = h; strict = λ m n. absurd (m refl) }
+  pub end_spans : at ≤ length s → Spans s at (token text_end at at)
+  end_spans h = record { here = refl; order = omega arith; inside = h; strict = λ m n. absurd (m refl) }
 
   -- a token that has a byte
-  pub to-spans : (sort end : ℕ) → at < end → end ≤ length s → Spans s at (token sort at end)
-  to-spans sort end l h = record { here = refl; order = omega arith; inside = h; strict = λ m n. l }
+  pub to_spans : (sort end : ℕ) → at < end → end ≤ length s → Spans s at (token sort at end)
+  to_spans sort end l h = record { here = refl; order = omega arith; inside = h; strict = λ m n. l }
 
-  pub spelled-spans : (ls : List Literal) (t : Token) → at ≤ length s → Nonempty ls → Spans s at t
+  pub spelled_spans : (ls : List Literal) (t : Token) → at ≤ length s → Nonempty ls → Spans s at t
       → Spans s at (spelled ls at (drop at s) t)
   unfolding spelled
-  spelled-spans [] t h ne p = p
-  spelled-spans (l ∷ ls) t h ne p =
-      spans-cond (starts_with l.spelling (drop at s)) _ _
-      (λ e. let g = starts-long l.spelling (drop at s) e in let d = length-drop at s in
-      to-spans l.sort (at + length l.spelling) (omega (arith, ne.0)) (omega arith))
-      (λ e. spelled-spans ls t h ne.1 p)
+  spelled_spans [] t h ne p = p
+  spelled_spans (l ∷ ls) t h ne p =
+      spans_cond (starts_with l.spelling (drop at s)) _ _
+      (λ e. let g = starts_long l.spelling (drop at s) e in let d = length-drop at s in
+      to_spans l.sort (at + length l.spelling) (omega (arith, ne.0)) (omega arith))
+      (λ e. spelled_spans ls t h ne.1 p)
 
 -- a byte other than 0 stands in the text
 pub byte_inside : (s : List ℕ) (at b : ℕ) → byte_at s at ≡ b → b ≢ 0 → at < length s
@@ -112,16 +112,16 @@ byte_inside [] at b e n = absurd (n (sym e))
 byte_inside (x ∷ s) zero b e n = omega arith
 byte_inside (x ∷ s) (suc at) b e n = let h = byte_inside s at b e n in omega arith
 
-pub drop-in : (s : List ℕ) (at : ℕ) → at < length s → drop at s ≡ byte_at s at ∷ drop (at + 1) s
-drop-in s at h = rw (add-one, drop-cons s at 0)
+pub drop_in : (s : List ℕ) (at : ℕ) → at < length s → drop at s ≡ byte_at s at ∷ drop (at + 1) s
+drop_in s at h = rw (add-one, drop-cons s at 0)
 
 -- a run whose first byte passes is not empty
-pub run-strict : (s : List ℕ) (at : ℕ) (test : ℕ → Bool) → at < length s → test (byte_at s at) ≡ true
+pub run_strict : (s : List ℕ) (at : ℕ) (test : ℕ → Bool) → at < length s → test (byte_at s at) ≡ true
     → at < past test at (drop at s)
 unfolding past
-run-strict s at test h e =
-    let g = past-between test (at + 1) (drop (at + 1) s) in
-    let q : past test at (drop at s) ≡ past test (at + 1) (drop (at + 1) s) = rw (drop-in s at h, e) in
+run_strict s at test h e =
+    let g = past_between test (at + 1) (drop (at + 1) s) in
+    let q : past test at (drop at s) ≡ past test (at + 1) (drop (at + 1) s) = rw (drop_in s at h, e) in
     omega arith
 
 pub capital-word : (b : ℕ) → is capital b ≡ true → word_byte b ≡ true
@@ -143,65 +143,65 @@ code-between (b ∷ bs) some at =
     (λ e. by_cond (λ x. x ≢ 0 → (at < x) × (x ≤ at + suc (length bs))) (eqb b (byte "]") && some) (λ f n. omega arith) (λ f n. absurd (n refl)))
 
 module _ (s : List ℕ) (at : ℕ) (h : at < length s) where
-  word-spans : (ls : List Literal) (sort : ℕ) → word_byte (byte_at s at) ≡ true → Spans s at (word s ls sort at)
-  word-spans ls sort e =
+  word_spans : (ls : List Literal) (sort : ℕ) → word_byte (byte_at s at) ≡ true → Spans s at (word s ls sort at)
+  word_spans ls sort e =
       let b = run-between s at (omega arith) word_byte in
-      to-spans s at _ (past word_byte at (drop at s)) (run-strict s at word_byte h e) b.most
+      to_spans s at _ (past word_byte at (drop at s)) (run_strict s at word_byte h e) b.most
 
-  number-spans : is digit (byte_at s at) ≡ true → Spans s at (number s at)
-  number-spans e =
+  number_spans : is digit (byte_at s at) ≡ true → Spans s at (number s at)
+  number_spans e =
       let b = run-between s at (omega arith) (is digit) in
-      spans-cond s at (shaped date_shape (drop at s)) _ _
-      (λ f. let g = shaped-long date_shape (drop at s) f in let d = length-drop at s in to-spans s at date (at + 10) (omega arith) (omega arith))
-      (λ f. to-spans s at integer _ (run-strict s at (is digit) h e) b.most)
+      spans_cond s at (shaped date_shape (drop at s)) _ _
+      (λ f. let g = shaped_long date_shape (drop at s) f in let d = length-drop at s in to_spans s at date (at + 10) (omega arith) (omega arith))
+      (λ f. to_spans s at integer _ (run_strict s at (is digit) h e) b.most)
 
-  sign-spans : Spans s at (sign s at)
-  sign-spans =
+  sign_spans : Spans s at (sign s at)
+  sign_spans =
       let b = run-between s (at + 1) (omega arith) (is digit) in
-      spans-cond s at (eqb (byte_at s at) (byte "-") && is digit (byte_at s (at + 1))) _ _
-      (λ f. to-spans s at integer _ (omega arith) b.most)
-      (λ f. spelled-spans s at mark_spellings (no_token at) (omega arith) (omega arith) (none-spans s at (omega arith)))
+      spans_cond s at (eqb (byte_at s at) (byte "-") && is digit (byte_at s (at + 1))) _ _
+      (λ f. to_spans s at integer _ (omega arith) b.most)
+      (λ f. spelled_spans s at mark_spellings (no_token at) (omega arith) (omega arith) (none_spans s at (omega arith)))
 
-  pub quoted-spans : Spans s at (quoted s at)
-  quoted-spans =
+  pub quoted_spans : Spans s at (quoted s at)
+  quoted_spans =
       let b = run-between s (at + 1) (omega arith) string_byte in
-      spans-cond s at (eqb (byte_at s (past string_byte (at + 1) (drop (at + 1) s))) (byte "\"")) _ _
+      spans_cond s at (eqb (byte_at s (past string_byte (at + 1) (drop (at + 1) s))) (byte "\"")) _ _
       (λ f. let g = byte_inside s (past string_byte (at + 1) (drop (at + 1) s)) (byte "\"") (eqb-true _ _ f) (λ z. eqb-false (byte "\"") 0 refl z) in
-      to-spans s at string _ (omega arith) (omega arith))
-      (λ f. none-spans s at (omega arith))
+      to_spans s at string _ (omega arith) (omega arith))
+      (λ f. none_spans s at (omega arith))
 
-  bracket-spans : Spans s at (bracket s at)
-  bracket-spans =
-      spans-cond s at (starts_with code_start (drop at s)) _ _
+  bracket_spans : Spans s at (bracket s at)
+  bracket_spans =
+      spans_cond s at (starts_with code_start (drop at s)) _ _
       (λ e.
-      spans-cond s at (eqb (code_end false (at + 3) (drop (at + 3) s)) 0) _ _
-      (λ f. none-spans s at (omega arith))
+      spans_cond s at (eqb (code_end false (at + 3) (drop (at + 3) s)) 0) _ _
+      (λ f. none_spans s at (omega arith))
       (λ f.
-      let g = starts-long code_start (drop at s) e in
+      let g = starts_long code_start (drop at s) e in
       let d = length-drop at s in
       let c = length-drop (at + 3) s in
       let k = code-between (drop (at + 3) s) false (at + 3) (eqb-false _ 0 f) in
-      to-spans s at code _ (omega arith) (omega arith)))
-      (λ e. none-spans s at (omega arith))
+      to_spans s at code _ (omega arith) (omega arith)))
+      (λ e. none_spans s at (omega arith))
 
-  special-spans : Spans s at (special s at)
-  special-spans =
-      spans-cond s at (eqb (byte_at s at) (byte "\"")) _ _ (λ e. quoted-spans) (λ e.
-      spans-cond s at (eqb (byte_at s at) (byte "[")) _ _ (λ f. bracket-spans) (λ f.
-      spelled-spans s at element_sign (no_token at) (omega arith) (omega arith) (none-spans s at (omega arith))))
+  special_spans : Spans s at (special s at)
+  special_spans =
+      spans_cond s at (eqb (byte_at s at) (byte "\"")) _ _ (λ e. quoted_spans) (λ e.
+      spans_cond s at (eqb (byte_at s at) (byte "[")) _ _ (λ f. bracket_spans) (λ f.
+      spelled_spans s at element_sign (no_token at) (omega arith) (omega arith) (none_spans s at (omega arith))))
 
 -- the token that starts at a place of the text
-pub on-spans : (s : List ℕ) (at : ℕ) → at ≤ length s → Spans s at (token_on s at)
+pub on_spans : (s : List ℕ) (at : ℕ) → at ≤ length s → Spans s at (token_on s at)
 unfolding token_on
-on-spans s at h =
-    spans-cond s at (leb (length s) at) _ _ (λ e. end-spans s at h) (λ e.
+on_spans s at h =
+    spans_cond s at (leb (length s) at) _ _ (λ e. end_spans s at h) (λ e.
     let l : at < length s = leb-false _ _ e in
-    spans-cond s at (is capital (byte_at s at)) _ _
-    (λ f. spelled-spans s at time_pattern_spellings _ h (omega arith) (word-spans s at l booleans type_name (capital-word _ f)))
-    (λ f. spans-cond s at (is small (byte_at s at)) _ _
-    (λ g. spelled-spans s at date_pattern_spellings _ h (omega arith) (word-spans s at l keywords name (small_word _ g)))
-    (λ g. spans-cond s at (is digit (byte_at s at)) _ _ (number-spans s at l)
-    (λ k. spans-cond s at (is mark (byte_at s at)) _ _ (λ m. sign-spans s at l) (λ m. special-spans s at l)))))
+    spans_cond s at (is capital (byte_at s at)) _ _
+    (λ f. spelled_spans s at time_pattern_spellings _ h (omega arith) (word_spans s at l booleans type_name (capital-word _ f)))
+    (λ f. spans_cond s at (is small (byte_at s at)) _ _
+    (λ g. spelled_spans s at date_pattern_spellings _ h (omega arith) (word_spans s at l keywords name (small_word _ g)))
+    (λ g. spans_cond s at (is digit (byte_at s at)) _ _ (number_spans s at l)
+    (λ k. spans_cond s at (is mark (byte_at s at)) _ _ (λ m. sign_spans s at l) (λ m. special_spans s at l)))))
 
 -- the next token, from a place of the text on
 pub record Found (s : List ℕ) (from : ℕ) (t : Token) : Type 0 where
@@ -210,8 +210,8 @@ pub record Found (s : List ℕ) (from : ℕ) (t : Token) : Type 0 where
   pub inside : t.end ≤ length s
   pub strict : t.sort ≢ text_end → t.sort ≢ unreadable → t.start < t.end
 
-pub found-by : (s : List ℕ) (from : ℕ) (t : Token) → from ≤ length s → Spans s (token_start s from) t → Found s from t
-found-by s from t h p =
+pub found_by : (s : List ℕ) (from : ℕ) (t : Token) → from ≤ length s → Spans s (token_start s from) t → Found s from t
+found_by s from t h p =
     let b = start_between s from h in
     record { start = omega arith; order = omega arith; inside = p.inside; strict = λ m n. let k = p.strict m n in omega arith }
 
@@ -219,4 +219,4 @@ pub token-found : (s : List ℕ) (from : ℕ) → from ≤ length s → Found s 
 unfolding token_at
 token-found s from h =
     let b = start_between s from h in
-    found-by s from _ h (on-spans s (token_start s from) b.most)
+    found_by s from _ h (on_spans s (token_start s from) b.most)

@@ -16,21 +16,21 @@ use Rattle.lexis.specs.Tokens.{token, spelled, quoted}
 use Rattle.lexis.specs.DataTokens.{run_sort, data_token_on, data_token_at}
 use Rattle.lexis.specs.Clauses.Answers.{PlaceIs, StartsAlike, TokenIs, is_mark}
 use Rattle.lexis.specs.declared.Token.{Token}
-use Rattle.lexis.proofs.Places.{byte_inside, drop-in}
-use Rattle.lexis.proofs.StartBack.{start-here, clear_at}
-use Rattle.lexis.proofs.DataTokenSteps.{run_on, run_ends, data-told}
+use Rattle.lexis.proofs.Places.{byte_inside, drop_in}
+use Rattle.lexis.proofs.StartBack.{start_here, clear_at}
+use Rattle.lexis.proofs.DataTokenSteps.{run_on, run_ends, data_told}
 
 -- a space, and no space
 module _ (s : List ℕ) (from b : ℕ) (q : b ≡ byte_at s from) where
-  space-inside : b ≡ byte " " → from < length s
-  space-inside e = byte_inside s from (byte " ") (sym q ∙ e) (λ z. eqb-false (byte " ") 0 refl z)
+  space_inside : b ≡ byte " " → from < length s
+  space_inside e = byte_inside s from (byte " ") (sym q ∙ e) (λ z. eqb-false (byte " ") 0 refl z)
 
-  pub behind-blank : b ≡ byte " " → StartsAlike s from (from + 1)
+  pub behind_blank : b ≡ byte " " → StartsAlike s from (from + 1)
   unfolding skip sort_of
-  behind-blank e = let h = space-inside e in record { is = rw (drop-in s from h, ← q, e); low = omega arith; high = omega arith }
+  behind_blank e = let h = space_inside e in record { is = rw (drop_in s from h, ← q, e); low = omega arith; high = omega arith }
 
-pub behind-none : (s : List ℕ) (from : ℕ) → from ≤ length s → StartsAlike s from from
-behind-none s from h = record { is = refl; low = omega arith; high = h }
+pub behind_none : (s : List ℕ) (from : ℕ) → from ≤ length s → StartsAlike s from from
+behind_none s from h = record { is = refl; low = omega arith; high = h }
 
 -- the mark of each sort
 module _ (b sort : ℕ) where
@@ -43,20 +43,20 @@ module _ (b sort : ℕ) where
   pub mark-equals : sort ≡ 23 → eqb b 61 ≡ is_mark b sort
   mark-equals e = rw e
 
-  pub mark-open : sort ≡ 24 → eqb b 40 ≡ is_mark b sort
-  mark-open e = rw e
+  pub mark_open : sort ≡ 24 → eqb b 40 ≡ is_mark b sort
+  mark_open e = rw e
 
-  pub mark-close : sort ≡ 25 → eqb b 41 ≡ is_mark b sort
-  mark-close e = rw e
+  pub mark_close : sort ≡ 25 → eqb b 41 ≡ is_mark b sort
+  mark_close e = rw e
 
-  pub mark-none : (sort ≡ 18 → ⊥) → (sort ≡ 19 → ⊥) → (sort ≡ 23 → ⊥) → (sort ≡ 24 → ⊥) → (sort ≡ 25 → ⊥)
+  pub mark_none : (sort ≡ 18 → ⊥) → (sort ≡ 19 → ⊥) → (sort ≡ 23 → ⊥) → (sort ≡ 24 → ⊥) → (sort ≡ 25 → ⊥)
       → false ≡ is_mark b sort
-  mark-none l g e o k = rw (ne_eqb sort 18 l, ne_eqb sort 19 g, ne_eqb sort 23 e, ne_eqb sort 24 o, ne_eqb sort 25 k)
+  mark_none l g e o k = rw (ne_eqb sort 18 l, ne_eqb sort 19 g, ne_eqb sort 23 e, ne_eqb sort 24 o, ne_eqb sort 25 k)
 
 -- what holds of each mark and its sort
-mark-cases : (P : ℕ → ℕ → Type 0) → P 60 18 → P 62 19 → P 61 23 → P 40 24 → P 41 25 → (b sort : ℕ)
+mark_cases : (P : ℕ → ℕ → Type 0) → P 60 18 → P 62 19 → P 61 23 → P 40 24 → P 41 25 → (b sort : ℕ)
     → is_mark b sort ≡ true → P b sort
-mark-cases P l g e o k b sort =
+mark_cases P l g e o k b sort =
     one 18 60 (eqb sort 18) refl l (one 19 62 (eqb sort 19) refl g (one 23 61 (eqb sort 23) refl e (one 24 40 (eqb sort 24) refl o (one 25 41 (eqb sort 25) refl k (λ n. absurd (false≢true n))))))
   where
     one : (x y : ℕ) (m : Bool) → eqb sort x ≡ m → P y x → {rest : Bool} → (rest ≡ true → P b sort)
@@ -71,48 +71,48 @@ pub record Alone (b sort : ℕ) : Type 0 where
   pub some : b ≢ 0
   pub on : (s : List ℕ) (at : ℕ) → at < length s → byte_at s at ≡ b → data_token_on run_sort s at ≡ token sort at (at + 1)
 
-mark-alone : (b sort : ℕ) → is_mark b sort ≡ true → Alone b sort
+mark_alone : (b sort : ℕ) → is_mark b sort ≡ true → Alone b sort
 unfolding sort_of word_byte run_byte data_token_on spelled starts_with
-mark-alone =
-    mark-cases Alone
-    (record { plain = refl; dash = refl; some = eqb-false 60 0 refl; on = λ s at h e. rw (lt-leb (length s) at h, drop-in s at h, e) })
-    (record { plain = refl; dash = refl; some = eqb-false 62 0 refl; on = λ s at h e. rw (lt-leb (length s) at h, drop-in s at h, e) })
-    (record { plain = refl; dash = refl; some = eqb-false 61 0 refl; on = λ s at h e. rw (lt-leb (length s) at h, drop-in s at h, e) })
-    (record { plain = refl; dash = refl; some = eqb-false 40 0 refl; on = λ s at h e. rw (lt-leb (length s) at h, drop-in s at h, e) })
-    (record { plain = refl; dash = refl; some = eqb-false 41 0 refl; on = λ s at h e. rw (lt-leb (length s) at h, drop-in s at h, e) })
+mark_alone =
+    mark_cases Alone
+    (record { plain = refl; dash = refl; some = eqb-false 60 0 refl; on = λ s at h e. rw (lt-leb (length s) at h, drop_in s at h, e) })
+    (record { plain = refl; dash = refl; some = eqb-false 62 0 refl; on = λ s at h e. rw (lt-leb (length s) at h, drop_in s at h, e) })
+    (record { plain = refl; dash = refl; some = eqb-false 61 0 refl; on = λ s at h e. rw (lt-leb (length s) at h, drop_in s at h, e) })
+    (record { plain = refl; dash = refl; some = eqb-false 40 0 refl; on = λ s at h e. rw (lt-leb (length s) at h, drop_in s at h, e) })
+    (record { plain = refl; dash = refl; some = eqb-false 41 0 refl; on = λ s at h e. rw (lt-leb (length s) at h, drop_in s at h, e) })
 
 -- the next token starts at a byte that is no blank and no `-`
-starts-here : (s : List ℕ) (at : ℕ) → is blank (byte_at s at) ≡ false → eqb (byte_at s at) (byte "-") ≡ false
+starts_here : (s : List ℕ) (at : ℕ) → is blank (byte_at s at) ≡ false → eqb (byte_at s at) (byte "-") ≡ false
     → token_start s at ≡ at
-starts-here s at p d = start-here s at (clear_at s at (drop at s) refl p (rw d))
+starts_here s at p d = start_here s at (clear_at s at (drop at s) refl p (rw d))
 
 -- a mark at a place from which on the next token starts where it does from an earlier one
 module _ (s : List ℕ) (at b sort : ℕ) (m : Bool) (q : b ≡ byte_at s at) (k : m ≡ is_mark b sort) (e : m ≡ true) where
   alone : Alone (byte_at s at) sort
-  alone = rw q at (mark-alone b sort (sym k ∙ e))
+  alone = rw q at (mark_alone b sort (sym k ∙ e))
 
   pub mark-inside : at < length s
   mark-inside = byte_inside s at (byte_at s at) refl alone.some
 
-  pub mark-told : (from : ℕ) → from ≤ length s → StartsAlike s from at
+  pub mark_told : (from : ℕ) → from ≤ length s → StartsAlike s from at
       → TokenIs s from (data_token_at s from) (token sort at (at + 1))
   unfolding data_token_at
-  mark-told from h l =
-      let n = starts-here s at alone.plain alone.dash in
-      data-told s from (token sort at (at + 1)) h (sym (alone.on s at mark-inside refl) ∙ rw (← l.is, n))
+  mark_told from h l =
+      let n = starts_here s at alone.plain alone.dash in
+      data_told s from (token sort at (at + 1)) h (sym (alone.on s at mark-inside refl) ∙ rw (← l.is, n))
 
 -- a string at a place
 module _ (s : List ℕ) (from b : ℕ) (q : b ≡ byte_at s from) (h : from ≤ length s) where
   pub string-inside : b ≡ byte "\"" → from < length s
   string-inside e = byte_inside s from (byte "\"") (sym q ∙ e) (λ z. eqb-false (byte "\"") 0 refl z)
 
-  pub string-told : b ≡ byte "\"" → (t : Token) → t ≡ quoted s from → TokenIs s from (data_token_at s from) t
+  pub string_told : b ≡ byte "\"" → (t : Token) → t ≡ quoted s from → TokenIs s from (data_token_at s from) t
   unfolding sort_of word_byte run_byte data_token_on data_token_at
-  string-told e t p =
+  string_told e t p =
       let y = sym q ∙ e in
       let l = string-inside e in
-      let n = starts-here s from (rw y) (rw y) in
-      data-told s from t h (rw (n, lt-leb (length s) from l, y) p)
+      let n = starts_here s from (rw y) (rw y) in
+      data_told s from t h (rw (n, lt-leb (length s) from l, y) p)
 
 -- a run of digits at a place
 digit-run : (b : ℕ) → is digit b ≡ true → run_byte b ≡ true
@@ -122,28 +122,28 @@ digit-run b e = rw (e, or-true)
 digit-plain : (b : ℕ) → is digit b ≡ true → is blank b ≡ false
 digit-plain b e = rw (eqb-true (sort_of b) digit e)
 
-pub digit-dash : (b : ℕ) → is digit b ≡ true → eqb b (byte "-") ≡ false
+pub digit_dash : (b : ℕ) → is digit b ≡ true → eqb b (byte "-") ≡ false
 unfolding sort_of
-digit-dash b e = ne_eqb b (byte "-") (λ z. false≢true (rw z at e))
+digit_dash b e = ne_eqb b (byte "-") (λ z. false≢true (rw z at e))
 
-digit-some : (b : ℕ) → is digit b ≡ true → b ≢ 0
+digit_some : (b : ℕ) → is digit b ≡ true → b ≢ 0
 unfolding sort_of
-digit-some b e z = false≢true (rw z at e)
+digit_some b e z = false≢true (rw z at e)
 
 module _ (s : List ℕ) (from b : ℕ) (q : b ≡ byte_at s from) (h : from ≤ length s) (d : Bool) (k : d ≡ is digit b)
     (e : d ≡ true) where
-  digit-here : is digit (byte_at s from) ≡ true
-  digit-here = rw (← q, ← k) e
+  digit_here : is digit (byte_at s from) ≡ true
+  digit_here = rw (← q, ← k) e
 
-  pub digits-told : (end c : ℕ) (r : Bool) → PlaceIs s from (past (is digit) from (drop from s)) end → c ≡ byte_at s end
+  pub digits_told : (end c : ℕ) (r : Bool) → PlaceIs s from (past (is digit) from (drop from s)) end → c ≡ byte_at s end
       → r ≡ run_byte c → not r ≡ true
       → TokenIs s from (data_token_at s from) (token 26 from end)
   unfolding data_token_on data_token_at
-  digits-told end c r p u v w =
-      let y = digit-here in
-      let l = byte_inside s from (byte_at s from) refl (digit-some _ y) in
-      let n = starts-here s from (digit-plain _ y) (digit-dash _ y) in
+  digits_told end c r p u v w =
+      let y = digit_here in
+      let l = byte_inside s from (byte_at s from) refl (digit_some _ y) in
+      let n = starts_here s from (digit-plain _ y) (digit_dash _ y) in
       let o = run_ends run_byte s end p.high (rw (← u, ← v) (not-true r w)) in
       let g = o.is ∙ run_on (is digit) run_byte digit-run s from end p in
-      data-told s from (token 26 from end) h
+      data_told s from (token 26 from end) h
       (rw (n, lt-leb (length s) from l, digit-run _ y, eqb-true (sort_of (byte_at s from)) digit y, ← g))

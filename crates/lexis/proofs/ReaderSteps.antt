@@ -16,22 +16,22 @@ use Rattle.lexis.specs.declared.reader.Tokens.TheVariants.{Constraint, Data, Beh
 
 module _ (s : List ℕ) (from : ℕ) where
   -- behind the text's end
-  pub next-end : (k : Tokens) → length s < from → token text_end from from ≡ token_by k s from
+  pub next_end : (k : Tokens) → length s < from → token text_end from from ≡ token_by k s from
   unfolding skip token_on token_at data_token_on data_token_at type_token_at
-  next-end Constraint h = let l : length s ≤ from = omega arith in rw (drop_of_length-le s l, le-leb (length s) from l)
-  next-end Data h = let l : length s ≤ from = omega arith in rw (drop_of_length-le s l, le-leb (length s) from l)
-  next-end Behind h = let l : length s ≤ from = omega arith in rw (drop_of_length-le s l, le-leb (length s) from l)
+  next_end Constraint h = let l : length s ≤ from = omega arith in rw (drop_of_length-le s l, le-leb (length s) from l)
+  next_end Data h = let l : length s ≤ from = omega arith in rw (drop_of_length-le s l, le-leb (length s) from l)
+  next_end Behind h = let l : length s ≤ from = omega arith in rw (drop_of_length-le s l, le-leb (length s) from l)
 
   module _ (at : ℕ) (k : Tokens) (t : Token) (p : PlaceIs s from (token_start s from) at) where
-    pub next-constraint : k ≡ Constraint → t ≡ token_on s at → t ≡ token_by k s from
+    pub next_constraint : k ≡ Constraint → t ≡ token_on s at → t ≡ token_by k s from
     unfolding token_at
-    next-constraint e q = rw e (rw p.is at q)
+    next_constraint e q = rw e (rw p.is at q)
 
     -- the choice is one of the last two
-    pub next-data : (b : Bool) → (k ≡ Constraint → ⊥) → b ≡ behind_of k → t ≡ data_token_on (sorting b) s at
+    pub next_data : (b : Bool) → (k ≡ Constraint → ⊥) → b ≡ behind_of k → t ≡ data_token_on (sorting b) s at
         → t ≡ token_by k s from
     unfolding data_token_at type_token_at
-    next-data b n e q = by_kind k n (rw (p.is, e) at q)
+    next_data b n e q = by_kind k n (rw (p.is, e) at q)
       where
         by_kind : (k : Tokens) → (k ≡ Constraint → ⊥)
             → t ≡ data_token_on (sorting (behind_of k)) s (token_start s from) → t ≡ token_by k s from

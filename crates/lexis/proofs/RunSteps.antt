@@ -16,11 +16,11 @@ use Rattle.lexis.specs.Blanks.{skip, opens_comment, token_start}
 use Rattle.lexis.specs.Clauses.Answers.{PlaceIs, test_of, comment_open, token_here, admits, begins_by}
 use Rattle.lexis.specs.declared.runs.Class.{Class}
 use Rattle.lexis.specs.declared.runs.Class.TheVariants.{Digit, Word, Text, Run}
-use Rattle.lexis.proofs.Places.{drop-in}
+use Rattle.lexis.proofs.Places.{drop_in}
 
 -- behind the text's end stands 0
-pub byte-behind : (s : List ℕ) (at : ℕ) → length s ≤ at → 0 ≡ byte_at s at
-byte-behind s at h = sym (get_or-eq_default s 0 h)
+pub byte_behind : (s : List ℕ) (at : ℕ) → length s ≤ at → 0 ≡ byte_at s at
+byte_behind s at h = sym (get_or-eq_default s 0 h)
 
 -- in a run: what is left of it ends where the run does
 pub record InRun (test : ℕ → Bool) (s : List ℕ) (from x at : ℕ) : Type 0 where
@@ -28,9 +28,9 @@ pub record InRun (test : ℕ → Bool) (s : List ℕ) (from x at : ℕ) : Type 0
   pub high : at ≤ length s
   pub is : past test at (drop at s) ≡ x
 
-pub run-first : (test : ℕ → Bool) (s : List ℕ) (from : ℕ) → from ≤ length s
+pub run_first : (test : ℕ → Bool) (s : List ℕ) (from : ℕ) → from ≤ length s
     → InRun test s from (past test from (drop from s)) from
-run-first test s from h = record { low = omega arith; high = h; is = refl }
+run_first test s from h = record { low = omega arith; high = h; is = refl }
 
 module _ (test : ℕ → Bool) (s : List ℕ) (from x at : ℕ) (inv : InRun test s from x at) where
   pub run_end : length s ≤ at → PlaceIs s from x at
@@ -40,46 +40,46 @@ module _ (test : ℕ → Bool) (s : List ℕ) (from x at : ℕ) (inv : InRun tes
   module _ (r : Bool) (h : at < length s) (q : r ≡ test (byte_at s at)) where
     pub run_out : not r ≡ true → PlaceIs s from x at
     unfolding past
-    run_out e = record { is = rw (drop-in s at h, ← q, not-true r e) at inv.is; low = inv.low; high = inv.high }
+    run_out e = record { is = rw (drop_in s at h, ← q, not-true r e) at inv.is; low = inv.low; high = inv.high }
 
     pub run_on : not r ≡ false → InRun test s from x (at + 1)
     unfolding past
-    run_on e = record { low = omega arith; high = omega arith; is = rw (drop-in s at h, ← q, not-false r e) at inv.is }
+    run_on e = record { low = omega arith; high = omega arith; is = rw (drop_in s at h, ← q, not-false r e) at inv.is }
 
 -- behind a byte of a text
 module _ (s : List ℕ) (at : ℕ) (inside : Bool) where
-  pub open-inside : (r : Bool) → inside ≡ true → r ≡ line_end (byte_at s at)
+  pub open_inside : (r : Bool) → inside ≡ true → r ≡ line_end (byte_at s at)
       → not r ≡ comment_open inside (byte_at s at) (drop (at + 1) s)
-  open-inside r i h = rw (i, h)
+  open_inside r i h = rw (i, h)
 
-  pub open-other : inside ≡ false → (byte_at s at ≡ byte "-" → ⊥)
+  pub open_other : inside ≡ false → (byte_at s at ≡ byte "-" → ⊥)
       → false ≡ comment_open inside (byte_at s at) (drop (at + 1) s)
-  open-other i n = rw (i, ne_eqb (byte_at s at) (byte "-") n)
+  open_other i n = rw (i, ne_eqb (byte_at s at) (byte "-") n)
 
-  pub open-two : (b : ℕ) → inside ≡ false → byte_at s at ≡ byte "-" → b ≡ byte_at s (at + 1)
+  pub open_two : (b : ℕ) → inside ≡ false → byte_at s at ≡ byte "-" → b ≡ byte_at s (at + 1)
       → eqb b (byte "-") ≡ comment_open inside (byte_at s at) (drop (at + 1) s)
-  open-two b i e q = rw (i, eq-eqb (byte_at s at) (byte "-") e, get_or-drop (at + 1) s 0 0, add-zero, ← q)
+  open_two b i e q = rw (i, eq-eqb (byte_at s at) (byte "-") e, get_or-drop (at + 1) s 0 0, add-zero, ← q)
 
-skip-end : (inside : Bool) (at : ℕ) → skip inside at [] ≡ at
+skip_end : (inside : Bool) (at : ℕ) → skip inside at [] ≡ at
 unfolding skip
-skip-end true at = refl
-skip-end false at = refl
+skip_end true at = refl
+skip_end false at = refl
 
-skip-here : (inside : Bool) (at b : ℕ) (bs : List ℕ) → token_here inside b bs ≡ true → skip inside at (b ∷ bs) ≡ at
+skip_here : (inside : Bool) (at b : ℕ) (bs : List ℕ) → token_here inside b bs ≡ true → skip inside at (b ∷ bs) ≡ at
 unfolding skip
-skip-here true at b bs h = absurd (false≢true h)
-skip-here false at b bs h = rw (not-true (is blank b || opens_comment b bs) h)
+skip_here true at b bs h = absurd (false≢true h)
+skip_here false at b bs h = rw (not-true (is blank b || opens_comment b bs) h)
 
-skip-more : (inside : Bool) (at b : ℕ) (bs : List ℕ) → token_here inside b bs ≡ false
+skip_more : (inside : Bool) (at b : ℕ) (bs : List ℕ) → token_here inside b bs ≡ false
     → skip inside at (b ∷ bs) ≡ skip (comment_open inside b bs) (at + 1) bs
 unfolding skip
-skip-more true at b bs h = refl
-skip-more false at b bs h = rw (not-false (is blank b || opens_comment b bs) h)
+skip_more true at b bs h = refl
+skip_more false at b bs h = rw (not-false (is blank b || opens_comment b bs) h)
 
 -- no byte above `-` is a blank
-not-blank : (b : ℕ) → byte "-" < b → is blank b ≡ false
+not_blank : (b : ℕ) → byte "-" < b → is blank b ≡ false
 unfolding sort_of
-not-blank b h =
+not_blank b h =
     rw (ne_eqb b 32 (λ e. omega arith), ne_eqb b 9 (λ e. omega arith), ne_eqb b 13 (λ e. omega arith), ne_eqb b 10 (λ e. omega arith))
     (later (within (byte "0") (byte "9") b) (within (byte "a") (byte "z") b) (within (byte "A") (byte "Z") b) (among b marks))
   where
@@ -92,17 +92,17 @@ not-blank b h =
 
 -- whether a token starts at a byte
 module _ (s : List ℕ) (at : ℕ) (inside : Bool) where
-  pub here-far : inside ≡ false → byte "-" < byte_at s at → true ≡ token_here inside (byte_at s at) (drop (at + 1) s)
-  here-far i h = rw (i, not-blank (byte_at s at) h, ne_eqb (byte_at s at) (byte "-") (λ e. omega arith))
+  pub here_far : inside ≡ false → byte "-" < byte_at s at → true ≡ token_here inside (byte_at s at) (drop (at + 1) s)
+  here_far i h = rw (i, not_blank (byte_at s at) h, ne_eqb (byte_at s at) (byte "-") (λ e. omega arith))
 
-  pub here-two : (b : ℕ) → inside ≡ false → byte_at s at ≡ byte "-" → b ≡ byte_at s (at + 1)
+  pub here_two : (b : ℕ) → inside ≡ false → byte_at s at ≡ byte "-" → b ≡ byte_at s (at + 1)
       → not (eqb b (byte "-")) ≡ token_here inside (byte_at s at) (drop (at + 1) s)
   unfolding sort_of
-  here-two b i e q = rw (i, e, get_or-drop (at + 1) s 0 0, add-zero, ← q)
+  here_two b i e q = rw (i, e, get_or-drop (at + 1) s 0 0, add-zero, ← q)
 
-  pub here-other : (r : Bool) → inside ≡ false → (byte_at s at ≡ byte "-" → ⊥) → r ≡ is blank (byte_at s at)
+  pub here_other : (r : Bool) → inside ≡ false → (byte_at s at ≡ byte "-" → ⊥) → r ≡ is blank (byte_at s at)
       → not r ≡ token_here inside (byte_at s at) (drop (at + 1) s)
-  here-other r i n q = rw (i, ne_eqb (byte_at s at) (byte "-") n, q) (clear (is blank (byte_at s at)))
+  here_other r i n q = rw (i, ne_eqb (byte_at s at) (byte "-") n, q) (clear (is blank (byte_at s at)))
     where
       clear : (k : Bool) → not k ≡ not (k || false)
       clear true = refl
@@ -114,29 +114,29 @@ pub record InBlanks (s : List ℕ) (from x at : ℕ) (inside : Bool) : Type 0 wh
   pub high : at ≤ length s
   pub is : skip inside at (drop at s) ≡ x
 
-pub blanks-first : (s : List ℕ) (from : ℕ) → from ≤ length s → InBlanks s from (token_start s from) from false
-blanks-first s from h = record { low = omega arith; high = h; is = refl }
+pub blanks_first : (s : List ℕ) (from : ℕ) → from ≤ length s → InBlanks s from (token_start s from) from false
+blanks_first s from h = record { low = omega arith; high = h; is = refl }
 
 module _ (s : List ℕ) (from x at : ℕ) (inside : Bool) (inv : InBlanks s from x at inside) where
-  pub blanks-end : length s ≤ at → PlaceIs s from x at
-  blanks-end h = record { is = sym (skip-end inside at) ∙ (rw (drop_of_length-le s h) at inv.is); low = inv.low; high = inv.high }
+  pub blanks_end : length s ≤ at → PlaceIs s from x at
+  blanks_end h = record { is = sym (skip_end inside at) ∙ (rw (drop_of_length-le s h) at inv.is); low = inv.low; high = inv.high }
 
   module _ (r : Bool) (h : at < length s) (t : r ≡ token_here inside (byte_at s at) (drop (at + 1) s)) where
-    pub blanks-out : r ≡ true → PlaceIs s from x at
-    blanks-out e =
-        let k = skip-here inside at (byte_at s at) (drop (at + 1) s) (sym t ∙ e) in
-        record { is = sym k ∙ (rw (drop-in s at h) at inv.is); low = inv.low; high = inv.high }
+    pub blanks_out : r ≡ true → PlaceIs s from x at
+    blanks_out e =
+        let k = skip_here inside at (byte_at s at) (drop (at + 1) s) (sym t ∙ e) in
+        record { is = sym k ∙ (rw (drop_in s at h) at inv.is); low = inv.low; high = inv.high }
 
-    pub blanks-on : (after : Bool) → r ≡ false → after ≡ comment_open inside (byte_at s at) (drop (at + 1) s)
+    pub blanks_on : (after : Bool) → r ≡ false → after ≡ comment_open inside (byte_at s at) (drop (at + 1) s)
         → InBlanks s from x (at + 1) after
-    blanks-on after e q =
-        let k = skip-more inside at (byte_at s at) (drop (at + 1) s) (sym t ∙ e) in
-        record { low = omega arith; high = omega arith; is = rw q (sym k ∙ (rw (drop-in s at h) at inv.is)) }
+    blanks_on after e q =
+        let k = skip_more inside at (byte_at s at) (drop (at + 1) s) (sym t ∙ e) in
+        record { low = omega arith; high = omega arith; is = rw q (sym k ∙ (rw (drop_in s at h) at inv.is)) }
 
 -- a byte of a spelling and a byte of the text
 module _ (shape : Bool) (w b : ℕ) where
-  pub admits-same : not shape ≡ true → eqb w b ≡ admits shape w b
-  admits-same e = rw (not-true shape e)
+  pub admits_same : not shape ≡ true → eqb w b ≡ admits shape w b
+  admits_same e = rw (not-true shape e)
 
   pub admits-digit : (r : Bool) → not shape ≡ false → w ≡ byte "d" → r ≡ is digit b → r ≡ admits shape w b
   admits-digit r e k q = rw (not-false shape e, eq-eqb w (byte "d") k) q
@@ -154,9 +154,9 @@ fewer f [] bs h = absurd (omega arith)
 fewer f (x ∷ w) [] h = refl
 fewer f (x ∷ w) (b ∷ bs) h = and_none (f x b) (begins_by f w bs) (fewer f w bs (omega arith))
 
-pub begins-short : (f : ℕ → ℕ → Bool) (w s : List ℕ) (at : ℕ) → length s - at < length w
+pub begins_short : (f : ℕ → ℕ → Bool) (w s : List ℕ) (at : ℕ) → length s - at < length w
     → false ≡ begins_by f w (drop at s)
-begins-short f w s at h = fewer f w (drop at s) (simp length-drop h)
+begins_short f w s at h = fewer f w (drop at s) (simp length-drop h)
 
 -- in a word: what is left of it begins what is left of the text as the whole word begins the text
 pub record InWord (f : ℕ → ℕ → Bool) (w s : List ℕ) (at i : ℕ) (x : Bool) : Type 0 where
@@ -179,7 +179,7 @@ module _ (f : ℕ → ℕ → Bool) (w s : List ℕ) (at i : ℕ) (x : Bool) (in
     next =
         let k : at + i < length s = omega arith in
         let e : at + i + 1 ≡ at + (i + 1) = omega arith in
-        rw (drop-in w i h, drop-in s (at + i) k, ← q, e)
+        rw (drop_in w i h, drop_in s (at + i) k, ← q, e)
 
     pub word_out : not r ≡ true → false ≡ x
     word_out e = rw (next, not-true r e) at inv.is
@@ -188,25 +188,25 @@ module _ (f : ℕ → ℕ → Bool) (w s : List ℕ) (at i : ℕ) (x : Bool) (in
     word_on e = record { high = omega arith; room = inv.room; is = rw (next, not-false r e) at inv.is }
 
 -- a spelling and a shape are two rules for one walk
-pub starts-begins : (w bs : List ℕ) (r : Bool) → r ≡ begins_by eqb w bs → r ≡ starts_with w bs
+pub starts_begins : (w bs : List ℕ) (r : Bool) → r ≡ begins_by eqb w bs → r ≡ starts_with w bs
 unfolding begins_by starts_with
-starts-begins [] bs r q = q
-starts-begins (x ∷ w) [] r q = q
-starts-begins (x ∷ w) (b ∷ bs) r q = q ∙ ap (λ k. eqb x b && k) (starts-begins w bs (begins_by eqb w bs) refl)
+starts_begins [] bs r q = q
+starts_begins (x ∷ w) [] r q = q
+starts_begins (x ∷ w) (b ∷ bs) r q = q ∙ ap (λ k. eqb x b && k) (starts_begins w bs (begins_by eqb w bs) refl)
 
-pub shaped-begins : (w bs : List ℕ) (r : Bool) → r ≡ begins_by allows w bs → r ≡ shaped w bs
+pub shaped_begins : (w bs : List ℕ) (r : Bool) → r ≡ begins_by allows w bs → r ≡ shaped w bs
 unfolding begins_by shaped
-shaped-begins [] bs r q = q
-shaped-begins (x ∷ w) [] r q = q
-shaped-begins (x ∷ w) (b ∷ bs) r q = q ∙ ap (λ k. allows x b && k) (shaped-begins w bs (begins_by allows w bs) refl)
+shaped_begins [] bs r q = q
+shaped_begins (x ∷ w) [] r q = q
+shaped_begins (x ∷ w) (b ∷ bs) r q = q ∙ ap (λ k. allows x b && k) (shaped_begins w bs (begins_by allows w bs) refl)
 
 -- runs of two lengths differ
-pub same-long : (a b : List ℕ) → (length a ≡ length b → ⊥) → false ≡ same a b
+pub same_long : (a b : List ℕ) → (length a ≡ length b → ⊥) → false ≡ same a b
 unfolding same
-same-long [] [] n = absurd (n refl)
-same-long [] (y ∷ ys) n = refl
-same-long (x ∷ xs) [] n = refl
-same-long (x ∷ xs) (y ∷ ys) n = and_none (eqb x y) (same xs ys) (same-long xs ys (λ e. n (ap suc e)))
+same_long [] [] n = absurd (n refl)
+same_long [] (y ∷ ys) n = refl
+same_long (x ∷ xs) [] n = refl
+same_long (x ∷ xs) (y ∷ ys) n = and_none (eqb x y) (same xs ys) (same_long xs ys (λ e. n (ap suc e)))
 
 -- in two runs of one length: what is left of them is the same where they are
 pub record InBoth (a b : List ℕ) (i : ℕ) : Type 0 where
@@ -225,24 +225,24 @@ module _ (a b : List ℕ) (i : ℕ) (inv : InBoth a b i) where
   module _ (h : i < length a) where
     step : same (drop i a) (drop i b) ≡ (eqb (byte_at a i) (byte_at b i) && same (drop (i + 1) a) (drop (i + 1) b))
     unfolding same
-    step = let k : i < length b = omega arith in rw (drop-in a i h, drop-in b i k)
+    step = let k : i < length b = omega arith in rw (drop_in a i h, drop_in b i k)
 
     pub both_out : (byte_at a i ≡ byte_at b i → ⊥) → false ≡ same a b
     both_out n = rw (step, ne_eqb (byte_at a i) (byte_at b i) n) at inv.is
 
-    pub both-on : byte_at a i ≡ byte_at b i → InBoth a b (i + 1)
-    both-on e = record { high = omega arith; long = inv.long; is = rw (step, eq-eqb (byte_at a i) (byte_at b i) e) at inv.is }
+    pub both_on : byte_at a i ≡ byte_at b i → InBoth a b (i + 1)
+    both_on e = record { high = omega arith; long = inv.long; is = rw (step, eq-eqb (byte_at a i) (byte_at b i) e) at inv.is }
 
 -- the test of each class
 module _ (k : Class) (b : ℕ) (r : Bool) where
-  pub class-digit : k ≡ Digit → r ≡ is digit b → r ≡ test_of k b
-  class-digit e q = rw e q
+  pub class_digit : k ≡ Digit → r ≡ is digit b → r ≡ test_of k b
+  class_digit e q = rw e q
 
-  pub class-word : k ≡ Word → r ≡ word_byte b → r ≡ test_of k b
-  class-word e q = rw e q
+  pub class_word : k ≡ Word → r ≡ word_byte b → r ≡ test_of k b
+  class_word e q = rw e q
 
-  pub class-text : k ≡ Text → r ≡ string_byte b → r ≡ test_of k b
-  class-text e q = rw e q
+  pub class_text : k ≡ Text → r ≡ string_byte b → r ≡ test_of k b
+  class_text e q = rw e q
 
-  pub class-run : k ≡ Run → r ≡ run_byte b → r ≡ test_of k b
-  class-run e q = rw e q
+  pub class_run : k ≡ Run → r ≡ run_byte b → r ≡ test_of k b
+  class_run e q = rw e q

@@ -51,8 +51,8 @@ pub record Walked (Slot : ℕ → List ℕ → Type 0) (bit : ℕ) (letters : Li
   pub sum : y.flag ≡ x.flag + flag
 
 -- the letters before T and behind it are such
-date-letters : Letters (bytes "ymwd")
-date-letters = (
+date_letters : Letters (bytes "ymwd")
+date_letters = (
   SpellingRules.small (omega arith) (omega arith),
   (refl, (refl, (refl, tt))),
   (
@@ -66,8 +66,8 @@ date-letters = (
   ),
 )
 
-time-letters : Letters (bytes "hms")
-time-letters = (
+time_letters : Letters (bytes "hms")
+time_letters = (
   SpellingRules.small (omega arith) (omega arith),
   (refl, (refl, tt)),
   (
@@ -82,9 +82,9 @@ no_bytes [] h = refl
 no_bytes (b ∷ bs) h = absurd (omega (arith, eqb-true (suc (length bs)) 0 h))
 
 -- one slot at least
-pub slots-some : {Slot : ℕ → List ℕ → Type 0} {w : List ℕ} {f : ℕ} → SlotsBehindP Slot w f → f ≢ 0
-slots-some (DurationRules.dates k n) = n
-slots-some (DurationRules.times k l n) = λ z. n (omega arith)
+pub slots_some : {Slot : ℕ → List ℕ → Type 0} {w : List ℕ} {f : ℕ} → SlotsBehindP Slot w f → f ≢ 0
+slots_some (DurationRules.dates k n) = n
+slots_some (DurationRules.times k l n) = λ z. n (omega arith)
 
 module _ (slot : ℕ → List ℕ → ℕ) (Slot : ℕ → List ℕ → Type 0) (law : SlotsRead slot Slot) where
   -- a walk fills slots in their order
@@ -140,10 +140,10 @@ module _ (slot : ℕ → List ℕ → ℕ) (Slot : ℕ → List ℕ → Type 0) 
   from_start {flag = flag} rest l t k = let a : 0 + flag ≡ flag = omega arith in rw a at (walks rest 0 l t k)
 
   -- what a walk behind T finds
-  time-of : (flag : ℕ) (bs : List ℕ) (f : ℕ) → behind_time slot flag bs ≡ f → f ≢ 0
+  time_of_lem : (flag : ℕ) (bs : List ℕ) (f : ℕ) → behind_time slot flag bs ≡ f → f ≢ 0
       → (time : ℕ) × SlotsInOrder Slot 16 (bytes "hms") bs time × (time ≢ 0) × (f ≡ flag + time)
   unfolding behind_time
-  time-of flag bs f e n =
+  time_of_lem flag bs f e n =
       let y = fill_all slot 16 (bytes "hms") (filled 0 bs) in
       by_cond (λ (k : ℕ). k ≡ f → (time : ℕ) × SlotsInOrder Slot 16 (bytes "hms") bs time × (time ≢ 0) × (f ≡ flag + time)) (none_left y && leb 1 y.flag)
       (λ h g. found (walked (bytes "hms") 16 (filled 0 bs)) (no_bytes y.rest (and_left (none_left y) (leb 1 y.flag) h)) (leb-true 1 y.flag (and_right (none_left y) (leb 1 y.flag) h)) (sym g))
@@ -161,16 +161,16 @@ module _ (slot : ℕ → List ℕ → ℕ) (Slot : ℕ → List ℕ → Type 0) 
           (k.flag, rw w k.slots, λ z. omega arith, omega arith)
 
   -- what a walk behind P finds
-  date-of : (bs : List ℕ) (f : ℕ) → behind_date slot (fill_all slot 1 (bytes "ymwd") (filled 0 bs)) ≡ f → f ≢ 0
+  date_of_lem : (bs : List ℕ) (f : ℕ) → behind_date slot (fill_all slot 1 (bytes "ymwd") (filled 0 bs)) ≡ f → f ≢ 0
       → SlotsBehindP Slot (byte "P" ∷ bs) f
   unfolding behind_date
-  date-of bs f e n =
+  date_of_lem bs f e n =
       let x = fill_all slot 1 (bytes "ymwd") (filled 0 bs) in
       let k = walked (bytes "ymwd") 1 (filled 0 bs) in
       by_cond (λ (m : ℕ). m ≡ f → SlotsBehindP Slot (byte "P" ∷ bs) f) (none_left x)
       (λ h g. alone k (no_bytes x.rest h) g)
       (λ h. by_cond (λ (m : ℕ). m ≡ f → SlotsBehindP Slot (byte "P" ∷ bs) f) (eqb (byte_at x.rest 0) (byte "T"))
-      (λ i g. timed k (first x.rest (eqb-true _ _ i)) (time-of x.flag (drop 1 x.rest) f g n))
+      (λ i g. timed k (first x.rest (eqb-true _ _ i)) (time_of_lem x.flag (drop 1 x.rest) f g n))
       (λ i g. absurd (n (sym g))))
       e
     where
@@ -202,32 +202,32 @@ module _ (slot : ℕ → List ℕ → ℕ) (Slot : ℕ → List ℕ → Type 0) 
           subst (λ (l : List ℕ). SlotsBehindP Slot (byte "P" ∷ l) f) (sym w) (rw z (DurationRules.times k.slots slots m))
 
   -- the walk finds what the rules say
-  found-slots : (w : List ℕ) (f : ℕ) → slots_of slot w ≡ f → f ≢ 0 → SlotsBehindP Slot w f
+  found_slots : (w : List ℕ) (f : ℕ) → slots_of slot w ≡ f → f ≢ 0 → SlotsBehindP Slot w f
   unfolding slots_of
-  found-slots [] f e n = absurd (n (sym e))
-  found-slots (b ∷ bs) f e n =
+  found_slots [] f e n = absurd (n (sym e))
+  found_slots (b ∷ bs) f e n =
       by_cond (λ (m : ℕ). m ≡ f → SlotsBehindP Slot (b ∷ bs) f) (eqb b (byte "P"))
-      (λ h g. subst (λ (i : ℕ). SlotsBehindP Slot (i ∷ bs) f) (sym (eqb-true b (byte "P") h)) (date-of bs f g n))
+      (λ h g. subst (λ (i : ℕ). SlotsBehindP Slot (i ∷ bs) f) (sym (eqb-true b (byte "P") h)) (date_of_lem bs f g n))
       (λ h g. absurd (n (sym g)))
       e
 
-  slots-time : (date time : ℕ) (w v : List ℕ)
+  slots_time : (date time : ℕ) (w v : List ℕ)
       → fill_all slot 16 (bytes "hms") (filled 0 v) ≡ filled time []
       → fill_all slot 1 (bytes "ymwd") (filled 0 (w ++ (byte "T" ∷ v))) ≡ filled date (byte "T" ∷ v)
       → time ≢ 0 → slots_of slot (byte "P" ∷ (w ++ (byte "T" ∷ v))) ≡ date + time
   unfolding slots_of behind_date behind_time
-  slots-time date time w v g e n = rw (e, eqb-suc-zero (length v), g, le-leb 1 time (omega arith)) refl
+  slots_time date time w v g e n = rw (e, eqb-suc-zero (length v), g, le-leb 1 time (omega arith)) refl
 
   -- what the rules say, the walk finds
-  slots-found : {w : List ℕ} {f : ℕ} → SlotsBehindP Slot w f → slots_of slot w ≡ f
+  slots_found : {w : List ℕ} {f : ℕ} → SlotsBehindP Slot w f → slots_of slot w ≡ f
   unfolding slots_of behind_date behind_time
-  slots-found (DurationRules.dates {w = w} {flag = flag} k n) =
-      let e = from_start [] date-letters ended k in
+  slots_found (DurationRules.dates {w = w} {flag = flag} k n) =
+      let e = from_start [] date_letters ended k in
       rw (append-nil w) at (ap (behind_date slot) e)
-  slots-found (DurationRules.times {w = w} {v = v} {date = date} {time = time} k l n) =
-      let e = from_start (byte "T" ∷ v) date-letters (time_follows v) k in
-      let g = from_start [] time-letters ended l in
-      slots-time date time w v (rw append-nil at g) e n
+  slots_found (DurationRules.times {w = w} {v = v} {date = date} {time = time} k l n) =
+      let e = from_start (byte "T" ∷ v) date_letters (time_follows v) k in
+      let g = from_start [] time_letters ended l in
+      slots_time date time w v (rw append-nil at g) e n
 
-  pub slots-is : (w : List ℕ) (f : ℕ) → f ≢ 0 → (slots_of slot w ≡ f) ↔ SlotsBehindP Slot w f
-  slots-is w f n = (λ e. found-slots w f e n, slots-found)
+  pub slots_is : (w : List ℕ) (f : ℕ) → f ≢ 0 → (slots_of slot w ≡ f) ↔ SlotsBehindP Slot w f
+  slots_is w f n = (λ e. found_slots w f e n, slots_found)

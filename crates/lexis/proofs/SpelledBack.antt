@@ -14,8 +14,8 @@ use Rattle.lexis.specs.Spelling.{Literal, literal_of, mark_spellings, element_si
 use Rattle.lexis.specs.Tokens.{token, spelled, token_on}
 use Rattle.lexis.specs.declared.Token.{Token}
 use Rattle.lexis.proofs.Cases.{by_cond, and_left, and_right}
-use Rattle.lexis.proofs.RunLaws.{and_no, starts-self, first_read}
-use Rattle.lexis.proofs.ReadBack.{on-sort, every}
+use Rattle.lexis.proofs.RunLaws.{and_no, starts_self, first_read}
+use Rattle.lexis.proofs.ReadBack.{on_sort, every}
 
 -- bytes spelled ys, and then the byte `next`, do not begin as xs
 unfoldable pub apart : ℕ → List ℕ → List ℕ → Bool
@@ -32,14 +32,14 @@ starts_apart (x ∷ xs) [] (r ∷ rs) h = rw (ne_eqb x r (λ q. eqb-false r x (n
 starts_apart (x ∷ xs) (y ∷ ys) rest h = and_no (eqb x y) (starts_with xs (ys ++ rest)) (λ q. starts_apart xs ys rest (rw q at h))
 
 -- runs that are the same are equal
-same-eq : (xs ys : List ℕ) → same xs ys ≡ true → xs ≡ ys
+same_eq : (xs ys : List ℕ) → same xs ys ≡ true → xs ≡ ys
 unfolding same
-same-eq [] [] h = refl
-same-eq [] (y ∷ ys) h = absurd (false≢true h)
-same-eq (x ∷ xs) [] h = absurd (false≢true h)
-same-eq (x ∷ xs) (y ∷ ys) h =
+same_eq [] [] h = refl
+same_eq [] (y ∷ ys) h = absurd (false≢true h)
+same_eq (x ∷ xs) [] h = absurd (false≢true h)
+same_eq (x ∷ xs) (y ∷ ys) h =
     let p = eqb-true x y (and_left (eqb x y) (same xs ys) h) in
-    let q = same-eq xs ys (and_right (eqb x y) (same xs ys) h) in
+    let q = same_eq xs ys (and_right (eqb x y) (same xs ys) h) in
     λ i. p i ∷ q i
 
 -- the first spelling of a list with which w, and then the byte `next`, begin is w itself, and of the sort given
@@ -58,22 +58,22 @@ reads next sort (b ∷ w) =
     (cond (eqb b (byte "\"")) false (cond (eqb b (byte "[")) false (leads next element_sign sort (b ∷ w)))))))
 
 -- such a list gives the token of that sort
-spelled-leads : (w rest : List ℕ) (sort : ℕ) (ls : List Literal) (at : ℕ) (t : Token)
+spelled_leads : (w rest : List ℕ) (sort : ℕ) (ls : List Literal) (at : ℕ) (t : Token)
     → leads (byte_at rest 0) ls sort w ≡ true
     → spelled ls at (w ++ rest) t ≡ token sort at (at + length w)
 unfolding spelled leads
-spelled-leads w rest sort [] at t k = absurd (false≢true k)
-spelled-leads w rest sort (l ∷ ls) at t k =
+spelled_leads w rest sort [] at t k = absurd (false≢true k)
+spelled_leads w rest sort (l ∷ ls) at t k =
     by_cond (λ v. v ≡ true → spelled (l ∷ ls) at (w ++ rest) t ≡ token sort at (at + length w)) (apart (byte_at rest 0) l.spelling w)
-    (λ e m. rw (starts_apart l.spelling w rest e, spelled-leads w rest sort ls at t m))
-    (λ e m. rw (same-eq l.spelling w (and_left (same l.spelling w) (eqb l.sort sort) m), starts-self w rest, eqb-true l.sort sort (and_right (same l.spelling w) (eqb l.sort sort) m)))
+    (λ e m. rw (starts_apart l.spelling w rest e, spelled_leads w rest sort ls at t m))
+    (λ e m. rw (same_eq l.spelling w (and_left (same l.spelling w) (eqb l.sort sort) m), starts_self w rest, eqb-true l.sort sort (and_right (same l.spelling w) (eqb l.sort sort) m)))
     k
 
 -- two choices by one test, where the first choice passes
-by-same : (b : Bool) {p q : Bool} {x y z : Token} → cond b p q ≡ true → (p ≡ true → x ≡ z) → (q ≡ true → y ≡ z)
+by_same : (b : Bool) {p q : Bool} {x y z : Token} → cond b p q ≡ true → (p ≡ true → x ≡ z) → (q ≡ true → y ≡ z)
     → cond b x y ≡ z
-by-same true h f g = f h
-by-same false h f g = g h
+by_same true h f g = f h
+by_same false h f g = g h
 
 -- what cannot be read needs no proof
 never : {x z : Token} → false ≡ true → x ≡ z
@@ -85,21 +85,21 @@ narrow true d q h = absurd (false≢true h)
 narrow false d q h = h
 
 -- a spelling that passes the test reads back as a token of its own sort and length
-pub reads-back : (s : List ℕ) (at : ℕ) (w rest : List ℕ) → drop at s ≡ w ++ rest → (sort : ℕ)
+pub reads_back : (s : List ℕ) (at : ℕ) (w rest : List ℕ) → drop at s ≡ w ++ rest → (sort : ℕ)
     → reads (byte_at rest 0) sort w ≡ true
     → token_on s at ≡ token sort at (at + length w)
 unfolding reads
-reads-back s at [] rest h sort k = absurd (false≢true k)
-reads-back s at (b ∷ w) rest h sort k =
-    let t = spelled-leads (b ∷ w) rest sort in
-    on-sort s at b (w ++ rest) h (sort_of b) refl
+reads_back s at [] rest h sort k = absurd (false≢true k)
+reads_back s at (b ∷ w) rest h sort k =
+    let t = spelled_leads (b ∷ w) rest sort in
+    on_sort s at b (w ++ rest) h (sort_of b) refl
     ∙ rw (h, first_read s at b (w ++ rest) h)
-    (by-same (is capital b) k (t time_pattern_spellings at _)
-    (λ k. by-same (is small b) k (t date_pattern_spellings at _)
-    (λ k. by-same (is digit b) k never
-    (λ k. by-same (is mark b) k
-    (λ k. by-same (eqb b (byte "-") && is digit (byte_at s (at + 1))) (narrow (eqb b (byte "-")) (is digit (byte_at s (at + 1))) _ k) never (t mark_spellings at _))
-    (λ k. by-same (eqb b (byte "\"")) k never (λ k. by-same (eqb b (byte "[")) k never (t element_sign at _)))))))
+    (by_same (is capital b) k (t time_pattern_spellings at _)
+    (λ k. by_same (is small b) k (t date_pattern_spellings at _)
+    (λ k. by_same (is digit b) k never
+    (λ k. by_same (is mark b) k
+    (λ k. by_same (eqb b (byte "-") && is digit (byte_at s (at + 1))) (narrow (eqb b (byte "-")) (is digit (byte_at s (at + 1))) _ k) never (t mark_spellings at _))
+    (λ k. by_same (eqb b (byte "\"")) k never (λ k. by_same (eqb b (byte "[")) k never (t element_sign at _)))))))
 
 -- all that is spelled in one way and does not read as a word
 abbrev pub literals : List Literal
@@ -123,24 +123,24 @@ split true f g = f refl
 split false f g = g refl
 
 -- a test that all of a list pass is passed by each
-every-at : (test : Literal → Bool) (ls : List Literal) (i : ℕ) (d : Literal) → i < length ls → every test ls ≡ true
+every_at : (test : Literal → Bool) (ls : List Literal) (i : ℕ) (d : Literal) → i < length ls → every test ls ≡ true
     → test (get_or ls i d) ≡ true
 unfolding every
-every-at test [] i d l h = absurd (omega arith)
-every-at test (x ∷ ls) zero d l h = and_left (test x) (every test ls) h
-every-at test (x ∷ ls) (suc i) d l h = every-at test ls i d (omega arith) (and_right (test x) (every test ls) h)
+every_at test [] i d l h = absurd (omega arith)
+every_at test (x ∷ ls) zero d l h = and_left (test x) (every test ls) h
+every_at test (x ∷ ls) (suc i) d l h = every_at test ls i d (omega arith) (and_right (test x) (every test ls) h)
 
 -- the whole list reads back, computed once for all
-literals-read : (next : ℕ) → every (literal-reads next) literals ≡ true
+literals_read : (next : ℕ) → every (literal-reads next) literals ≡ true
 unfolding every literal-reads reads leads apart same sort_of
-literals-read next = split (eqb next (byte "=")) (λ e. rw e) (λ e. rw e)
+literals_read next = split (eqb next (byte "=")) (λ e. rw e) (λ e. rw e)
 
 -- every spelling of the list reads back as its own sort, whatever follows, but for `=` behind `<` and `>`
-pub literal-read : (s : List ℕ) (at : ℕ) (rest : List ℕ) (i : ℕ) → i < length literals
+pub literal_read : (s : List ℕ) (at : ℕ) (rest : List ℕ) (i : ℕ) → i < length literals
     → drop at s ≡ (literal_at i).spelling ++ rest
     → free (literal_at i).sort (byte_at rest 0) ≡ true
     → token_on s at ≡ token (literal_at i).sort at (at + length (literal_at i).spelling)
 unfolding literal-reads
-literal-read s at rest i l h f =
-    let k = every-at (literal-reads (byte_at rest 0)) literals i (literal_of 0 []) l (literals-read (byte_at rest 0)) in
-    reads-back s at (literal_at i).spelling rest h (literal_at i).sort (rw f at k)
+literal_read s at rest i l h f =
+    let k = every_at (literal-reads (byte_at rest 0)) literals i (literal_of 0 []) l (literals_read (byte_at rest 0)) in
+    reads_back s at (literal_at i).spelling rest h (literal_at i).sort (rw f at k)

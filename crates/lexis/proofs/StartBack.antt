@@ -16,8 +16,8 @@ use Rattle.lexis.specs.Blanks.{skip, opens_comment, token_start}
 use Rattle.lexis.specs.Tokens.{token, no_token, spelled, token_on, token_at, text_end, unreadable}
 use Rattle.lexis.specs.declared.Token.{Token}
 use Rattle.lexis.proofs.Cases.{either, and_left, and_right}
-use Rattle.lexis.proofs.RunLaws.{behind, next-read, first_read}
-use Rattle.lexis.proofs.ReadBack.{on-sort, every}
+use Rattle.lexis.proofs.RunLaws.{behind, next_read, first_read}
+use Rattle.lexis.proofs.ReadBack.{on_sort, every}
 
 -- neither a blank nor a comment starts here
 unfoldable pub clear : List ℕ → Bool
@@ -42,18 +42,18 @@ skip-run at (b ∷ ws) bs a c =
 -- where the text from a place on is blanks, and then no blank and no comment, the next token starts behind the blanks
 module _ (s : List ℕ) (from : ℕ) (ws bs : List ℕ) (h : drop from s ≡ ws ++ bs) (a : all (is blank) ws ≡ true) where
   -- that place is where it starts
-  pub start-read : clear bs ≡ true → token_start s from ≡ from + length ws
-  start-read c = rw h (skip-run from ws bs a c)
+  pub start_read : clear bs ≡ true → token_start s from ≡ from + length ws
+  start_read c = rw h (skip-run from ws bs a c)
 
   -- it is the token that starts there
-  pub token-behind : clear bs ≡ true → token_at s from ≡ token_on s (from + length ws)
+  pub token_behind : clear bs ≡ true → token_at s from ≡ token_on s (from + length ws)
   unfolding token_at
-  token-behind c = rw (start-read c)
+  token_behind c = rw (start_read c)
 
 -- where no blank and no comment starts, the next token starts at once
-pub start-here : (s : List ℕ) (from : ℕ) → clear (drop from s) ≡ true → token_start s from ≡ from
+pub start_here : (s : List ℕ) (from : ℕ) → clear (drop from s) ≡ true → token_start s from ≡ from
 unfolding all
-start-here s from c = rw add-zero at (start-read s from [] (drop from s) refl refl c)
+start_here s from c = rw add-zero at (start_read s from [] (drop from s) refl refl c)
 
 -- where only blanks follow, the next token is the text's end
 pub end_read : (s : List ℕ) (from : ℕ) → from ≤ length s → all (is blank) (drop from s) ≡ true
@@ -62,7 +62,7 @@ unfolding token_on clear
 end_read s from l a =
     let d = length-drop from s in
     let e : from + length (drop from s) ≡ length s = omega arith in
-    token-behind s from (drop from s) [] (sym (append-nil (drop from s))) a refl ∙ rw (e, le-leb (length s) (length s) (omega arith))
+    token_behind s from (drop from s) [] (sym (append-nil (drop from s))) a refl ∙ rw (e, le-leb (length s) (length s) (omega arith))
 
 -- a place is clear by the byte there and the one behind it
 pub clear_at : (s : List ℕ) (from : ℕ) (bs : List ℕ) → drop from s ≡ bs → is blank (byte_at s from) ≡ false
@@ -71,7 +71,7 @@ unfolding clear
 clear_at s from [] h e n = refl
 clear_at s from (b ∷ bs) h e n =
     let p = first_read s from b bs h in
-    rw (rw p at e, rw (p, next-read s from (b ∷ []) bs h) at n)
+    rw (rw p at e, rw (p, next_read s from (b ∷ []) bs h) at n)
 
 -- nothing that can be read starts with a blank, or as a comment does
 module _ (s : List ℕ) (at b : ℕ) (bs : List ℕ) (h : drop at s ≡ b ∷ bs) where
@@ -79,48 +79,48 @@ module _ (s : List ℕ) (at b : ℕ) (bs : List ℕ) (h : drop at s ≡ b ∷ bs
   unfolding spelled starts_with sort_of
   blank_none e =
       let n : eqb 0xE2 b ≡ false = ne_eqb 0xE2 b (λ q. eqb-false b 0xE2 (differs b 0xE2 blank e refl) (sym q)) in
-      on-sort s at b bs h blank e ∙ rw (h, first_read s at b bs h, differs b (byte "\"") blank e refl, differs b (byte "[") blank e refl, n)
+      on_sort s at b bs h blank e ∙ rw (h, first_read s at b bs h, differs b (byte "\"") blank e refl, differs b (byte "[") blank e refl, n)
 
-  comment-none : b ≡ byte "-" → byte_at bs 0 ≡ byte "-" → token_on s at ≡ no_token at
+  comment_none : b ≡ byte "-" → byte_at bs 0 ≡ byte "-" → token_on s at ≡ no_token at
   unfolding spelled starts_with sort_of
-  comment-none e f = on-sort s at b bs h mark (rw e) ∙ rw (h, first_read s at b bs h, next-read s at (b ∷ []) bs h, e, f)
+  comment_none e f = on_sort s at b bs h mark (rw e) ∙ rw (h, first_read s at b bs h, next_read s at (b ∷ []) bs h, e, f)
 
 -- neither of two tests passes
-not-or : (x y : Bool) → (x ≡ true → ⊥) → (y ≡ true → ⊥) → not (x || y) ≡ true
-not-or true y f g = absurd (f refl)
-not-or false true f g = absurd (g refl)
-not-or false false f g = refl
+not_or : (x y : Bool) → (x ≡ true → ⊥) → (y ≡ true → ⊥) → not (x || y) ≡ true
+not_or true y f g = absurd (f refl)
+not_or false true f g = absurd (g refl)
+not_or false false f g = refl
 
 -- a place at which something can be read is clear
-pub token-clear : (s : List ℕ) (at : ℕ) (bs : List ℕ) → drop at s ≡ bs → eqb (token_on s at).sort unreadable ≡ false
+pub token_clear : (s : List ℕ) (at : ℕ) (bs : List ℕ) → drop at s ≡ bs → eqb (token_on s at).sort unreadable ≡ false
     → clear bs ≡ true
 unfolding clear
-token-clear s at [] h n = refl
-token-clear s at (b ∷ bs) h n =
-    not-or (is blank b) (opens_comment b bs)
+token_clear s at [] h n = refl
+token_clear s at (b ∷ bs) h n =
+    not_or (is blank b) (opens_comment b bs)
     (λ e. false≢true (sym n ∙ rw (blank_none s at b bs h (eqb-true _ _ e))))
     (λ e. let x = eqb b (byte "-") in let y = eqb (byte_at bs 0) (byte "-") in
-    false≢true (sym n ∙ rw (comment-none s at b bs h (eqb-true _ _ (and_left x y e)) (eqb-true _ _ (and_right x y e)))))
+    false≢true (sym n ∙ rw (comment_none s at b bs h (eqb-true _ _ (and_left x y e)) (eqb-true _ _ (and_right x y e)))))
 
 -- behind blanks, a token that can be read is the next token
-pub token-read : (s : List ℕ) (from : ℕ) (ws bs : List ℕ) → drop from s ≡ ws ++ bs → all (is blank) ws ≡ true
+pub token_read : (s : List ℕ) (from : ℕ) (ws bs : List ℕ) → drop from s ≡ ws ++ bs → all (is blank) ws ≡ true
     → {t : Token} → token_on s (from + length ws) ≡ t → eqb t.sort unreadable ≡ false → token_at s from ≡ t
-token-read s from ws bs h a e n =
-    token-behind s from ws bs h a (token-clear s (from + length ws) bs (behind s from ws bs h) (rw e n)) ∙ e
+token_read s from ws bs h a e n =
+    token_behind s from ws bs h a (token_clear s (from + length ws) bs (behind s from ws bs h) (rw e n)) ∙ e
 
 -- where no blank stands before it, a token that can be read is the next token
-pub token-here : (s : List ℕ) (from : ℕ) {t : Token} → token_on s from ≡ t → eqb t.sort unreadable ≡ false
+pub token_here_lem : (s : List ℕ) (from : ℕ) {t : Token} → token_on s from ≡ t → eqb t.sort unreadable ≡ false
     → token_at s from ≡ t
 unfolding token_at
-token-here s from e n = rw (start-here s from (token-clear s from (drop from s) refl (rw e n))) e
+token_here_lem s from e n = rw (start_here s from (token_clear s from (drop from s) refl (rw e n))) e
 
 -- a word can be read, where its list and its sort can
-pub word-readable : (ls : List Literal) (w : List ℕ) (sort : ℕ) → every (λ l. not (eqb l.sort unreadable)) ls ≡ true
+pub word_readable : (ls : List Literal) (w : List ℕ) (sort : ℕ) → every (λ l. not (eqb l.sort unreadable)) ls ≡ true
     → eqb sort unreadable ≡ false
     → eqb (word_sort ls w sort) unreadable ≡ false
 unfolding every word_sort
-word-readable [] w sort k e = e
-word-readable (l ∷ ls) w sort k e =
+word_readable [] w sort k e = e
+word_readable (l ∷ ls) w sort k e =
     let p = not (eqb l.sort unreadable) in
     let q = every (λ m. not (eqb m.sort unreadable)) ls in
-    either (λ x. eqb x unreadable ≡ false) (same l.spelling w) (not-true (eqb l.sort unreadable) (and_left p q k)) (word-readable ls w sort (and_right p q k) e)
+    either (λ x. eqb x unreadable ≡ false) (same l.spelling w) (not-true (eqb l.sort unreadable) (and_left p q k)) (word_readable ls w sort (and_right p q k) e)

@@ -28,16 +28,16 @@ pub sets_behind : (xs ys l : List ℕ) (i j : ℕ) → i + length xs ≡ j → s
 sets_behind xs ys l i j e = rw (← e) (sym (sets-append xs ys l i))
 
 -- what stands below a run stays
-pub below-sets : (vs l : List ℕ) (i j : ℕ) → j < i → get_or (sets l i vs) j 0 ≡ get_or l j 0
-below-sets [] l i j h = refl
-below-sets (a ∷ vs) l i j h = below-sets vs (set l i a) (suc i) j (omega arith) ∙ get_or-set_other l i j a 0 (λ e. omega arith)
+pub below_sets : (vs l : List ℕ) (i j : ℕ) → j < i → get_or (sets l i vs) j 0 ≡ get_or l j 0
+below_sets [] l i j h = refl
+below_sets (a ∷ vs) l i j h = below_sets vs (set l i a) (suc i) j (omega arith) ∙ get_or-set_other l i j a 0 (λ e. omega arith)
 
 -- a number of a run stands at its place
-pub in-sets : (vs l : List ℕ) (i k : ℕ) → i + length vs ≤ length l → k < length vs
+pub in_sets : (vs l : List ℕ) (i k : ℕ) → i + length vs ≤ length l → k < length vs
     → get_or (sets l i vs) (i + k) 0 ≡ get_or vs k 0
-in-sets [] l i k h b = absurd (omega arith)
-in-sets (a ∷ vs) l i zero h b =
-    ap (λ (j : ℕ). get_or (sets (set l i a) (suc i) vs) j 0) (add-zero i) ∙ below-sets vs (set l i a) (suc i) i (omega arith) ∙ get_or-set_same l i a 0 (omega arith)
-in-sets (a ∷ vs) l i (suc k) h b =
+in_sets [] l i k h b = absurd (omega arith)
+in_sets (a ∷ vs) l i zero h b =
+    ap (λ (j : ℕ). get_or (sets (set l i a) (suc i) vs) j 0) (add-zero i) ∙ below_sets vs (set l i a) (suc i) i (omega arith) ∙ get_or-set_same l i a 0 (omega arith)
+in_sets (a ∷ vs) l i (suc k) h b =
     let e : i + suc k ≡ suc i + k = omega arith in
-    rw e (in-sets vs (set l i a) (suc i) k (rw length-set (omega arith)) (omega arith))
+    rw e (in_sets vs (set l i a) (suc i) k (rw length-set (omega arith)) (omega arith))

@@ -15,8 +15,8 @@ use Rattle.lexis.specs.Tokens.{token, no_token, spelled, word, number, sign, quo
 use Rattle.lexis.specs.Clauses.Answers.{PlaceIs, TokenIs}
 use Rattle.lexis.specs.declared.Token.{Token}
 use Rattle.lexis.proofs.Cases.{and_left}
-use Rattle.lexis.proofs.Places.{Found, drop-in, starts-long, token-found}
-use Rattle.lexis.proofs.ReadBack.{on-sort, starting}
+use Rattle.lexis.proofs.Places.{Found, drop_in, starts_long, token-found}
+use Rattle.lexis.proofs.ReadBack.{on_sort, starting}
 
 -- a number
 module _ (s : List ℕ) (at : ℕ) (r : Bool) (q : r ≡ shaped date_shape (drop at s)) where
@@ -29,12 +29,12 @@ module _ (s : List ℕ) (at : ℕ) (r : Bool) (q : r ≡ shaped date_shape (drop
 
 -- a sign
 module _ (b next : ℕ) where
-  pub negative-not : (b ≡ byte "-" → ⊥) → false ≡ (eqb b (byte "-") && is digit next)
-  negative-not n = rw (ne_eqb b (byte "-") n)
+  pub negative_not : (b ≡ byte "-" → ⊥) → false ≡ (eqb b (byte "-") && is digit next)
+  negative_not n = rw (ne_eqb b (byte "-") n)
 
-  pub negative-is : (c : ℕ) (r : Bool) → b ≡ byte "-" → c ≡ next → r ≡ is digit c
+  pub negative_is : (c : ℕ) (r : Bool) → b ≡ byte "-" → c ≡ next → r ≡ is digit c
       → r ≡ (eqb b (byte "-") && is digit next)
-  negative-is c r e p q = rw (eq-eqb b (byte "-") e, ← p) q
+  negative_is c r e p q = rw (eq-eqb b (byte "-") e, ← p) q
 
 module _ (s : List ℕ) (at : ℕ) (r : Bool) (q : r ≡ (eqb (byte_at s at) (byte "-") && is digit (byte_at s (at + 1)))) where
   pub sign-integer : (end : ℕ) → r ≡ true → PlaceIs s (at + 1) (past (is digit) (at + 1) (drop (at + 1) s)) end
@@ -47,79 +47,79 @@ module _ (s : List ℕ) (at : ℕ) (r : Bool) (q : r ≡ (eqb (byte_at s at) (by
 -- a string
 module _ (s : List ℕ) (at end b : ℕ) (p : PlaceIs s (at + 1) (past string_byte (at + 1) (drop (at + 1) s)) end)
     (q : b ≡ byte_at s end) where
-  pub quoted-is : b ≡ byte "\"" → token string at (end + 1) ≡ quoted s at
-  quoted-is e = rw (← p.is, ← q, eq-eqb b (byte "\"") e)
+  pub quoted_is : b ≡ byte "\"" → token string at (end + 1) ≡ quoted s at
+  quoted_is e = rw (← p.is, ← q, eq-eqb b (byte "\"") e)
 
-  pub quoted-not : (t : Token) → (b ≡ byte "\"" → ⊥) → t ≡ no_token at → t ≡ quoted s at
-  quoted-not t n e = rw (← p.is, ← q, ne_eqb b (byte "\"") n) e
+  pub quoted_not : (t : Token) → (b ≡ byte "\"" → ⊥) → t ≡ no_token at → t ≡ quoted s at
+  quoted_not t n e = rw (← p.is, ← q, ne_eqb b (byte "\"") n) e
 
 -- a byte behind `[at`
 module _ (b : ℕ) (some : Bool) where
   pub code-digit : (r : Bool) → r ≡ is digit b → r ≡ true → true ≡ (is digit b || eqb b (byte ".") && some)
   code-digit r q e = rw (← q, e)
 
-  pub code-dot : (r : Bool) → r ≡ is digit b → r ≡ false → b ≡ byte "."
+  pub code_dot : (r : Bool) → r ≡ is digit b → r ≡ false → b ≡ byte "."
       → some ≡ (is digit b || eqb b (byte ".") && some)
-  code-dot r q e d = rw (← q, e, eq-eqb b (byte ".") d)
+  code_dot r q e d = rw (← q, e, eq-eqb b (byte ".") d)
 
   pub code_other : (r : Bool) → r ≡ is digit b → r ≡ false → (b ≡ byte "." → ⊥)
       → false ≡ (is digit b || eqb b (byte ".") && some)
   code_other r q e n = rw (← q, e, ne_eqb b (byte ".") n)
 
-  pub close-is : b ≡ byte "]" → some ≡ (eqb b (byte "]") && some)
-  close-is e = rw (eq-eqb b (byte "]") e)
+  pub close_is : b ≡ byte "]" → some ≡ (eqb b (byte "]") && some)
+  close_is e = rw (eq-eqb b (byte "]") e)
 
-  pub close-not : (b ≡ byte "]" → ⊥) → false ≡ (eqb b (byte "]") && some)
-  close-not n = rw (ne_eqb b (byte "]") n)
+  pub close_not : (b ≡ byte "]" → ⊥) → false ≡ (eqb b (byte "]") && some)
+  close_not n = rw (ne_eqb b (byte "]") n)
 
 -- in a code: what is left of it ends where the code does
 pub record InCode (s : List ℕ) (x at : ℕ) (some : Bool) : Type 0 where
   pub high : at ≤ length s
   pub is : code_end some at (drop at s) ≡ x
 
-pub code-first : (s : List ℕ) (from : ℕ) → from ≤ length s → InCode s (code_end false from (drop from s)) from false
-code-first s from h = record { high = h; is = refl }
+pub code_first : (s : List ℕ) (from : ℕ) → from ≤ length s → InCode s (code_end false from (drop from s)) from false
+code_first s from h = record { high = h; is = refl }
 
 module _ (s : List ℕ) (x at : ℕ) (some : Bool) (inv : InCode s x at some) where
-  pub code-none : length s ≤ at → 0 ≡ x
+  pub code_none : length s ≤ at → 0 ≡ x
   unfolding code_end
-  code-none h = rw (drop_of_length-le s h) at inv.is
+  code_none h = rw (drop_of_length-le s h) at inv.is
 
   module _ (h : at < length s) (r : Bool) (q : r ≡ (eqb (byte_at s at) (byte "]") && some)) where
-    pub code-close : r ≡ true → at + 1 ≡ x
+    pub code_close : r ≡ true → at + 1 ≡ x
     unfolding code_end sort_of
-    code-close e =
+    code_close e =
         let f = sym q ∙ e in
         let b = eqb-true (byte_at s at) (byte "]") (and_left (eqb (byte_at s at) (byte "]")) some f) in
-        ended (byte_at s at) (drop (at + 1) s) b f ∙ (rw (drop-in s at h) at inv.is)
+        ended (byte_at s at) (drop (at + 1) s) b f ∙ (rw (drop_in s at h) at inv.is)
       where
         ended : (b : ℕ) (bs : List ℕ)
             → b ≡ byte "]" → (eqb b (byte "]") && some) ≡ true → at + 1 ≡ code_end some at (b ∷ bs)
         ended b bs e f = rw (f, e)
 
     module _ (k : Bool) (g : k ≡ (is digit (byte_at s at) || eqb (byte_at s at) (byte ".") && some)) where
-      pub code-stop : r ≡ false → not k ≡ true → 0 ≡ x
+      pub code_stop : r ≡ false → not k ≡ true → 0 ≡ x
       unfolding code_end
-      code-stop e n = rw (drop-in s at h, ← g, not-true k n, ← q, e) at inv.is
+      code_stop e n = rw (drop_in s at h, ← g, not-true k n, ← q, e) at inv.is
 
-      pub code-on : (d : Bool) → not k ≡ false → d ≡ is digit (byte_at s at) → InCode s x (at + 1) d
+      pub code_on : (d : Bool) → not k ≡ false → d ≡ is digit (byte_at s at) → InCode s x (at + 1) d
       unfolding code_end
-      code-on d n p = record { high = omega arith; is = rw p (rw (drop-in s at h, ← g, not-false k n) at inv.is) }
+      code_on d n p = record { high = omega arith; is = rw p (rw (drop_in s at h, ← g, not-false k n) at inv.is) }
 
 -- a code
 module _ (s : List ℕ) (at : ℕ) (r : Bool) (q : r ≡ starts_with code_start (drop at s)) where
   pub code-room : at ≤ length s → not r ≡ false → at + 3 ≤ length s
   code-room h e =
-      let n = starts-long code_start (drop at s) (sym q ∙ not-false r e) in
+      let n = starts_long code_start (drop at s) (sym q ∙ not-false r e) in
       let m = length-drop at s in
       omega arith
 
-  pub bracket-not : (t : Token) → not r ≡ true → t ≡ no_token at → t ≡ bracket s at
-  bracket-not t e p = rw (← q, not-true r e) p
+  pub bracket_not : (t : Token) → not r ≡ true → t ≡ no_token at → t ≡ bracket s at
+  bracket_not t e p = rw (← q, not-true r e) p
 
   module _ (end : ℕ) (p : end ≡ code_end false (at + 3) (drop (at + 3) s)) (e : not r ≡ false) where
-    pub bracket-open : (t : Token) → end ≡ 0 → t ≡ no_token at → t ≡ bracket s at
-    bracket-open t z k = rw (← q, not-false r e, ← p, eq-eqb end 0 z) k
+    pub bracket_open : (t : Token) → end ≡ 0 → t ≡ no_token at → t ≡ bracket s at
+    bracket_open t z k = rw (← q, not-false r e, ← p, eq-eqb end 0 z) k
 
     pub bracket-code : (end ≡ 0 → ⊥) → token code at end ≡ bracket s at
     bracket-code n = rw (← q, not-false r e, ← p, ne_eqb end 0 n)
@@ -137,29 +137,29 @@ module _ (s : List ℕ) (at : ℕ) (t : Token) where
   special-sign n m p = rw (ne_eqb (byte_at s at) (byte "\"") n, ne_eqb (byte_at s at) (byte "[") m) p
 
 -- the token that starts at a place
-pub on-end : (s : List ℕ) (at : ℕ) → length s ≤ at → token text_end at at ≡ token_on s at
+pub on_end : (s : List ℕ) (at : ℕ) → length s ≤ at → token text_end at at ≡ token_on s at
 unfolding token_on
-on-end s at h = rw (le-leb (length s) at h)
+on_end s at h = rw (le-leb (length s) at h)
 
 module _ (s : List ℕ) (at k : ℕ) (t : Token) (h : at < length s) (q : k ≡ sort_of (byte_at s at)) where
   on : token_on s at ≡ starting k s at
-  on = on-sort s at (byte_at s at) (drop (at + 1) s) (drop-in s at h) k (sym q)
+  on = on_sort s at (byte_at s at) (drop (at + 1) s) (drop_in s at h) k (sym q)
 
-  pub on-capital : k ≡ 3 → t ≡ spelled time_pattern_spellings at (drop at s) (word s booleans type_name at)
+  pub on_capital : k ≡ 3 → t ≡ spelled time_pattern_spellings at (drop at s) (word s booleans type_name at)
       → t ≡ token_on s at
-  on-capital e p = rw (on, e) p
+  on_capital e p = rw (on, e) p
 
-  pub on-small : k ≡ 2 → t ≡ spelled date_pattern_spellings at (drop at s) (word s keywords name at) → t ≡ token_on s at
-  on-small e p = rw (on, e) p
+  pub on_small : k ≡ 2 → t ≡ spelled date_pattern_spellings at (drop at s) (word s keywords name at) → t ≡ token_on s at
+  on_small e p = rw (on, e) p
 
-  pub on-digit : k ≡ 1 → t ≡ number s at → t ≡ token_on s at
-  on-digit e p = rw (on, e) p
+  pub on_digit : k ≡ 1 → t ≡ number s at → t ≡ token_on s at
+  on_digit e p = rw (on, e) p
 
-  pub on-mark : k ≡ 4 → t ≡ sign s at → t ≡ token_on s at
-  on-mark e p = rw (on, e) p
+  pub on_mark : k ≡ 4 → t ≡ sign s at → t ≡ token_on s at
+  on_mark e p = rw (on, e) p
 
-  pub on-other : (k ≡ 3 → ⊥) → (k ≡ 2 → ⊥) → (k ≡ 1 → ⊥) → (k ≡ 4 → ⊥) → t ≡ special s at → t ≡ token_on s at
-  on-other a b c d p = rw (on, ne_eqb k 3 a, ne_eqb k 2 b, ne_eqb k 1 c, ne_eqb k 4 d) p
+  pub on_other : (k ≡ 3 → ⊥) → (k ≡ 2 → ⊥) → (k ≡ 1 → ⊥) → (k ≡ 4 → ⊥) → t ≡ special s at → t ≡ token_on s at
+  on_other a b c d p = rw (on, ne_eqb k 3 a, ne_eqb k 2 b, ne_eqb k 1 c, ne_eqb k 4 d) p
 
 -- a token that was found, as a promise
 pub promised : (s : List ℕ) (from : ℕ) (t r : Token) → r ≡ t → Found s from t → TokenIs s from t r
@@ -175,6 +175,6 @@ promised s from t r e f = record {
     above n l z h = omega arith
 
 -- the next token
-pub token-told : (s : List ℕ) (from : ℕ) (r : Token) → from ≤ length s → r ≡ token_at s from
+pub token_told : (s : List ℕ) (from : ℕ) (r : Token) → from ≤ length s → r ≡ token_at s from
     → TokenIs s from (token_at s from) r
-token-told s from r h q = promised s from (token_at s from) r q (token-found s from h)
+token_told s from r h q = promised s from (token_at s from) r q (token-found s from h)

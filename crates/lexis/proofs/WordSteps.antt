@@ -13,29 +13,29 @@ use Rattle.lexis.specs.declared.spellings.Words.{Words}
 use Rattle.lexis.specs.declared.spellings.Words.TheVariants.{Keywords, Booleans}
 
 -- a spelling before others
-pub sort-first : (l : Literal) (ls : List Literal) (w : List ℕ) (a b k : ℕ) → a ≡ word_sort (l ∷ []) w b
+pub sort_first : (l : Literal) (ls : List Literal) (w : List ℕ) (a b k : ℕ) → a ≡ word_sort (l ∷ []) w b
     → b ≡ word_sort ls w k → a ≡ word_sort (l ∷ ls) w k
 unfolding word_sort
-sort-first l ls w a b k p q = rw q at p
+sort_first l ls w a b k p q = rw q at p
 
 -- whether a word has a spelling
 module _ (w spelling : List ℕ) (sort k : ℕ) (r : Bool) (q : r ≡ same spelling w) where
-  pub sort-one : r ≡ true → sort ≡ word_sort (literal_of sort spelling ∷ []) w k
+  pub sort_one : r ≡ true → sort ≡ word_sort (literal_of sort spelling ∷ []) w k
   unfolding word_sort
-  sort-one e = rw (← q, e)
+  sort_one e = rw (← q, e)
 
-  pub sort-other : r ≡ false → k ≡ word_sort (literal_of sort spelling ∷ []) w k
+  pub sort_other : r ≡ false → k ≡ word_sort (literal_of sort spelling ∷ []) w k
   unfolding word_sort
-  sort-other e = rw (← q, e)
+  sort_other e = rw (← q, e)
 
 module _ (f : Words) (w : List ℕ) (sort r : ℕ) where
-  pub sort-keywords : f ≡ Keywords → r ≡ word_sort keywords w sort → r ≡ word_sort (words_of f) w sort
-  sort-keywords e q = rw e q
+  pub sort_keywords : f ≡ Keywords → r ≡ word_sort keywords w sort → r ≡ word_sort (words_of f) w sort
+  sort_keywords e q = rw e q
 
-  pub sort-booleans : f ≡ Booleans → r ≡ word_sort booleans w sort → r ≡ word_sort (words_of f) w sort
-  sort-booleans e q = rw e q
+  pub sort_booleans : f ≡ Booleans → r ≡ word_sort booleans w sort → r ≡ word_sort (words_of f) w sort
+  sort_booleans e q = rw e q
 
 -- a word that was told
-pub word-is : (s : List ℕ) (at end k : ℕ) (f : Words) (sort : ℕ) → PlaceIs s at (past word_byte at (drop at s)) end
+pub word_is : (s : List ℕ) (at end k : ℕ) (f : Words) (sort : ℕ) → PlaceIs s at (past word_byte at (drop at s)) end
     → k ≡ word_sort (words_of f) (part s at end) sort → token k at end ≡ word s (words_of f) sort at
-word-is s at end k f sort p q = rw (q, p.is)
+word_is s at end k f sort p q = rw (q, p.is)

@@ -1,6 +1,6 @@
 -- How durations are spelled, as rules. Document 02, 1: "P, then any of small y m w d in that order, then optionally T and any of small h m s in that order, at least one letter in all and at
 -- least one behind a T"; a duration word has "slots in that order, each one to four digits and its letter in either case, at least one slot, T only with a slot behind it"; "flag bits 0 to 6 are y
--- m w d h m s". Proved one with pattern_slots, slotsOf. Assumes nothing.
+-- m w d h m s". Proved one with pattern_slots, slots_of. Assumes nothing.
 use Rattle.std.specs.Prelude.{◌≡◌, ◌≢◌, List, [], ◌∷◌, ◌++◌, ℕ, ◌+◌, ◌*◌, ◌≤◌, length}
 use Rattle.lexis.specs.Text.{byte, bytes}
 use Rattle.lexis.specs.SpellingRules.{Digits}

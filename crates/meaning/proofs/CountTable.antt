@@ -18,20 +18,20 @@ trees =
     ∷ []
 
 -- how many records each has, its header left out
-pub records-counted : each object_records trees ≡ (1 ∷ 3 ∷ 11 ∷ 10 ∷ 11 ∷ 9 ∷ 11 ∷ [])
+pub records_counted : each object_records trees ≡ (1 ∷ 3 ∷ 11 ∷ 10 ∷ 11 ∷ 9 ∷ 11 ∷ [])
 unfolding trees object_records
-records-counted = refl
+records_counted = refl
 
 -- the bytes of each pool
-pub pools-filled : each object_pool trees ≡ ((65 ∷ []) ∷ (65 ∷ 66 ∷ 97 ∷ 116 ∷ 49 ∷ 46 ∷ 50 ∷ 97 ∷ 98 ∷ 99 ∷ []) ∷ (65 ∷ 97 ∷ 98 ∷ 99 ∷ 120 ∷ 121 ∷ 122 ∷ []) ∷ (65 ∷ 97 ∷ 98 ∷ 99 ∷ 100 ∷ []) ∷ (65 ∷ 97 ∷ 116 ∷ 49 ∷ 97 ∷ 66 ∷ 97 ∷ 116 ∷ 50 ∷ 98 ∷ 67 ∷ 99 ∷ 120 ∷ 121 ∷ 100 ∷ 101 ∷ []) ∷ (80 ∷ 100 ∷ 97 ∷ 116 ∷ 49 ∷ 97 ∷ 98 ∷ 80 ∷ 84 ∷ 109 ∷ 99 ∷ 100 ∷ 120 ∷ []) ∷ (65 ∷ 97 ∷ 66 ∷ 98 ∷ 67 ∷ 97 ∷ 98 ∷ 99 ∷ 122 ∷ []) ∷ [])
+pub pools_filled : each object_pool trees ≡ ((65 ∷ []) ∷ (65 ∷ 66 ∷ 97 ∷ 116 ∷ 49 ∷ 46 ∷ 50 ∷ 97 ∷ 98 ∷ 99 ∷ []) ∷ (65 ∷ 97 ∷ 98 ∷ 99 ∷ 120 ∷ 121 ∷ 122 ∷ []) ∷ (65 ∷ 97 ∷ 98 ∷ 99 ∷ 100 ∷ []) ∷ (65 ∷ 97 ∷ 116 ∷ 49 ∷ 97 ∷ 66 ∷ 97 ∷ 116 ∷ 50 ∷ 98 ∷ 67 ∷ 99 ∷ 120 ∷ 121 ∷ 100 ∷ 101 ∷ []) ∷ (80 ∷ 100 ∷ 97 ∷ 116 ∷ 49 ∷ 97 ∷ 98 ∷ 80 ∷ 84 ∷ 109 ∷ 99 ∷ 100 ∷ 120 ∷ []) ∷ (65 ∷ 97 ∷ 66 ∷ 98 ∷ 67 ∷ 97 ∷ 98 ∷ 99 ∷ 122 ∷ []) ∷ [])
 unfolding trees object_pool
-pools-filled = refl
+pools_filled = refl
 
 -- the numbers of the records, in text order
-pub numbers-in-order : each object_numbers trees ≡ ((1 ∷ []) ∷ (1 ∷ 2 ∷ 3 ∷ []) ∷ (1 ∷ 2 ∷ 3 ∷ 4 ∷ 5 ∷ 6 ∷ 7 ∷ 8 ∷ 9 ∷ 10 ∷ 11 ∷ []) ∷ (1 ∷ 2 ∷ 3 ∷ 4 ∷ 5 ∷ 6 ∷ 7 ∷ 8 ∷ 9 ∷ 10 ∷ []) ∷ (1 ∷ 2 ∷ 3 ∷ 4 ∷ 5 ∷ 6 ∷ 7 ∷ 8 ∷ 9 ∷ 10 ∷ 11 ∷ []) ∷ (1 ∷ 2 ∷ 3 ∷ 4 ∷ 5 ∷ 6 ∷ 7 ∷ 8 ∷ 9 ∷ []) ∷ (1 ∷ 2 ∷ 3 ∷ 4 ∷ 5 ∷ 6 ∷ 7 ∷ 8 ∷ 9 ∷ 10 ∷ 11 ∷ []) ∷ [])
+pub numbers_in_order : each object_numbers trees ≡ ((1 ∷ []) ∷ (1 ∷ 2 ∷ 3 ∷ []) ∷ (1 ∷ 2 ∷ 3 ∷ 4 ∷ 5 ∷ 6 ∷ 7 ∷ 8 ∷ 9 ∷ 10 ∷ 11 ∷ []) ∷ (1 ∷ 2 ∷ 3 ∷ 4 ∷ 5 ∷ 6 ∷ 7 ∷ 8 ∷ 9 ∷ 10 ∷ []) ∷ (1 ∷ 2 ∷ 3 ∷ 4 ∷ 5 ∷ 6 ∷ 7 ∷ 8 ∷ 9 ∷ 10 ∷ 11 ∷ []) ∷ (1 ∷ 2 ∷ 3 ∷ 4 ∷ 5 ∷ 6 ∷ 7 ∷ 8 ∷ 9 ∷ []) ∷ (1 ∷ 2 ∷ 3 ∷ 4 ∷ 5 ∷ 6 ∷ 7 ∷ 8 ∷ 9 ∷ 10 ∷ 11 ∷ []) ∷ [])
 unfolding trees object_numbers
-numbers-in-order = refl
+numbers_in_order = refl
 
 -- the flags of 0..0, 0..1 and 1..1
-pub existence-flags : (prohibited ∷ optional ∷ required ∷ []) ≡ (0 ∷ 1 ∷ 2 ∷ [])
-existence-flags = refl
+pub existence_flags : (prohibited ∷ optional ∷ required ∷ []) ≡ (0 ∷ 1 ∷ 2 ∷ [])
+existence_flags = refl

@@ -38,8 +38,8 @@ right (judges o d v) = is_verdict (judge o d) v
 right (under l c v) = is_verdict (judge (holding l) (given c)) v
 
 -- the flags of existence in document 01, 'Table'
-pub existence-flags : prohibited ∷ optional ∷ required ∷ [] ≡ 0 ∷ 1 ∷ 2 ∷ []
-existence-flags = refl
+pub existence_flags : prohibited ∷ optional ∷ required ∷ [] ≡ 0 ∷ 1 ∷ 2 ∷ []
+existence_flags = refl
 
 -- a list without items has no record: a link to it is 0
 pub no_items : first_range [] ∷ first_text [] ∷ [] ≡ 0 ∷ 0 ∷ []

@@ -200,6 +200,6 @@ cases =
     ∷ judges (object_with 1 (bytes "A") [] (attribute_with 2 2 (bytes "a") (nested (object_with 3 (bytes "A") [] (attribute_with 4 2 (bytes "a") (nested (object_with 5 (bytes "A") [] (attribute_with 6 2 (bytes "a") (nested (object_with 7 (bytes "A") [] (attribute_with 8 2 (bytes "a") (nested (object_with 9 (bytes "A") [] (attribute_with 10 2 (bytes "a") (nested (object_with 11 (bytes "A") [] (attribute_with 12 2 (bytes "a") (nested (object_with 13 (bytes "A") [] (attribute_with 14 2 (bytes "a") (nested (object_with 15 (bytes "A") [] (attribute_with 16 2 (bytes "a") (nested (object_with 17 (bytes "A") [] (attribute_with 18 2 (bytes "a") (nested (object_with 19 (bytes "A") [] (attribute_with 20 2 (bytes "a") (nested (object_with 21 (bytes "A") [] (attribute_with 22 2 (bytes "a") (nested (object_with 23 (bytes "A") [] (attribute_with 24 2 (bytes "a") (nested (object_with 25 (bytes "A") [] (attribute_with 26 2 (bytes "a") (nested (object_with 27 (bytes "A") [] (attribute_with 28 2 (bytes "a") (nested (object_with 29 (bytes "A") [] (attribute_with 30 2 (bytes "a") (nested (object_with 31 (bytes "A") [] (attribute_with 32 2 (bytes "b") (leaf (single duration_pattern 33 8)) no_more))) no_more))) no_more))) no_more))) no_more))) no_more))) no_more))) no_more))) no_more))) no_more))) no_more))) no_more))) no_more))) no_more))) no_more))) no_more)) (datum 0 none (member (bytes "a") (block (datum 3 none (member (bytes "a") (block (datum 6 none (member (bytes "a") (block (datum 9 none (member (bytes "a") (block (datum 12 none (member (bytes "a") (block (datum 15 none (member (bytes "a") (block (datum 18 none (member (bytes "a") (block (datum 21 none (member (bytes "a") (block (datum 24 none (member (bytes "a") (block (datum 27 none (member (bytes "a") (block (datum 30 none (member (bytes "a") (block (datum 33 none (member (bytes "a") (block (datum 36 none (member (bytes "a") (block (datum 39 none (member (bytes "a") (block (datum 42 none (member (bytes "a") (block (datum 45 none (member (bytes "b") (word 48 (bytes "5")) Data.no_more))) Data.no_more))) Data.no_more))) Data.no_more))) Data.no_more))) Data.no_more))) Data.no_more))) Data.no_more))) Data.no_more))) Data.no_more))) Data.no_more))) Data.no_more))) Data.no_more))) Data.no_more))) Data.no_more))) Data.no_more)) (fails 20 33 48)
     ∷ []
 
-pub none-wrong : wrong right 0 cases ≡ []
+pub none_wrong : wrong right 0 cases ≡ []
 unfolding wrong right cases meaning_computes
-none-wrong = refl
+none_wrong = refl

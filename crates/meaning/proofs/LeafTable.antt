@@ -464,6 +464,6 @@ cases =
     ∷ under (ranges dates (range 3 20_040_101 20_040_131 ∷ range 4 20_050_101 20_050_101 ∷ range 5 20_060_101 99_991_231 ∷ [])) (word 3 (bytes "2006-01")) (fails 24 3 3)
     ∷ []
 
-pub none-wrong : wrong right 0 cases ≡ []
+pub none_wrong : wrong right 0 cases ≡ []
 unfolding wrong right cases meaning_computes
-none-wrong = refl
+none_wrong = refl

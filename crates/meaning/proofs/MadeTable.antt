@@ -118,6 +118,6 @@ cases =
     ∷ judges (object_with 1 (bytes "B") [] (attribute_with 2 1 (bytes "existenc") (leaf (single duration_pattern 3 64)) (attribute_with 4 2 (bytes "matchesx") (leaf (texts (item 5 (bytes "--") ∷ []))) (attribute_with 6 2 (bytes "matche") (leaf (single time_pattern 7 4)) no_more)))) (datum 10 (some (bytes "Other")) (member (bytes "existenc") (word 23 (bytes "PT0s")) (member (bytes "matchesx") (string 43 (bytes "--")) (member (bytes "matche") (word 61 (bytes "12+00")) Data.no_more)))) (fails 21 1 10)
     ∷ []
 
-pub none-wrong : wrong right 0 cases ≡ []
+pub none_wrong : wrong right 0 cases ≡ []
 unfolding wrong right cases meaning_computes
-none-wrong = refl
+none_wrong = refl

@@ -1,4 +1,4 @@
--- Records numbered in pre-order: a tree whose numbers, listed in pre-order, go up one by one has each record numbered by its place. Assumes nothing.
+-- Records numbered in pre_order: a tree whose numbers, listed in pre_order, go up one by one has each record numbered by its place. Assumes nothing.
 use mathlib.Core.Path.{◌≡◌, refl, sym, ap, ap₂, ◌∙◌}
 use mathlib.Core.List.{List, [], ◌∷◌, ◌++◌}
 use Prim.Native.Nat.{ℕ, zero, suc, ◌+◌}
@@ -6,9 +6,9 @@ use lib.ListN.{length, length-append, take, drop}
 use lib.Seq.{take_at, drop_at}
 use Rattle.meaning.specs.Constraints.{Range, Text, Leaf, single, ranges, texts, Object, object, Attributes, no_more, attribute, Value, any, nested, leaf}
 use Rattle.meaning.specs.Counting.{leaf_records, object_records, attribute_records, value_records, range_numbers, text_numbers, leaf_numbers, object_numbers, attribute_numbers, value_numbers, up_from}
-use Rattle.meaning.proofs.Numbers.{up-append}
+use Rattle.meaning.proofs.Numbers.{up_append}
 
--- each number is the record's place in pre-order, counted from n
+-- each number is the record's place in pre_order, counted from n
 abbrev pub NumberedRanges : List Range → ℕ → Type 0
 NumberedRanges [] n = Unit {0}
 NumberedRanges (x ∷ xs) n = (x.number ≡ n) × NumberedRanges xs (n + 1)
@@ -36,77 +36,77 @@ unfoldable mutual
   NumberedValue (leaf l) n = NumberedLeaf l n
 
 -- there are as many numbers as records
-ranges-counted : (l : List Range) → length (range_numbers l) ≡ length l
-ranges-counted [] = refl
-ranges-counted (x ∷ xs) = ap suc (ranges-counted xs)
+ranges_counted : (l : List Range) → length (range_numbers l) ≡ length l
+ranges_counted [] = refl
+ranges_counted (x ∷ xs) = ap suc (ranges_counted xs)
 
-texts-counted : (l : List Text) → length (text_numbers l) ≡ length l
-texts-counted [] = refl
-texts-counted (x ∷ xs) = ap suc (texts-counted xs)
+texts_counted : (l : List Text) → length (text_numbers l) ≡ length l
+texts_counted [] = refl
+texts_counted (x ∷ xs) = ap suc (texts_counted xs)
 
-leaf-counted : (l : Leaf) → length (leaf_numbers l) ≡ leaf_records l
-leaf-counted (single sort n flag) = refl
-leaf-counted (ranges sort l) = ranges-counted l
-leaf-counted (texts l) = texts-counted l
+leaf_counted : (l : Leaf) → length (leaf_numbers l) ≡ leaf_records l
+leaf_counted (single sort n flag) = refl
+leaf_counted (ranges sort l) = ranges_counted l
+leaf_counted (texts l) = texts_counted l
 
 mutual
   unfolding object_records object_numbers attribute_records attribute_numbers value_records value_numbers
 
-  pub object-counted : (o : Object) → length (object_numbers o) ≡ object_records o
-  object-counted (object h xs) = ap suc (attributes-counted xs)
+  pub object_counted : (o : Object) → length (object_numbers o) ≡ object_records o
+  object_counted (object h xs) = ap suc (attributes_counted xs)
 
-  attributes-counted : (xs : Attributes) → length (attribute_numbers xs) ≡ attribute_records xs
-  attributes-counted no_more = refl
-  attributes-counted (attribute h v more) =
-      ap suc (length-append (value_numbers v) (attribute_numbers more) ∙ ap₂ ◌+◌ (value-counted v) (attributes-counted more))
+  attributes_counted : (xs : Attributes) → length (attribute_numbers xs) ≡ attribute_records xs
+  attributes_counted no_more = refl
+  attributes_counted (attribute h v more) =
+      ap suc (length-append (value_numbers v) (attribute_numbers more) ∙ ap₂ ◌+◌ (value_counted v) (attributes_counted more))
 
-  value-counted : (v : Value) → length (value_numbers v) ≡ value_records v
-  value-counted any = refl
-  value-counted (nested o) = object-counted o
-  value-counted (leaf l) = leaf-counted l
+  value_counted : (v : Value) → length (value_numbers v) ≡ value_records v
+  value_counted any = refl
+  value_counted (nested o) = object_counted o
+  value_counted (leaf l) = leaf_counted l
 
-up-length : (k n : ℕ) → length (up_from n k) ≡ k
-up-length zero n = refl
-up-length (suc k) n = ap suc (up-length k (n + 1))
+up_length : (k n : ℕ) → length (up_from n k) ≡ k
+up_length zero n = refl
+up_length (suc k) n = ap suc (up_length k (n + 1))
 
 -- numbers that go up one by one do so in both parts of the list
 up_split : (a b n : ℕ) (xs ys : List ℕ) → length xs ≡ a → xs ++ ys ≡ up_from n (a + b)
     → (xs ≡ up_from n a) × (ys ≡ up_from (n + a) b)
 up_split a b n xs ys h e =
-    let l = up-length a n in
-    let g = e ∙ up-append a b n in (
+    let l = up_length a n in
+    let g = e ∙ up_append a b n in (
       sym (take_at xs ys a h) ∙ ap (take a) g ∙ take_at (up_from n a) (up_from (n + a) b) a l,
       sym (drop_at xs ys a h) ∙ ap (drop a) g ∙ drop_at (up_from n a) (up_from (n + a) b) a l,
     )
 
-ranges-numbered : (l : List Range) (n : ℕ) → range_numbers l ≡ up_from n (length l) → NumberedRanges l n
-ranges-numbered [] n e = tt
-ranges-numbered (x ∷ xs) n e = (cc, ranges-numbered xs (n + 1) (cc))
+ranges_numbered : (l : List Range) (n : ℕ) → range_numbers l ≡ up_from n (length l) → NumberedRanges l n
+ranges_numbered [] n e = tt
+ranges_numbered (x ∷ xs) n e = (cc, ranges_numbered xs (n + 1) (cc))
 
-texts-numbered : (l : List Text) (n : ℕ) → text_numbers l ≡ up_from n (length l) → NumberedTexts l n
-texts-numbered [] n e = tt
-texts-numbered (x ∷ xs) n e = (cc, texts-numbered xs (n + 1) (cc))
+texts_numbered : (l : List Text) (n : ℕ) → text_numbers l ≡ up_from n (length l) → NumberedTexts l n
+texts_numbered [] n e = tt
+texts_numbered (x ∷ xs) n e = (cc, texts_numbered xs (n + 1) (cc))
 
-leaf-numbered : (l : Leaf) (n : ℕ) → leaf_numbers l ≡ up_from n (leaf_records l) → NumberedLeaf l n
-leaf-numbered (single sort k flag) n e = cc
-leaf-numbered (ranges sort l) n e = ranges-numbered l n e
-leaf-numbered (texts l) n e = texts-numbered l n e
+leaf_numbered : (l : Leaf) (n : ℕ) → leaf_numbers l ≡ up_from n (leaf_records l) → NumberedLeaf l n
+leaf_numbered (single sort k flag) n e = cc
+leaf_numbered (ranges sort l) n e = ranges_numbered l n e
+leaf_numbered (texts l) n e = texts_numbered l n e
 
 mutual
   unfolding NumberedObject object_records object_numbers NumberedAttributes attribute_records attribute_numbers NumberedValue value_records value_numbers
 
   -- a tree whose numbers go up one by one from n is numbered from n
-  pub object-numbered : (o : Object) (n : ℕ) → object_numbers o ≡ up_from n (object_records o) → NumberedObject o n
-  object-numbered (object h xs) n e = (cc, attributes-numbered xs (n + 1) (cc))
+  pub object_numbered : (o : Object) (n : ℕ) → object_numbers o ≡ up_from n (object_records o) → NumberedObject o n
+  object_numbered (object h xs) n e = (cc, attributes_numbered xs (n + 1) (cc))
 
-  attributes-numbered : (xs : Attributes) (n : ℕ) → attribute_numbers xs ≡ up_from n (attribute_records xs)
+  attributes_numbered : (xs : Attributes) (n : ℕ) → attribute_numbers xs ≡ up_from n (attribute_records xs)
       → NumberedAttributes xs n
-  attributes-numbered no_more n e = tt
-  attributes-numbered (attribute h v more) n e =
-      let s = up_split (value_records v) (attribute_records more) (n + 1) (value_numbers v) (attribute_numbers more) (value-counted v) (cc) in
-      (cc, value-numbered v (n + 1) s.0, attributes-numbered more (n + 1 + value_records v) s.1)
+  attributes_numbered no_more n e = tt
+  attributes_numbered (attribute h v more) n e =
+      let s = up_split (value_records v) (attribute_records more) (n + 1) (value_numbers v) (attribute_numbers more) (value_counted v) (cc) in
+      (cc, value_numbered v (n + 1) s.0, attributes_numbered more (n + 1 + value_records v) s.1)
 
-  value-numbered : (v : Value) (n : ℕ) → value_numbers v ≡ up_from n (value_records v) → NumberedValue v n
-  value-numbered any n e = tt
-  value-numbered (nested o) n e = object-numbered o n e
-  value-numbered (leaf l) n e = leaf-numbered l n e
+  value_numbered : (v : Value) (n : ℕ) → value_numbers v ≡ up_from n (value_records v) → NumberedValue v n
+  value_numbered any n e = tt
+  value_numbered (nested o) n e = object_numbered o n e
+  value_numbered (leaf l) n e = leaf_numbered l n e

@@ -45,7 +45,7 @@ unfoldable mutual
   value_pool (nested o) = object_pool o
   value_pool (leaf l) = leaf_pool l
 
--- the numbers of the records, in pre-order: an object before its attributes, an attribute before its value, an item before the next
+-- the numbers of the records, in pre_order: an object before its attributes, an attribute before its value, an item before the next
 abbrev pub range_numbers : List Range → List ℕ
 range_numbers [] = []
 range_numbers (x ∷ xs) = x.number ∷ range_numbers xs

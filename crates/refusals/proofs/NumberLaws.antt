@@ -31,25 +31,25 @@ row_of NotAnObject = (_, Numbers.not_an_object)
 row_of NoName = (_, Numbers.no_name)
 
 -- the rows of a text's faults: from 2 to 9, each at a token
-pub text-row : (c : Cause) → 2 ≤ number_of c → number_of c < 10 → NumberRow c (number_of c) Numbers.token
+pub text_row : (c : Cause) → 2 ≤ number_of c → number_of c < 10 → NumberRow c (number_of c) Numbers.token
 unfolding number_of
-text-row TextTooLong l m = absurd (omega arith)
-text-row Unreadable l m = Numbers.unreadable
-text-row CannotFollow l m = Numbers.cannot_follow
-text-row EndsEarly l m = Numbers.ends_early
-text-row TooDeep l m = Numbers.too_deep
-text-row TooLong l m = Numbers.too_long
-text-row Impossible l m = Numbers.impossible
-text-row OutOfRange l m = Numbers.out_of_range
-text-row BadWord l m = Numbers.bad_word
-text-row EmptyInterval l m = Numbers.empty_interval
-text-row TooManyItems l m = Numbers.too_many_items
-text-row TooManyRecords l m = Numbers.too_many_records
-text-row Overlap l m = Numbers.overlap
-text-row RepeatedName l m = Numbers.repeated_name
-text-row PoolTooLarge l m = absurd (omega arith)
-text-row OutputTooShort l m = absurd (omega arith)
-text-row NotATable l m = absurd (omega arith)
-text-row BrokenRecord l m = absurd (omega arith)
-text-row NotAnObject l m = absurd (omega arith)
-text-row NoName l m = absurd (omega arith)
+text_row TextTooLong l m = absurd (omega arith)
+text_row Unreadable l m = Numbers.unreadable
+text_row CannotFollow l m = Numbers.cannot_follow
+text_row EndsEarly l m = Numbers.ends_early
+text_row TooDeep l m = Numbers.too_deep
+text_row TooLong l m = Numbers.too_long
+text_row Impossible l m = Numbers.impossible
+text_row OutOfRange l m = Numbers.out_of_range
+text_row BadWord l m = Numbers.bad_word
+text_row EmptyInterval l m = Numbers.empty_interval
+text_row TooManyItems l m = Numbers.too_many_items
+text_row TooManyRecords l m = Numbers.too_many_records
+text_row Overlap l m = Numbers.overlap
+text_row RepeatedName l m = Numbers.repeated_name
+text_row PoolTooLarge l m = absurd (omega arith)
+text_row OutputTooShort l m = absurd (omega arith)
+text_row NotATable l m = absurd (omega arith)
+text_row BrokenRecord l m = absurd (omega arith)
+text_row NotAnObject l m = absurd (omega arith)
+text_row NoName l m = absurd (omega arith)

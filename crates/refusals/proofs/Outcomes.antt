@@ -19,56 +19,56 @@ use Rattle.refusals.specs.Outcomes.{Outcome, refused, gave, or_fault, unless, af
 
 -- the cases of an outcome differ, and each holds one value
 module _ {E A : Type 0} where
-  pub not-gave : {e : E} {a : A} → refused e ≡ gave a → ⊥
-  not-gave h = let z : ◌≡◌ {A = ℕ} 0 1 = cc in omega arith
+  pub not_gave : {e : E} {a : A} → refused e ≡ gave a → ⊥
+  not_gave h = let z : ◌≡◌ {A = ℕ} 0 1 = cc in omega arith
 
-  pub same-refusal : {e f : E} → ◌≡◌ {A = Outcome E A} (refused e) (refused f) → e ≡ f
-  same-refusal h = cc
+  pub same_refusal : {e f : E} → ◌≡◌ {A = Outcome E A} (refused e) (refused f) → e ≡ f
+  same_refusal h = cc
 
-  pub same-given : {a b : A} → ◌≡◌ {A = Outcome E A} (gave a) (gave b) → a ≡ b
-  same-given h = cc
+  pub same_given : {a b : A} → ◌≡◌ {A = Outcome E A} (gave a) (gave b) → a ≡ b
+  same_given h = cc
 
 -- what a job reports, and the buffer as it leaves it: the bytes in front, and the rest as it was
 pub record Gives {E A : Type 0} (o : Outcome E (Written A)) (out : List ℕ) (report : A) : Type 0 where
   pub written : Written A
   pub is : o ≡ gave written
-  pub report-is : written.report ≡ report
-  pub out-is : (write o out).out ≡ written.bytes ++ drop (length written.bytes) out
+  pub report_is : written.report ≡ report
+  pub out_is : (write o out).out ≡ written.bytes ++ drop (length written.bytes) out
 
 module _ {E A : Type 0} where
   -- a refusal leaves every byte of the buffer as it was
-  pub refusal-keeps : (o : Outcome E (Written A)) (out : List ℕ) (e : E) → (write o out).answer ≡ refused e
+  pub refusal_keeps : (o : Outcome E (Written A)) (out : List ℕ) (e : E) → (write o out).answer ≡ refused e
       → (write o out).out ≡ out
-  refusal-keeps (refused f) out e h = refl
-  refusal-keeps (gave w) out e h = absurd (not-gave (sym h))
+  refusal_keeps (refused f) out e h = refl
+  refusal_keeps (gave w) out e h = absurd (not_gave (sym h))
 
   pub refusal_is : (o : Outcome E (Written A)) (out : List ℕ) (e : E) → (write o out).answer ≡ refused e → o ≡ refused e
-  refusal_is (refused f) out e h = ap refused (same-refusal h)
-  refusal_is (gave w) out e h = absurd (not-gave (sym h))
+  refusal_is (refused f) out e h = ap refused (same_refusal h)
+  refusal_is (gave w) out e h = absurd (not_gave (sym h))
 
   pub gives : (o : Outcome E (Written A)) (out : List ℕ) (report : A) → (write o out).answer ≡ gave report
       → Gives o out report
-  gives (refused f) out report h = absurd (not-gave h)
-  gives (gave w) out report h = record { written = w; is = refl; report-is = same-given h; out-is = refl }
+  gives (refused f) out report h = absurd (not_gave h)
+  gives (gave w) out report h = record { written = w; is = refl; report_is = same_given h; out_is = refl }
 
   -- what was given stands in front
-  pub front-is : {o : Outcome E (Written A)} {out : List ℕ} {report : A} (g : Gives o out report) (w : Written A)
+  pub front_is : {o : Outcome E (Written A)} {out : List ℕ} {report : A} (g : Gives o out report) (w : Written A)
       → w ≡ g.written → take (length w.bytes) (write o out).out ≡ w.bytes
-  front-is {out = out} g w e = rw (g.out-is, ← e) (take-append_seam w.bytes (drop (length w.bytes) out))
+  front_is {out = out} g w e = rw (g.out_is, ← e) (take-append_seam w.bytes (drop (length w.bytes) out))
 
 -- bytes stored from the start of a buffer stand in front
-pub front-stored : (bs out : List ℕ) → length bs ≤ length out → sets out 0 bs ≡ bs ++ drop (length bs) out
-front-stored bs out h = let e : 0 + length bs ≡ length bs = omega arith in rw e at (sets-eq bs out 0 (omega arith))
+pub front_stored : (bs out : List ℕ) → length bs ≤ length out → sets out 0 bs ≡ bs ++ drop (length bs) out
+front_stored bs out h = let e : 0 + length bs ≡ length bs = omega arith in rw e at (sets-eq bs out 0 (omega arith))
 
 -- where something was given, no test before found a fault
 module _ {E A : Type 0} (a : A) where
-  pub no-fault : (f : Option E) (more : Outcome E A) → or_fault f more ≡ gave a → (f ≡ none) × (more ≡ gave a)
-  no-fault none more h = (refl, h)
-  no-fault (some e) more h = absurd (not-gave h)
+  pub no_fault_lem : (f : Option E) (more : Outcome E A) → or_fault f more ≡ gave a → (f ≡ none) × (more ≡ gave a)
+  no_fault_lem none more h = (refl, h)
+  no_fault_lem (some e) more h = absurd (not_gave h)
 
   pub not_found : (fault : Bool) (e : E) (more : Outcome E A) → unless fault e more ≡ gave a
       → (fault ≡ false) × (more ≡ gave a)
-  not_found true e more h = absurd (not-gave h)
+  not_found true e more h = absurd (not_gave h)
   not_found false e more h = (refl, h)
 
 -- what fits is given, and the output has room for it; what does not fit is refused
@@ -76,14 +76,14 @@ module _ {E A : Type 0} (refuse : Cause → ℕ → E) (place room : ℕ) (w : W
   pub fits : (v : Written A) → fitting refuse place room w ≡ gave v → (length w.bytes ≤ room) × (w ≡ v)
   fits v h =
       let x = not_found v (ltb room (length w.bytes)) (refuse OutputTooShort place) (gave w) h in
-      (ltb-false room (length w.bytes) x.0, same-given x.1)
+      (ltb-false room (length w.bytes) x.0, same_given x.1)
 
   pub too_short : (e : E) → fitting refuse place room w ≡ refused e
       → (room < length w.bytes) × (refuse OutputTooShort place ≡ e)
   too_short e =
       by_cond (λ o. o ≡ refused e → (room < length w.bytes) × (refuse OutputTooShort place ≡ e)) (ltb room (length w.bytes))
-      (λ f h. (ltb-true room (length w.bytes) f, same-refusal h))
-      (λ f h. absurd (not-gave (sym h)))
+      (λ f h. (ltb-true room (length w.bytes) f, same_refusal h))
+      (λ f h. absurd (not_gave (sym h)))
 
 -- what follows from a text that was read
 pub record Read {A B : Type 0} (r : Reading A) (more : A → Outcome Refusal B) (o : Outcome Refusal B) : Type 0 where
@@ -95,10 +95,10 @@ pub record Read {A B : Type 0} (r : Reading A) (more : A → Outcome Refusal B) 
 module _ {A B : Type 0} where
   pub was_read : (r : Reading A) (more : A → Outcome Refusal B) (b : B) → after_reading r more ≡ gave b
       → Read r more (gave b)
-  was_read (Reading.refused y) more b h = absurd (not-gave h)
+  was_read (Reading.refused y) more b h = absurd (not_gave h)
   was_read (got a p) more b h = record { value = a; place = p; is = refl; follows = h }
 
-  pub refused-or-read : (r : Reading A) (more : A → Outcome Refusal B) (e : Refusal) → after_reading r more ≡ refused e
+  pub refused_or_read : (r : Reading A) (more : A → Outcome Refusal B) (e : Refusal) → after_reading r more ≡ refused e
       → (r ≡ Reading.refused e) ⊎ Read r more (refused e)
-  refused-or-read (Reading.refused y) more e h = inl (ap Reading.refused (same-refusal h))
-  refused-or-read (got a p) more e h = inr (record { value = a; place = p; is = refl; follows = h })
+  refused_or_read (Reading.refused y) more e h = inl (ap Reading.refused (same_refusal h))
+  refused_or_read (got a p) more e h = inr (record { value = a; place = p; is = refl; follows = h })

@@ -202,6 +202,6 @@ cases =
     ∷ takes (bytes "5 -- x") text_end 6 6 6
     ∷ []
 
-pub none-wrong : wrong right 0 cases ≡ []
+pub none_wrong : wrong right 0 cases ≡ []
 unfolding wrong right cases which number_of expect lexis_computes
-none-wrong = refl
+none_wrong = refl

@@ -21,24 +21,24 @@ use Rattle.refusals.specs.declared.steps.Expected.TheVariants.{Fault, Taken}
 
 -- the cause of a fault, by the token's sort
 module _ (sort : ℕ) where
-  pub cause-end : sort ≡ 0 → EndsEarly ≡ cause_of sort
-  cause-end e = rw (eq-eqb sort 0 e)
+  pub cause_end : sort ≡ 0 → EndsEarly ≡ cause_of sort
+  cause_end e = rw (eq-eqb sort 0 e)
 
-  pub cause-unreadable : (sort ≡ 0 → ⊥) → sort ≡ 1 → Unreadable ≡ cause_of sort
-  cause-unreadable n e = rw (ne_eqb sort 0 n, eq-eqb sort 1 e)
+  pub cause_unreadable : (sort ≡ 0 → ⊥) → sort ≡ 1 → Unreadable ≡ cause_of sort
+  cause_unreadable n e = rw (ne_eqb sort 0 n, eq-eqb sort 1 e)
 
-  pub cause-follow : (sort ≡ 0 → ⊥) → (sort ≡ 1 → ⊥) → CannotFollow ≡ cause_of sort
-  cause-follow n m = rw (ne_eqb sort 0 n, ne_eqb sort 1 m)
+  pub cause_follow : (sort ≡ 0 → ⊥) → (sort ≡ 1 → ⊥) → CannotFollow ≡ cause_of sort
+  cause_follow n m = rw (ne_eqb sort 0 n, ne_eqb sort 1 m)
 
 -- the refusal of a token with that cause
-pub fault-is : (t : Token) (k : Cause) → k ≡ cause_of t.sort
+pub fault_is : (t : Token) (k : Cause) → k ≡ cause_of t.sort
     → refusal k t.start ≡ refusal (syntax_cause t) t.start
-fault-is t k e = ap (λ x. refusal x t.start) e
+fault_is t k e = ap (λ x. refusal x t.start) e
 
 -- a token of the sort asked for, and another
 module _ (t : Token) (sort : ℕ) where
-  pub taken-there : t.sort ≡ sort → Taken t ≡ expected_of t sort
-  taken-there e = rw (eq-eqb t.sort sort e)
+  pub taken_there : t.sort ≡ sort → Taken t ≡ expected_of t sort
+  taken_there e = rw (eq-eqb t.sort sort e)
 
   pub taken_not : (t.sort ≡ sort → ⊥) → (x : Refusal) → x ≡ refusal (syntax_cause t) t.start
       → Fault x ≡ expected_of t sort
@@ -57,20 +57,20 @@ taken_is s sort from u t tok r e = rw e (by (eqb t.sort sort) refl)
     }
     by false h = record { is = rw (← tok.is, h); past = tt }
 
-pub expect-is : (s : List ℕ) (sort from : ℕ) (t : Token) → TokenIs s from (token_at s from) t → (r : Expected)
+pub expect_is : (s : List ℕ) (sort from : ℕ) (t : Token) → TokenIs s from (token_at s from) t → (r : Expected)
     → r ≡ expected_of t sort
     → ExpectIs s sort from (expect s sort from) r
 unfolding expect
-expect-is s sort from t tok r e = taken_is s sort from (token_at s from) t tok r e
+expect_is s sort from t tok r e = taken_is s sort from (token_at s from) t tok r e
 
 -- what an answer says of the reading that it is
 module _ {s : List ℕ} {sort from : ℕ} {reading : Reading Token} {r : Expected}
     (e : ExpectIs s sort from reading r) where
-  pub expected-fault : (x : Refusal) → r ≡ Fault x → reading ≡ refused x
-  expected-fault x g = sym e.is ∙ ap token_reading g
+  pub expected_fault : (x : Refusal) → r ≡ Fault x → reading ≡ refused x
+  expected_fault x g = sym e.is ∙ ap token_reading g
 
-  pub expected-token : (t : Token) → r ≡ Taken t → reading ≡ got t t.end
-  expected-token t g = sym e.is ∙ ap token_reading g
+  pub expected_token : (t : Token) → r ≡ Taken t → reading ≡ got t t.end
+  expected_token t g = sym e.is ∙ ap token_reading g
 
-  pub expected-past : (t : Token) → r ≡ Taken t → TokenPast s sort from (Taken t)
-  expected-past t g = rw g at e.past
+  pub expected_past : (t : Token) → r ≡ Taken t → TokenPast s sort from (Taken t)
+  expected_past t g = rw g at e.past

@@ -25,6 +25,6 @@ pub strict_of : (sort : ℕ) → 1 < sort → (t : Token) (s : List ℕ) (from :
 strict_of sort h t s from f e = f.strict (λ z. absurd (omega arith)) (λ z. absurd (omega arith))
 
 -- a syntax fault's number is 2
-pub syntax-two : (t : Token) → number_of (syntax_cause t) ≡ 2
+pub syntax_two : (t : Token) → number_of (syntax_cause t) ≡ 2
 unfolding number_of
-syntax-two t = by_cond (λ c. number_of c ≡ 2) (eqb t.sort text_end) (λ e. refl) (λ e. by_cond (λ c. number_of c ≡ 2) (eqb t.sort unreadable) (λ f. refl) (λ f. refl))
+syntax_two t = by_cond (λ c. number_of c ≡ 2) (eqb t.sort text_end) (λ e. refl) (λ e. by_cond (λ c. number_of c ≡ 2) (eqb t.sort unreadable) (λ f. refl) (λ f. refl))

@@ -21,34 +21,34 @@ around [] s = s
 around (x ∷ xs) s = (bytes "<a=" ++ around xs s) ++ bytes ">"
 
 -- past bad words and names that stood before, up to the text's end
-pub past-faults : told (faults level_limit (bytes "<a=<_x> a=<5> b=<024> a=")) ≡ 5 ∷ 4 ∷ 9 ∷ 8 ∷ 5 ∷ 17 ∷ 9 ∷ 22 ∷ 2 ∷ 24 ∷ []
+pub past_faults : told (faults level_limit (bytes "<a=<_x> a=<5> b=<024> a=")) ≡ 5 ∷ 4 ∷ 9 ∷ 8 ∷ 5 ∷ 17 ∷ 9 ∷ 22 ∷ 2 ∷ 24 ∷ []
 unfolding data_computes faults
-past-faults = refl
+past_faults = refl
 
 -- behind `(`: a run that is no TYPE, a mark, and a string
-pub no-type : told (faults level_limit (bytes "(a)<>")) ≡ 2 ∷ 1 ∷ []
+pub no_type_lem : told (faults level_limit (bytes "(a)<>")) ≡ 2 ∷ 1 ∷ []
 unfolding data_computes faults
-no-type = refl
+no_type_lem = refl
 
-pub mark-for-type : told (faults level_limit (bytes "(=)<>")) ≡ 2 ∷ 1 ∷ []
+pub mark_for_type : told (faults level_limit (bytes "(=)<>")) ≡ 2 ∷ 1 ∷ []
 unfolding data_computes faults
-mark-for-type = refl
+mark_for_type = refl
 
-pub string-for-type : told (faults level_limit (bytes "<a=(\"A\")<>>")) ≡ 2 ∷ 4 ∷ []
+pub string_for_type : told (faults level_limit (bytes "<a=(\"A\")<>>")) ≡ 2 ∷ 4 ∷ []
 unfolding data_computes faults
-string-for-type = refl
+string_for_type = refl
 
 -- a name, a type and a string that are too long, and the name again
-pub past-lengths : told (faults level_limit (bytes "<b" ++ replicate 63 0x62 ++ bytes "=(T" ++ replicate 63 0x54 ++ bytes ")<> b" ++ replicate 63 0x62 ++ bytes "=<\"" ++ replicate 256 0x20 ++ bytes "\">>")) ≡ 4 ∷ 1 ∷ 4 ∷ 67 ∷ 4 ∷ 135 ∷ 9 ∷ 135 ∷ 4 ∷ 201 ∷ []
+pub past_lengths : told (faults level_limit (bytes "<b" ++ replicate 63 0x62 ++ bytes "=(T" ++ replicate 63 0x54 ++ bytes ")<> b" ++ replicate 63 0x62 ++ bytes "=<\"" ++ replicate 256 0x20 ++ bytes "\">>")) ≡ 4 ∷ 1 ∷ 4 ∷ 67 ∷ 4 ∷ 135 ∷ 9 ∷ 135 ∷ 4 ∷ 201 ∷ []
 unfolding data_computes faults
-past-lengths = refl
+past_lengths = refl
 
 -- into the 17th level and the 18th
-pub past-levels : told (faults level_limit (around (replicate 18 []) (bytes "<_>"))) ≡ 3 ∷ 48 ∷ 5 ∷ 55 ∷ []
+pub past_levels : told (faults level_limit (around (replicate 18 []) (bytes "<_>"))) ≡ 3 ∷ 48 ∷ 5 ∷ 55 ∷ []
 unfolding data_computes faults
-past-levels = refl
+past_levels = refl
 
 -- nothing is scanned behind a syntax fault
-pub up-to-syntax : told (faults level_limit (bytes "<a=<_x> a <_x>>")) ≡ 5 ∷ 4 ∷ 9 ∷ 8 ∷ 2 ∷ 10 ∷ []
+pub up_to_syntax : told (faults level_limit (bytes "<a=<_x> a <_x>>")) ≡ 5 ∷ 4 ∷ 9 ∷ 8 ∷ 2 ∷ 10 ∷ []
 unfolding data_computes faults
-up-to-syntax = refl
+up_to_syntax = refl

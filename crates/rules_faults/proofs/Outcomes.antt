@@ -15,7 +15,7 @@ use Rattle.refusals.specs.declared.Cause.TheVariants.{TextTooLong}
 use Rattle.refusals.specs.declared.Refusal.{Refusal}
 use Rattle.refusals.specs.Refusals.{refusal, number_of}
 use Rattle.refusals.specs.Parsing.{Parse, stopped, flawed, parsed, noting, first_in, faults_in}
-use Rattle.refusals.proofs.Parses.{rank_of, FaultFrom, fault-lower, Ordered}
+use Rattle.refusals.proofs.Parses.{rank_of, FaultFrom, fault_lower, Ordered}
 use Rattle.rules_faults.specs.Faults.{Precedes, Least, Alike}
 
 -- what reading gives and the faults of the text
@@ -50,7 +50,7 @@ module _ {A : Type 0} (s : List ℕ) (P : Bool → ℕ → A → ℕ → Type 0)
   each sound low (stopped x) h y (Memᴰ.head e) = rw e h
   each sound low (stopped x) h y (Memᴰ.tail m) = elim m [ ]
   each sound low (flawed x w) h y (Memᴰ.head e) = rw e h.0
-  each sound low (flawed x w) h y (Memᴰ.tail m) = fault-lower s (rank_of x) low y h.0.behind (each false (rank_of x) w h.1 y m)
+  each sound low (flawed x w) h y (Memᴰ.tail m) = fault_lower s (rank_of x) low y h.0.behind (each false (rank_of x) w h.1 y m)
   each sound low (parsed a p) h y m = elim m [ ]
 
   -- what reading tells is the least
@@ -63,36 +63,36 @@ module _ {A : Type 0} (s : List ℕ) (P : Bool → ℕ → A → ℕ → Type 0)
   outcome sound low (parsed a p) h = refl
 
   -- the same where the text may be too long
-  long-outcome : (long : Bool) (w : Parse A) → Ordered s P true 0 w
+  long_outcome : (long : Bool) (w : Parse A) → Ordered s P true 0 w
       → Outcome (first_in (noting long TextTooLong text_limit w)) (faults_in (noting long TextTooLong text_limit w))
   unfolding number_of
-  long-outcome true w h = record { one = Memᴰ.head refl; least = λ y m. Precedes.first refl }
-  long-outcome false w h = outcome true 0 w h
+  long_outcome true w h = record { one = Memᴰ.head refl; least = λ y m. Precedes.first refl }
+  long_outcome false w h = outcome true 0 w h
 
-  long-lies : (long : Bool) → (long ≡ true → text_limit < length s) → (w : Parse A) → Ordered s P true 0 w
+  long_lies : (long : Bool) → (long ≡ true → text_limit < length s) → (w : Parse A) → Ordered s P true 0 w
       → (x : Refusal)
       → Memᴰ x (faults_in (noting long TextTooLong text_limit w)) → Lies s x
-  long-lies true l w h x (Memᴰ.head e) = inl (e, l refl)
-  long-lies true l w h x (Memᴰ.tail m) = inr (each true 0 w h x m)
-  long-lies false l w h x m = inr (each true 0 w h x m)
+  long_lies true l w h x (Memᴰ.head e) = inl (e, l refl)
+  long_lies true l w h x (Memᴰ.tail m) = inr (each true 0 w h x m)
+  long_lies false l w h x m = inr (each true 0 w h x m)
 
 -- what reading gives, where the faults lie
 module _ {A : Type 0} (s : List ℕ) (r : Reading A) (fs : List Refusal)
     (lies : (x : Refusal) → Memᴰ x fs → Lies s x) (o : Outcome r fs) where
-  outcome-at : (q : Reading A) → r ≡ q → Outcome q fs
-  outcome-at q e = subst (λ (y : Reading A). Outcome y fs) e o
+  outcome_at : (q : Reading A) → r ≡ q → Outcome q fs
+  outcome_at q e = subst (λ (y : Reading A). Outcome y fs) e o
 
   -- a text is read exactly where it has no fault
-  outcome-faultless : ((a : A) × (p : ℕ) × (r ≡ got a p)) ↔ (fs ≡ [])
-  outcome-faultless = (λ h. outcome-at (got h.0 h.1) h.2, λ h. back r refl h)
+  outcome_faultless : ((a : A) × (p : ℕ) × (r ≡ got a p)) ↔ (fs ≡ [])
+  outcome_faultless = (λ h. outcome_at (got h.0 h.1) h.2, λ h. back r refl h)
     where
       back : (q : Reading A) → r ≡ q → fs ≡ [] → (a : A) × (p : ℕ) × (r ≡ got a p)
-      back (refused x) e h = absurd (no_member (subst (Memᴰ x) h (outcome-at (refused x) e).one))
+      back (refused x) e h = absurd (no_member (subst (Memᴰ x) h (outcome_at (refused x) e).one))
       back (got a p) e h = (a, p, e)
 
   -- a refusal is the least of the faults
-  outcome-least : (x : Refusal) → r ≡ refused x → Least x fs
-  outcome-least x e = outcome-at (refused x) e
+  outcome_least : (x : Refusal) → r ≡ refused x → Least x fs
+  outcome_least x e = outcome_at (refused x) e
 
   one_place : (x : Refusal) → Memᴰ x fs → number_of x.cause ≡ 1 → x.place ≡ text_limit
   one_place x m n = go (lies x m)
@@ -113,12 +113,12 @@ module _ {A : Type 0} (s : List ℕ) (r : Reading A) (fs : List Refusal)
   alike x y a b (Precedes.smaller_number n e h) (Precedes.smaller_number m g k) = record { number = omega arith; place = e }
 
   -- where a text has faults, it is refused with the number and at the place of the least
-  outcome-refused : (x : Refusal) → Least x fs → (y : Refusal) × (r ≡ refused y) × Alike x y
-  outcome-refused x l = go r refl
+  outcome_refused : (x : Refusal) → Least x fs → (y : Refusal) × (r ≡ refused y) × Alike x y
+  outcome_refused x l = go r refl
     where
       go : (q : Reading A) → r ≡ q → (y : Refusal) × (r ≡ refused y) × Alike x y
-      go (refused y) e = let k = outcome-least y e in (y, e, alike x y l.one k.one (l.least y k.one) (k.least x l.one))
-      go (got a p) e = absurd (no_member (subst (Memᴰ x) (outcome-faultless.0 (a, p, e)) l.one))
+      go (refused y) e = let k = outcome_least y e in (y, e, alike x y l.one k.one (l.least y k.one) (k.least x l.one))
+      go (got a p) e = absurd (no_member (subst (Memᴰ x) (outcome_faultless.0 (a, p, e)) l.one))
 
 -- a text whose faults come in order
 module _ {A : Type 0} (s : List ℕ) (P : Bool → ℕ → A → ℕ → Type 0) (w : Parse A) (h : Ordered s P true 0 w) where
@@ -128,14 +128,14 @@ module _ {A : Type 0} (s : List ℕ) (P : Bool → ℕ → A → ℕ → Type 0)
   abbrev whole : Parse A
   whole = noting long TextTooLong text_limit w
 
-  pub text-lies : (x : Refusal) → Memᴰ x (faults_in whole) → Lies s x
-  text-lies = long-lies s P long (ltb-true text_limit (length s)) w h
+  pub text_lies : (x : Refusal) → Memᴰ x (faults_in whole) → Lies s x
+  text_lies = long_lies s P long (ltb-true text_limit (length s)) w h
 
-  pub text-faultless : ((a : A) × (p : ℕ) × (first_in whole ≡ got a p)) ↔ (faults_in whole ≡ [])
-  text-faultless = outcome-faultless s (first_in whole) (faults_in whole) text-lies (long-outcome s P long w h)
+  pub text_faultless : ((a : A) × (p : ℕ) × (first_in whole ≡ got a p)) ↔ (faults_in whole ≡ [])
+  text_faultless = outcome_faultless s (first_in whole) (faults_in whole) text_lies (long_outcome s P long w h)
 
-  pub text-least : (x : Refusal) → first_in whole ≡ refused x → Least x (faults_in whole)
-  text-least = outcome-least s (first_in whole) (faults_in whole) text-lies (long-outcome s P long w h)
+  pub text_least : (x : Refusal) → first_in whole ≡ refused x → Least x (faults_in whole)
+  text_least = outcome_least s (first_in whole) (faults_in whole) text_lies (long_outcome s P long w h)
 
-  pub text-refused : (x : Refusal) → Least x (faults_in whole) → (y : Refusal) × (first_in whole ≡ refused y) × Alike x y
-  text-refused = outcome-refused s (first_in whole) (faults_in whole) text-lies (long-outcome s P long w h)
+  pub text_refused : (x : Refusal) → Least x (faults_in whole) → (y : Refusal) × (first_in whole ≡ refused y) × Alike x y
+  text_refused = outcome_refused s (first_in whole) (faults_in whole) text_lies (long_outcome s P long w h)

@@ -1,7 +1,7 @@
 -- The grammar of data text, as productions. Document 01, 'Data text': "At most 16,384 bytes .. Datum: optional `(`TYPE`)`, `<`, members, `>`. Member: NAME `=` then a datum, or `<`
 -- leaf `>` with no type. `<>` is a block without members. A leaf is a string or a word .. A `<` is a leaf's when it has no type, isn't the outermost, and a string or word follows; else
 -- a block's"; a word "is good if it reads as at least one of" the kinds; 'Table', lengths of types, names and strings; 'Meaning': "at most 16 levels"; 'Numbers of refusal', 9: a
--- "member named twice" is refused. Tokens are those of LongestMatch. Each relation says that a part of the text s, from one place up to another, derives a tree. Proved one with blockOf, datum_of, data_token_at, type_token_at. Assumes nothing.
+-- "member named twice" is refused. Tokens are those of LongestMatch. Each relation says that a part of the text s, from one place up to another, derives a tree. Proved one with block_of, datum_of, data_token_at, type_token_at. Assumes nothing.
 use Rattle.std.specs.Prelude.{◌≡◌, ℕ, suc, ◌≤◌, max, length}
 use Rattle.std.proofs.Math.Option.{none, some}
 use mathlib.Core.List.{List, [], ◌∷◌, Memᴰ}

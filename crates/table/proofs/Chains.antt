@@ -15,26 +15,26 @@ module _ (f t rest : Bool) (e : f ≡ t) where
 
 -- a test of two numbers
 module _ (a b : ℕ) (rest : Bool) where
-  pub fails-eq : (a ≡ b → ⊥) → eqb a b ≡ (eqb a b && rest)
-  fails-eq h = rw (ne_eqb a b h)
+  pub fails_eq : (a ≡ b → ⊥) → eqb a b ≡ (eqb a b && rest)
+  fails_eq h = rw (ne_eqb a b h)
 
-  pub passes-eq : (x : Bool) → a ≡ b → x ≡ rest → x ≡ (eqb a b && rest)
-  passes-eq x h q = rw (eq-eqb a b h) q
+  pub passes_eq : (x : Bool) → a ≡ b → x ≡ rest → x ≡ (eqb a b && rest)
+  passes_eq x h q = rw (eq-eqb a b h) q
 
-  pub fails-le : b < a → leb a b ≡ (leb a b && rest)
-  fails-le h = rw (lt-leb a b h)
+  pub fails_le : b < a → leb a b ≡ (leb a b && rest)
+  fails_le h = rw (lt-leb a b h)
 
-  pub passes-le : (x : Bool) → a ≤ b → x ≡ rest → x ≡ (leb a b && rest)
-  passes-le x h q = rw (le-leb a b h) q
+  pub passes_le : (x : Bool) → a ≤ b → x ≡ rest → x ≡ (leb a b && rest)
+  passes_le x h q = rw (le-leb a b h) q
 
-  pub fails-lt : b ≤ a → ltb a b ≡ (ltb a b && rest)
-  fails-lt h = rw (le-ltb a b h)
+  pub fails_lt : b ≤ a → ltb a b ≡ (ltb a b && rest)
+  fails_lt h = rw (le-ltb a b h)
 
-  pub passes-lt : (x : Bool) → a < b → x ≡ rest → x ≡ (ltb a b && rest)
-  passes-lt x h q = rw (lt-ltb a b h) q
+  pub passes_lt : (x : Bool) → a < b → x ≡ rest → x ≡ (ltb a b && rest)
+  passes_lt x h q = rw (lt-ltb a b h) q
 
 -- the last test
 pub ends : (f t : Bool) → f ≡ t → f ≡ (t && true)
 ends f t e = rw and-true e
 
-pub ruleset chain_steps = (ends, fails-eq, passes-eq, fails-le, passes-le, fails-lt, passes-lt, fails, passes)
+pub ruleset chain_steps = (ends, fails_eq, passes_eq, fails_le, passes_le, fails_lt, passes_lt, fails, passes)

@@ -20,49 +20,49 @@ use Rattle.table.specs.Rows.{shape_of, unnamed, row_of}
 use Rattle.table.specs.Check.{kinds, kind_at, field_right, fields_right, uses_of, flag_right, obeys, clean, all_nought, record_right, broken, framed, broken_record, table_fault}
 use Rattle.table.specs.Names.{record_at}
 use Rattle.table.proofs.Checked.{RecordGood, RecordsGood, Checked}
-use Rattle.table.proofs.RecordLaws.{Fits, AllFit, ImageFits, fit-counted, decode-counted, bytes-marked, marked-part, drop-front, length-decodes, length-bytes, header-of-bytes, bytes-behind, image-of-bytes}
-use Rattle.table.proofs.UseLaws.{Passed, each-passed, uses-counted, use-at, row-tied, fields-small}
+use Rattle.table.proofs.RecordLaws.{Fits, AllFit, ImageFits, fit_counted, decode_counted, bytes-marked, marked-part, drop_front, length-decodes, length-bytes, header_of_bytes, bytes_behind, image_of_bytes}
+use Rattle.table.proofs.UseLaws.{Passed, each_passed, uses_counted, use_at, row_tied, fields_small}
 
 module _ {m : Image} {n : ℕ} {r : Record} (g : RecordGood m n r) where
   -- a good record passes the tests of its kind and its flag, of its fields and of all of them
-  pub good-tests : Passed
+  pub good_tests : Passed
       (flag_right r.kind r.flag ∷ fields_right m n (uses_of r) r.fields ∷ (row_of r.kind).across m n r.fields
       ∷ [])
   unfolding obeys
-  good-tests = each-passed (flag_right r.kind r.flag) (fields_right m n (uses_of r) r.fields ∷ (row_of r.kind).across m n r.fields ∷ []) g.obeyed
+  good_tests = each_passed (flag_right r.kind r.flag) (fields_right m n (uses_of r) r.fields ∷ (row_of r.kind).across m n r.fields ∷ []) g.obeyed
 
   -- its fields keep their rules
-  pub good-fields : fields_right m n (uses_of r) r.fields ≡ true
-  good-fields = good-tests.1.0
+  pub good_fields : fields_right m n (uses_of r) r.fields ≡ true
+  good_fields = good_tests.1.0
 
   -- the field at a place keeps the rule of what it is
   pub field_at : (i : ℕ) → i < field_count
       → field_right m n (get_or (uses_of r) i unnamed) (field r i) (field r (suc i)) ≡ true
-  field_at i h = use-at m n (uses_of r) r.fields i good-fields (rw (uses-counted (shape_of r.kind) r.fields) h) (rw g.counted h)
+  field_at i h = use_at m n (uses_of r) r.fields i good_fields (rw (uses_counted (shape_of r.kind) r.fields) h) (rw g.counted h)
 
 -- of good records each is good
-pub good-at : {m : Image} (i k : ℕ) (rs : List Record) (d : Record) → RecordsGood m i rs → k < length rs
+pub good_at : {m : Image} (i k : ℕ) (rs : List Record) (d : Record) → RecordsGood m i rs → k < length rs
     → RecordGood m (i + k) (get_or rs k d)
-good-at i k [] d g h = absurd (not-suc-le-zero h)
-good-at i zero (r ∷ rs) d g h = rw add-zero g.0
-good-at i (suc k) (r ∷ rs) d g h = rw (add-suc, ← suc-add) (good-at (suc i) k rs d g.1 (le_of_suc-le-suc h))
+good_at i k [] d g h = absurd (not-suc-le-zero h)
+good_at i zero (r ∷ rs) d g h = rw add-zero g.0
+good_at i (suc k) (r ∷ rs) d g h = rw (add-suc, ← suc-add) (good_at (suc i) k rs d g.1 (le_of_suc-le-suc h))
 
 -- the kinds of records are those of each
-kinds-at : (rs : List Record) (d : Record) (n : ℕ) → get_or (kinds rs) n d.kind ≡ (get_or rs n d).kind
-kinds-at [] d n = refl
-kinds-at (r ∷ rs) d zero = refl
-kinds-at (r ∷ rs) d (suc n) = kinds-at rs d n
+kinds_at : (rs : List Record) (d : Record) (n : ℕ) → get_or (kinds rs) n d.kind ≡ (get_or rs n d).kind
+kinds_at [] d n = refl
+kinds_at (r ∷ rs) d zero = refl
+kinds_at (r ∷ rs) d (suc n) = kinds_at rs d n
 
 -- the kind at a number is that of the record there
-pub kind-record : (m : Image) (n : ℕ) → kind_at m n ≡ (record_at m n).kind
-kind-record m n = kinds-at (header_of m ∷ m.records) (header_of m) n
+pub kind_record : (m : Image) (n : ℕ) → kind_at m n ≡ (record_at m n).kind
+kind_record m n = kinds_at (header_of m ∷ m.records) (header_of m) n
 
 -- the record with a number of a checked table is good
-pub record-good : (m : Image) (n : ℕ) → Checked m → 1 ≤ n → n < count m → RecordGood m n (record_at m n)
-record-good m zero h l k = absurd (not-suc-le-zero l)
-record-good m (suc n) h l k =
+pub record_good : (m : Image) (n : ℕ) → Checked m → 1 ≤ n → n < count m → RecordGood m n (record_at m n)
+record_good m zero h l k = absurd (not-suc-le-zero l)
+record_good m (suc n) h l k =
     let e : 1 + n ≡ suc n = omega arith in
-    rw (← e) (good-at 1 n m.records (header_of m) h.records (le_of_suc-le-suc k))
+    rw (← e) (good_at 1 n m.records (header_of m) h.records (le_of_suc-le-suc k))
 
 -- a good record fits, where records and pool are within their limits
 pub good-fits : {m : Image} {n : ℕ} {r : Record} → RecordGood m n r → count m ≤ record_limit
@@ -70,14 +70,14 @@ pub good-fits : {m : Image} {n : ℕ} {r : Record} → RecordGood m n r → coun
 unfolding clean
 good-fits {m} {n} {r} g few small = record {
   counted = g.counted;
-  small = fields-small m few small n false (uses_of r) r.fields (row-tied (shape_of r.kind) r.fields) (λ e. absurd (false≢true e)) (rw (g.counted, uses-counted (shape_of r.kind) r.fields) (omega arith)) (good-fields g) g.cleaned;
+  small = fields_small m few small n false (uses_of r) r.fields (row_tied (shape_of r.kind) r.fields) (λ e. absurd (false≢true e)) (rw (g.counted, uses_counted (shape_of r.kind) r.fields) (omega arith)) (good_fields g) g.cleaned;
 }
 
 -- so do good records
-goods-fit : (m : Image) (i : ℕ) (rs : List Record) → RecordsGood m i rs → count m ≤ record_limit
+goods_fit : (m : Image) (i : ℕ) (rs : List Record) → RecordsGood m i rs → count m ≤ record_limit
     → length m.pool ≤ pool_limit → AllFit rs
-goods-fit m i [] g few small = tt
-goods-fit m i (r ∷ rs) g few small = (good-fits g.0 few small, goods-fit m (suc i) rs g.1 few small)
+goods_fit m i [] g few small = tt
+goods_fit m i (r ∷ rs) g few small = (good-fits g.0 few small, goods_fit m (suc i) rs g.1 few small)
 
 -- there are as many kinds as records
 pub length-kinds : (rs : List Record) → length (kinds rs) ≡ length rs
@@ -85,26 +85,26 @@ length-kinds [] = refl
 length-kinds (r ∷ rs) = ap suc (length-kinds rs)
 
 -- a number with a kind other than 0 is below the count
-pub kind-inside : (m : Image) (n : ℕ) → 1 ≤ kind_at m n → n < count m
-kind-inside m n h =
+pub kind_inside : (m : Image) (n : ℕ) → 1 ≤ kind_at m n → n < count m
+kind_inside m n h =
     by_order (count m) n
     (λ l. let e : kind_at m n ≡ 0 = get_or-eq_default (0 ∷ kinds m.records) 0 {n = n} (rw length-kinds l) in absurd (omega arith))
     (λ l. l)
 
 -- a checked table fits
-pub image-fits : (m : Image) → Checked m → ImageFits m
-image-fits m h =
-    let l = kind-inside m m.root (rw h.root (omega arith)) in
+pub image_fits : (m : Image) → Checked m → ImageFits m
+image_fits m h =
+    let l = kind_inside m m.root (rw h.root (omega arith)) in
     record {
-      records = goods-fit m 1 m.records h.records h.few h.pool;
+      records = goods_fit m 1 m.records h.records h.few h.pool;
       count = omega arith;
       pool = omega arith;
       root = omega arith;
     }
 
 -- so it is read back, written in either order
-pub image-back : (little : Bool) (m : Image) → Checked m → image_of (bytes_of little m) ≡ m
-image-back little m h = image-of-bytes little m (image-fits m h)
+pub image_back : (little : Bool) (m : Image) → Checked m → image_of (bytes_of little m) ≡ m
+image_back little m h = image_of_bytes little m (image_fits m h)
 
 -- the frame: the length, the header and the root
 pub record Framed (bs : List ℕ) : Type 0 where
@@ -124,7 +124,7 @@ pub framed_is : (bs : List ℕ) → framed bs ≡ true → Framed bs
 unfolding framed
 framed_is bs e =
     let h = header bs in
-    let p = each-passed (leb record_size (length bs)) (
+    let p = each_passed (leb record_size (length bs)) (
     is_marked bs
     ∷ (eqb h.kind 0 && eqb h.flag 0 && all_nought (drop 3 h.fields))
     ∷ within 2 record_limit (field h 0)
@@ -132,8 +132,8 @@ framed_is bs e =
     ∷ eqb (length bs) (record_size * field h 0 + field h 1)
     ∷ eqb (kind_at (image_of bs) (field h 2)) 1
     ∷ []) e in
-    let q = each-passed (eqb h.kind 0) (eqb h.flag 0 ∷ all_nought (drop 3 h.fields) ∷ []) p.1.1.0 in
-    let c = each-passed (leb 2 (field h 0)) (leb (field h 0) record_limit ∷ []) p.1.1.1.0 in
+    let q = each_passed (eqb h.kind 0) (eqb h.flag 0 ∷ all_nought (drop 3 h.fields) ∷ []) p.1.1.0 in
+    let c = each_passed (leb 2 (field h 0)) (leb (field h 0) record_limit ∷ []) p.1.1.1.0 in
     record {
       long = leb-true record_size (length bs) p.0;
       mark = p.1.0;
@@ -166,35 +166,35 @@ is_framed bs f =
     )
 
 -- a fault is not none
-no-fault : {A P : Type 0} (a : A) → some a ≡ none → P
-no-fault a e = let z : ◌≡◌ {A = ℕ} 0 1 = cc in absurd (omega arith)
+no_fault_lem : {A P : Type 0} (a : A) → some a ≡ none → P
+no_fault_lem a e = let z : ◌≡◌ {A = ℕ} 0 1 = cc in absurd (omega arith)
 
 -- where no record is told there is none
-none-broken : (o : Option ℕ) → broken_record o ≡ none → o ≡ none
-none-broken none e = refl
-none-broken (some n) e = no-fault (refusal BrokenRecord n) e
+none_broken : (o : Option ℕ) → broken_record o ≡ none → o ≡ none
+none_broken none e = refl
+none_broken (some n) e = no_fault_lem (refusal BrokenRecord n) e
 
 -- records that are not broken are good
-pub unbroken-good : (m : Image) (n k : ℕ) (bs : List ℕ) → broken m n (decodes k bs) bs ≡ none
+pub unbroken_good : (m : Image) (n k : ℕ) (bs : List ℕ) → broken m n (decodes k bs) bs ≡ none
     → RecordsGood m n (decodes k bs)
 unfolding broken
-unbroken-good m n zero bs e = tt
-unbroken-good m n (suc k) bs e =
+unbroken_good m n zero bs e = tt
+unbroken_good m n (suc k) bs e =
     let r = decode (take record_size bs) in
     by_cond (λ o. o ≡ none → RecordsGood m n (decodes (suc k) bs)) (record_right m n (take record_size bs) r)
     (λ t h.
-    let p = each-passed (is_marked (take record_size bs)) (obeys m n r ∷ clean r ∷ []) t in
-    (record { counted = decode-counted (take record_size bs); obeyed = p.1.0; cleaned = p.1.1.0 }, unbroken-good m (suc n) k (drop record_size bs) h))
-    (λ t. no-fault n) e
+    let p = each_passed (is_marked (take record_size bs)) (obeys m n r ∷ clean r ∷ []) t in
+    (record { counted = decode_counted (take record_size bs); obeyed = p.1.0; cleaned = p.1.1.0 }, unbroken_good m (suc n) k (drop record_size bs) h))
+    (λ t. no_fault_lem n) e
 
 -- good records are not broken, written in either order
-pub good-unbroken : (little : Bool) (m : Image) (n : ℕ) (rs : List Record) (more : List ℕ) → RecordsGood m n rs
+pub good_unbroken : (little : Bool) (m : Image) (n : ℕ) (rs : List Record) (more : List ℕ) → RecordsGood m n rs
     → broken m n rs (encodes little rs ++ more) ≡ none
 unfolding broken
-good-unbroken little m n [] more g = refl
-good-unbroken little m n (r ∷ rs) more g =
+good_unbroken little m n [] more g = refl
+good_unbroken little m n (r ∷ rs) more g =
     let rest = encodes little rs ++ more in
-    rw (append_assoc, marked-part little r rest, g.0.obeyed, g.0.cleaned, drop-front little r rest g.0.counted) (good-unbroken little m (suc n) rs more g.1)
+    rw (append_assoc, marked-part little r rest, g.0.obeyed, g.0.cleaned, drop_front little r rest g.0.counted) (good_unbroken little m (suc n) rs more g.1)
 
 module _ (bs : List ℕ) (f : Framed bs) where
   -- what has the frame holds as many records as its header says
@@ -203,9 +203,9 @@ module _ (bs : List ℕ) (f : Framed bs) where
   count-framed = rw (length-decodes (field (header bs) 0 - 1) (drop record_size bs)) (omega arith)
 
   -- and as long a pool
-  pub pool-framed : length (image_of bs).pool ≡ field (header bs) 1
+  pub pool_framed : length (image_of bs).pool ≡ field (header bs) 1
   unfolding image_of
-  pool-framed = rw (length-take, length-drop) (omega arith)
+  pool_framed = rw (length-take, length-drop) (omega arith)
 
 -- the frame is there, and no record is broken
 pub record Sound (bs : List ℕ) : Type 0 where
@@ -213,35 +213,35 @@ pub record Sound (bs : List ℕ) : Type 0 where
   pub whole : broken (image_of bs) 1 (image_of bs).records (drop record_size bs) ≡ none
 
 -- bytes that pass the check are so
-pub fault-none : (bs : List ℕ) → table_fault bs ≡ none → Sound bs
+pub fault_none : (bs : List ℕ) → table_fault bs ≡ none → Sound bs
 unfolding table_fault
-fault-none bs =
+fault_none bs =
     let told = broken (image_of bs) 1 (image_of bs).records (drop record_size bs) in
     by_cond (λ o. o ≡ none → Sound bs) (framed bs)
-    (λ t e. record { frame = framed_is bs t; whole = none-broken told e })
-    (λ t. no-fault (refusal NotATable 0))
+    (λ t e. record { frame = framed_is bs t; whole = none_broken told e })
+    (λ t. no_fault_lem (refusal NotATable 0))
 
 -- bytes that pass the check hold a checked table
 pub check_sound : (bs : List ℕ) → table_fault bs ≡ none → Checked (image_of bs)
 unfolding image_of
 check_sound bs e =
-    let s = fault-none bs e in
+    let s = fault_none bs e in
     let c = count-framed bs s.frame in
-    let p = pool-framed bs s.frame in
+    let p = pool_framed bs s.frame in
     record {
       some = omega arith;
       few = omega arith;
       pool = omega arith;
       root = s.frame.root;
-      records = unbroken-good (image_of bs) 1 (field (header bs) 0 - 1) (drop record_size bs) s.whole;
+      records = unbroken_good (image_of bs) 1 (field (header bs) 0 - 1) (drop record_size bs) s.whole;
     }
 
 -- a checked table, written in either order, has the frame
 pub bytes-framed : (little : Bool) (m : Image) → Checked m → Framed (bytes_of little m)
 bytes-framed little m h =
-    let f = image-fits m h in
-    let e = header-of-bytes little m f in
-    let l = length-bytes little m (fit-counted m.records f.records) in
+    let f = image_fits m h in
+    let e = header_of_bytes little m f in
+    let l = length-bytes little m (fit_counted m.records f.records) in
     record {
       long = rw l (omega arith);
       mark = bytes-marked little m;
@@ -252,11 +252,11 @@ bytes-framed little m h =
       few = rw e h.few;
       pool = rw e h.pool;
       whole = rw e l;
-      root = ap₂ (λ x r. kind_at x (field r 2)) (image-back little m h) e ∙ h.root;
+      root = ap₂ (λ x r. kind_at x (field r 2)) (image_back little m h) e ∙ h.root;
     }
 
 -- a checked table, written in either order, passes the check
-pub check-complete : (little : Bool) (m : Image) → Checked m → table_fault (bytes_of little m) ≡ none
+pub check_complete : (little : Bool) (m : Image) → Checked m → table_fault (bytes_of little m) ≡ none
 unfolding table_fault
-check-complete little m h =
-    rw (is_framed (bytes_of little m) (bytes-framed little m h), image-back little m h, bytes-behind little m, good-unbroken little m 1 m.records m.pool h.records)
+check_complete little m h =
+    rw (is_framed (bytes_of little m) (bytes-framed little m h), image_back little m h, bytes_behind little m, good_unbroken little m 1 m.records m.pool h.records)

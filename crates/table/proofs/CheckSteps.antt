@@ -21,8 +21,8 @@ use Rattle.table.specs.declared.records.Frame.{Frame}
 use Rattle.table.specs.declared.check.CheckAnswer.{CheckAnswer}
 use Rattle.table.specs.declared.check.CheckAnswer.TheVariants.{Passed, Refused}
 use Rattle.table.proofs.CheckLaws.{framed_is}
-use Rattle.table.proofs.RecordSteps.{marked-in}
-use Rattle.table.proofs.FrameLaws.{framed-opened}
+use Rattle.table.proofs.RecordSteps.{marked_in}
+use Rattle.table.proofs.FrameLaws.{framed_opened}
 
 -- the tests of the length and the mark
 module _ (bs : List ℕ) where
@@ -37,26 +37,26 @@ module _ (bs : List ℕ) where
 
     -- and those of the header that was read, in the order taken
     module _ (h : Entry) (m : not k ≡ false) (q : record_of h ≡ decode (take record_size bs)) where
-      framed-chain : framed bs ≡ (plain_header h && (counts_right h (length bs) && eqb (kind_at (image_of bs) h.c) 1))
+      framed_chain : framed bs ≡ (plain_header h && (counts_right h (length bs) && eqb (kind_at (image_of bs) h.c) 1))
       unfolding framed
-      framed-chain = rw (le-leb record_size (length bs) l, ← e, not-false k m, ← q) (simp and_assoc)
+      framed_chain = rw (le-leb record_size (length bs) l, ← e, not-false k m, ← q) (simp and_assoc)
 
       module _ (p : Bool) (ep : p ≡ plain_header h) where
         pub not_plain : not p ≡ true → false ≡ framed bs
-        not_plain g = rw (framed-chain, ← ep, not-true p g)
+        not_plain g = rw (framed_chain, ← ep, not-true p g)
 
         module _ (c : Bool) (gp : not p ≡ false) (ec : c ≡ counts_right h (length bs)) where
-          pub counts-wrong : not c ≡ true → false ≡ framed bs
-          counts-wrong g = rw (framed-chain, ← ep, not-false p gp, ← ec, not-true c g)
+          pub counts_wrong : not c ≡ true → false ≡ framed bs
+          counts_wrong g = rw (framed_chain, ← ep, not-false p gp, ← ec, not-true c g)
 
           pub root_told : (r : ℕ) → not c ≡ false → r ≡ kind_at (image_of bs) h.c → eqb r 1 ≡ framed bs
-          root_told r g er = rw (framed-chain, ← ep, not-false p gp, ← ec, not-false c g, ← er)
+          root_told r g er = rw (framed_chain, ← ep, not-false p gp, ← ec, not-false c g, ← er)
 
 -- counts that are right open the table
-pub counts-open : (bs : List ℕ) (h : Entry) (c : Bool) → record_of h ≡ decode (take record_size bs)
+pub counts_open : (bs : List ℕ) (h : Entry) (c : Bool) → record_of h ≡ decode (take record_size bs)
     → c ≡ counts_right h (length bs) → not c ≡ false
     → Opened bs (record { count = h.a; pool = h.b })
-counts-open bs h c q e g =
+counts_open bs h c q e g =
     let few = leb h.a record_limit in
     let small = leb h.b pool_limit in
     let whole = eqb (length bs) (record_size * h.a + h.b) in
@@ -74,16 +74,16 @@ counts-open bs h c q e g =
 
 -- a record: its mark and its rules
 module _ (bs : List ℕ) (n at : ℕ) (k : Bool) (ea : at ≡ record_size * n) (e : k ≡ is_marked (drop at bs)) where
-  pub record-unmarked : k ≡ false
+  pub record_unmarked : k ≡ false
       → k ≡ record_right (image_of bs) n (take record_size (drop (record_size * n) bs))
       (decode (take record_size (drop (record_size * n) bs)))
-  record-unmarked h = rw (← ea, marked-in bs at, ← e, h)
+  record_unmarked h = rw (← ea, marked_in bs at, ← e, h)
 
-  pub record-ruled : (x : Entry) (r : Bool) → k ≡ true → record_of x ≡ decode (take record_size (drop at bs))
+  pub record_ruled : (x : Entry) (r : Bool) → k ≡ true → record_of x ≡ decode (take record_size (drop at bs))
       → r ≡ (obeys (image_of bs) n (record_of x) && clean (record_of x))
       → r ≡ record_right (image_of bs) n (take record_size (drop (record_size * n) bs))
       (decode (take record_size (drop (record_size * n) bs)))
-  record-ruled x r h q g = rw (← ea, marked-in bs at, ← e, h, ← q) g
+  record_ruled x r h q g = rw (← ea, marked_in bs at, ← e, h, ← q) g
 
 -- the records from number n on are at fault as all are
 pub record Reached (bs : List ℕ) (f : Frame) (n : ℕ) : Type 0 where
@@ -93,15 +93,15 @@ pub record Reached (bs : List ℕ) (f : Frame) (n : ℕ) : Type 0 where
   pub is : broken (image_of bs) n (decodes (f.count - n) (drop (record_size * n) bs))
       (drop (record_size * n) bs) ≡ broken (image_of bs) 1 (image_of bs).records (drop record_size bs)
 
-pub reach-first : (bs : List ℕ) (f : Frame) → Opened bs f → Reached bs f 1
+pub reach_first : (bs : List ℕ) (f : Frame) → Opened bs f → Reached bs f 1
 unfolding image_of
-reach-first bs f o = record { low = omega arith; high = omega arith; opened = o; is = rw o.records }
+reach_first bs f o = record { low = omega arith; high = omega arith; opened = o; is = rw o.records }
 
 module _ (bs : List ℕ) (f : Frame) (n : ℕ) (i : Reached bs f n) where
-  pub reach-end : f.count ≤ n
+  pub reach_end : f.count ≤ n
       → fault_of Passed ≡ broken_record (broken (image_of bs) 1 (image_of bs).records (drop record_size bs))
   unfolding broken
-  reach-end h =
+  reach_end h =
       let z : f.count - n ≡ 0 = omega arith in
       ap broken_record (rw z at i.is)
 
@@ -111,15 +111,15 @@ module _ (bs : List ℕ) (f : Frame) (n : ℕ) (i : Reached bs f n) where
     one_more : f.count - n ≡ suc (f.count - (n + 1))
     one_more = omega arith
 
-    pub reach-fault : not r ≡ true
+    pub reach_fault : not r ≡ true
         → fault_of (Refused (refusal BrokenRecord n))
         ≡ broken_record (broken (image_of bs) 1 (image_of bs).records (drop record_size bs))
     unfolding broken
-    reach-fault g = ap broken_record (rw (one_more, ← e, not-true r g) at i.is)
+    reach_fault g = ap broken_record (rw (one_more, ← e, not-true r g) at i.is)
 
-    pub reach-next : not r ≡ false → Reached bs f (n + 1)
+    pub reach_next : not r ≡ false → Reached bs f (n + 1)
     unfolding broken
-    reach-next g =
+    reach_next g =
         let s : record_size * n + record_size ≡ record_size * (n + 1) = omega arith in
         record { low = omega arith; high = omega arith; opened = i.opened; is = rw (one_more, ← e, not-false r g, drop-drop record_size (record_size * n) bs, s, ← (add-one n)) at i.is }
 
@@ -133,16 +133,16 @@ module _ (bs : List ℕ) (b : Bool) (e : b ≡ framed bs) where
     passed : framed bs ≡ true
     passed = sym e ∙ not-false b h
 
-    pub long-enough : record_size ≤ length bs
-    long-enough = (framed_is bs passed).long
+    pub long_enough : record_size ≤ length bs
+    long_enough = (framed_is bs passed).long
 
-    pub table-open : (f : Frame) → (f.count ≡ field (header bs) 0) × (f.pool ≡ field (header bs) 1) → Opened bs f
-    table-open f q = framed-opened bs f (framed_is bs passed) q.0 q.1
+    pub table_open : (f : Frame) → (f.count ≡ field (header bs) 0) × (f.pool ≡ field (header bs) 1) → Opened bs f
+    table_open f q = framed_opened bs f (framed_is bs passed) q.0 q.1
 
-    pub table-told : (a : CheckAnswer)
+    pub table_told : (a : CheckAnswer)
         → fault_of a ≡ broken_record (broken (image_of bs) 1 (image_of bs).records (drop record_size bs))
         → fault_of a ≡ table_fault bs
     unfolding table_fault
-    table-told a q = rw passed q
+    table_told a q = rw passed q
 
-pub ruleset check-steps = (too_short, unmarked, not_plain, counts-wrong, root_told, counts-open, record-unmarked, record-ruled, reach-first, reach-end, reach-fault, reach-next, no_table, long-enough, table-open, table-told)
+pub ruleset check_steps = (too_short, unmarked, not_plain, counts_wrong, root_told, counts_open, record_unmarked, record_ruled, reach_first, reach_end, reach_fault, reach_next, no_table, long_enough, table_open, table_told)

@@ -34,9 +34,9 @@ numbers-put little (x ∷ xs) h =
     (ap₂ ◌∷◌ (get-put little number_size x h.0) (numbers-put little xs h.1))
 
 -- a record that is read has all its fields
-pub decode-counted : (bs : List ℕ) → length (decode bs).fields ≡ field_count
+pub decode_counted : (bs : List ℕ) → length (decode bs).fields ≡ field_count
 unfolding decode
-decode-counted bs = refl
+decode_counted bs = refl
 
 -- the fields of a record that fits are read back
 fields_back : (little : Bool) (r : Record) → Fits r → numbers little field_count (put_all little r.fields) ≡ r.fields
@@ -73,14 +73,14 @@ marked-part true r more = refl
 marked-part false r more = refl
 
 -- a record that fits is read back from the bytes in front
-pub decode-front : (little : Bool) (r : Record) (more : List ℕ) → Fits r
+pub decode_front : (little : Bool) (r : Record) (more : List ℕ) → Fits r
     → decode (take record_size (encode little r ++ more)) ≡ r
-decode-front little r more f = rw (take_at (encode little r) more record_size (length-encode little r f.counted)) (decode-encode little r f)
+decode_front little r more f = rw (take_at (encode little r) more record_size (length-encode little r f.counted)) (decode-encode little r f)
 
 -- behind a record's 24 bytes stands what follows
-pub drop-front : (little : Bool) (r : Record) (more : List ℕ) → length r.fields ≡ field_count
+pub drop_front : (little : Bool) (r : Record) (more : List ℕ) → length r.fields ≡ field_count
     → drop record_size (encode little r ++ more) ≡ more
-drop-front little r more h = drop_at (encode little r) more record_size (length-encode little r h)
+drop_front little r more h = drop_at (encode little r) more record_size (length-encode little r h)
 
 -- so many records are read, of any bytes
 pub length-decodes : (n : ℕ) (bs : List ℕ) → length (decodes n bs) ≡ n
@@ -92,7 +92,7 @@ pub decodes-encodes : (little : Bool) (rs : List Record) (more : List ℕ) → A
     → decodes (length rs) (encodes little rs ++ more) ≡ rs
 decodes-encodes little [] more f = refl
 decodes-encodes little (r ∷ rs) more f =
-    rw (append_assoc, decode-front little r (encodes little rs ++ more) f.0, drop-front little r (encodes little rs ++ more) f.0.counted)
+    rw (append_assoc, decode_front little r (encodes little rs ++ more) f.0, drop_front little r (encodes little rs ++ more) f.0.counted)
     (ap (r ∷◌) (decodes-encodes little rs more f.1))
 
 -- every record has all its fields
@@ -101,9 +101,9 @@ AllCounted [] = Unit {0}
 AllCounted (r ∷ rs) = (length r.fields ≡ field_count) × AllCounted rs
 
 -- records that fit have all their fields
-pub fit-counted : (rs : List Record) → AllFit rs → AllCounted rs
-fit-counted [] f = tt
-fit-counted (r ∷ rs) f = (f.0.counted, fit-counted rs f.1)
+pub fit_counted : (rs : List Record) → AllFit rs → AllCounted rs
+fit_counted [] f = tt
+fit_counted (r ∷ rs) f = (f.0.counted, fit_counted rs f.1)
 
 -- records take 24 bytes each
 pub length-encodes : (little : Bool) (rs : List Record) → AllCounted rs
@@ -130,9 +130,9 @@ pub header-fits : (m : Image) → ImageFits m → Fits (header_of m)
 header-fits m f = record { counted = refl; small = (f.count, (f.pool, (f.root, (omega arith, (omega arith, tt))))) }
 
 -- its header is read back
-pub header-of-bytes : (little : Bool) (m : Image) → ImageFits m → header (bytes_of little m) ≡ header_of m
+pub header_of_bytes : (little : Bool) (m : Image) → ImageFits m → header (bytes_of little m) ≡ header_of m
 unfolding bytes_of
-header-of-bytes little m f = decode-front little (header_of m) (encodes little m.records ++ m.pool) (header-fits m f)
+header_of_bytes little m f = decode_front little (header_of m) (encodes little m.records ++ m.pool) (header-fits m f)
 
 -- a table's bytes begin with a mark
 pub bytes-marked : (little : Bool) (m : Image) → is_marked (bytes_of little m) ≡ true
@@ -140,23 +140,23 @@ unfolding bytes_of
 bytes-marked little m = marked little (header_of m) (encodes little m.records ++ m.pool)
 
 -- behind the header stand the records and the pool
-pub bytes-behind : (little : Bool) (m : Image)
+pub bytes_behind : (little : Bool) (m : Image)
     → drop record_size (bytes_of little m) ≡ encodes little m.records ++ m.pool
 unfolding bytes_of
-bytes-behind little m = drop-front little (header_of m) (encodes little m.records ++ m.pool) refl
+bytes_behind little m = drop_front little (header_of m) (encodes little m.records ++ m.pool) refl
 
 -- behind the records stands the pool
-pub pool-behind : (little : Bool) (m : Image) → AllCounted m.records
+pub pool_behind : (little : Bool) (m : Image) → AllCounted m.records
     → drop (record_size * count m) (bytes_of little m) ≡ m.pool
 unfolding bytes_of
-pool-behind little m h =
+pool_behind little m h =
     let front = encode little (header_of m) ++ encodes little m.records in
     let e : length front ≡ record_size * count m = rw (length-append, length-encode little (header_of m) refl, length-encodes little m.records h) (omega arith) in
     rw (← append_assoc) (drop_at front m.pool (record_size * count m) e)
 
 -- a table that fits is read back
-pub image-of-bytes : (little : Bool) (m : Image) → ImageFits m → image_of (bytes_of little m) ≡ m
+pub image_of_bytes : (little : Bool) (m : Image) → ImageFits m → image_of (bytes_of little m) ≡ m
 unfolding image_of
-image-of-bytes little m f =
+image_of_bytes little m f =
     let less : count m - 1 ≡ length m.records = omega arith in
-    rw (header-of-bytes little m f, bytes-behind little m, pool-behind little m (fit-counted m.records f.records), less, decodes-encodes little m.records m.pool f.records, take-length)
+    rw (header_of_bytes little m f, bytes_behind little m, pool_behind little m (fit_counted m.records f.records), less, decodes-encodes little m.records m.pool f.records, take-length)

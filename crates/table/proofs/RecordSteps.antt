@@ -24,14 +24,14 @@ part_in k (suc j) (suc n) (x ∷ xs) h = part_in k j n xs (omega arith)
 
 module _ (bs : List ℕ) (at : ℕ) where
   -- a record's byte, order, mark and number are those at their places in the table
-  byte-in : (j : ℕ) → j < record_size → get_or (take record_size (drop at bs)) j 0 ≡ get_or bs (at + j) 0
-  byte-in j h = get_or-take record_size (drop at bs) j 0 h ∙ get_or-drop at bs j 0
+  byte_in : (j : ℕ) → j < record_size → get_or (take record_size (drop at bs)) j 0 ≡ get_or bs (at + j) 0
+  byte_in j h = get_or-take record_size (drop at bs) j 0 h ∙ get_or-drop at bs j 0
 
-  little-in : is_little (take record_size (drop at bs)) ≡ is_little (drop at bs)
-  little-in = ap (λ x. eqb (get true x) mark) (take-take 2 record_size (drop at bs) (omega arith))
+  little_in : is_little (take record_size (drop at bs)) ≡ is_little (drop at bs)
+  little_in = ap (λ x. eqb (get true x) mark) (take-take 2 record_size (drop at bs) (omega arith))
 
-  pub marked-in : is_marked (take record_size (drop at bs)) ≡ is_marked (drop at bs)
-  marked-in = ap (λ x. eqb (get true x) mark || eqb (get false x) mark) (take-take 2 record_size (drop at bs) (omega arith))
+  pub marked_in : is_marked (take record_size (drop at bs)) ≡ is_marked (drop at bs)
+  marked_in = ap (λ x. eqb (get true x) mark || eqb (get false x) mark) (take-take 2 record_size (drop at bs) (omega arith))
 
   number_in : (little : Bool) (j : ℕ) → j + number_size ≤ record_size
       → get little (take number_size (drop j (take record_size (drop at bs))))
@@ -48,12 +48,12 @@ module _ (bs : List ℕ) (at : ℕ) where
   unfolding decode
   read_is little a b c d e l ea eb ec ed ee =
       rw (ea, eb, ec, ed, ee, l)
-      (simp (drop-drop, little-in)
+      (simp (drop-drop, little_in)
       (let n : (j : ℕ) → j + number_size ≤ record_size → get (is_little (drop at bs)) (take number_size (drop j (take record_size (drop at bs)))) ≡ get (is_little (drop at bs)) (take number_size (drop (at + j) bs)) = number_in (is_little (drop at bs)) in
-      rw (byte-in 2 (omega arith), byte-in 3 (omega arith), n 4 (omega arith), n 8 (omega arith), n 12 (omega arith), n 16 (omega arith), n 20 (omega arith))))
+      rw (byte_in 2 (omega arith), byte_in 3 (omega arith), n 4 (omega arith), n 8 (omega arith), n 12 (omega arith), n 16 (omega arith), n 20 (omega arith))))
 
   -- its numbers are read lowest first, and then put in the record's own order
-  pub read-ordered : (little : Bool) (a b c d e : ℕ) (t : Entry) → little ≡ is_little (drop at bs)
+  pub read_ordered : (little : Bool) (a b c d e : ℕ) (t : Entry) → little ≡ is_little (drop at bs)
       → a ≡ get true (take 4 (drop (at + 4) bs)) → b ≡ get true (take 4 (drop (at + 8) bs))
       → c ≡ get true (take 4 (drop (at + 12) bs))
       → d ≡ get true (take 4 (drop (at + 16) bs)) → e ≡ get true (take 4 (drop (at + 20) bs))
@@ -61,7 +61,7 @@ module _ (bs : List ℕ) (at : ℕ) where
       ≡ ordered_as little
       (record_of (record { kind = get_or bs (at + 2) 0; flag = get_or bs (at + 3) 0; a = a; b = b; c = c; d = d; e = e }))
       → at + record_size ≤ length bs → ((i : ℕ) → get_or bs i 0 < 256) → record_of t ≡ decode (take record_size (drop at bs))
-  read-ordered little a b c d e t l ea eb ec ed ee et h g =
+  read_ordered little a b c d e t l ea eb ec ed ee et h g =
       let n : (j : ℕ) (x : ℕ) → j + 4 ≤ record_size → x ≡ get true (take 4 (drop (at + j) bs)) → ordered little x ≡ get little (take 4 (drop (at + j) bs)) = λ j x k q. ap (ordered little) q ∙ number-ordered bs (at + j) little (omega arith) g in
       et ∙ read_is little (ordered little a) (ordered little b) (ordered little c) (ordered little d) (ordered little e) l
       (n 4 a (omega arith) ea) (n 8 b (omega arith) eb) (n 12 c (omega arith) ec) (n 16 d (omega arith) ed) (n 20 e (omega arith) ee)
@@ -72,22 +72,22 @@ module _ (r : Entry) (little : Bool) where
       → record_of r ≡ ordered_as little (record_of r)
   ordered_same l ha hb hc hd he = rw l (rw (get-put true 4 r.a ha, get-put true 4 r.b hb, get-put true 4 r.c hc, get-put true 4 r.d hd, get-put true 4 r.e he))
 
-  pub ordered-swapped : (a b c d e : ℕ) → little ≡ false → a ≡ get false (put true 4 r.a)
+  pub ordered_swapped : (a b c d e : ℕ) → little ≡ false → a ≡ get false (put true 4 r.a)
       → b ≡ get false (put true 4 r.b) → c ≡ get false (put true 4 r.c) → d ≡ get false (put true 4 r.d)
       → e ≡ get false (put true 4 r.e)
       → record_of (record { kind = r.kind; flag = r.flag; a = a; b = b; c = c; d = d; e = e })
       ≡ ordered_as little (record_of r)
-  ordered-swapped a b c d e l ea eb ec ed ee = rw (l, ea, eb, ec, ed, ee)
+  ordered_swapped a b c d e l ea eb ec ed ee = rw (l, ea, eb, ec, ed, ee)
 
 -- the mark read in either order
 module _ (bs : List ℕ) (m : ℕ) (e : m ≡ get true (take 2 bs)) where
-  pub little-is : eqb m mark ≡ is_little bs
-  little-is = ap (λ x. eqb x mark) e
+  pub little_is : eqb m mark ≡ is_little bs
+  little_is = ap (λ x. eqb x mark) e
 
-  pub marked-little : m ≡ mark → eqb m mark ≡ is_marked bs
-  marked-little h = rw (← e, eq-eqb m mark h)
+  pub marked_little : m ≡ mark → eqb m mark ≡ is_marked bs
+  marked_little h = rw (← e, eq-eqb m mark h)
 
-  pub marked-big : (k : ℕ) → (m ≡ mark → ⊥) → k ≡ get false (take 2 bs) → eqb k mark ≡ is_marked bs
-  marked-big k h q = rw (← e, ne_eqb m mark h, ← q)
+  pub marked_big : (k : ℕ) → (m ≡ mark → ⊥) → k ≡ get false (take 2 bs) → eqb k mark ≡ is_marked bs
+  marked_big k h q = rw (← e, ne_eqb m mark h, ← q)
 
-pub ruleset record-steps = (ordered_same, ordered-swapped, little-is, marked-little, marked-big)
+pub ruleset record_steps = (ordered_same, ordered_swapped, little_is, marked_little, marked_big)

@@ -51,10 +51,10 @@ ranges-moved s (single sort n flag) = refl
 ranges-moved s (ranges sort l) = refl
 ranges-moved s (texts l) = refl
 
-texts-moved : (s : ℕ) (l : Leaf) → texts_of (moved_leaf s l) ≡ map (moved_text s) (texts_of l)
-texts-moved s (single sort n flag) = refl
-texts-moved s (ranges sort l) = refl
-texts-moved s (texts l) = refl
+texts_moved : (s : ℕ) (l : Leaf) → texts_of (moved_leaf s l) ≡ map (moved_text s) (texts_of l)
+texts_moved s (single sort n flag) = refl
+texts_moved s (ranges sort l) = refl
+texts_moved s (texts l) = refl
 
 -- a step among moved trees leads to the moved tree
 pub reach-moved : (s k : ℕ) (ts : List Tree) → reach (map (moved_tree s) ts) k ≡ moved_tree s (reach ts k)
@@ -67,7 +67,7 @@ unfolding moved_object moved_attributes
 tree_over s i table_header x ts = refl
 tree_over s i object x ts = simp (reach-moved, attributes-moved)
 tree_over s i attribute x ts = simp (reach-moved, attributes-moved, value-moved)
-tree_over s i text x ts = let h = items-moved s texts_of (moved_text s) (texts-moved s) in simp (reach-moved, h)
+tree_over s i text x ts = let h = items-moved s texts_of (moved_text s) (texts_moved s) in simp (reach-moved, h)
 tree_over s i (Rows.single sort) x ts = refl
 tree_over s i (range sort) x ts = let h = items-moved s ranges_of (moved_range s) (ranges-moved s) in simp (reach-moved, h)
 
@@ -89,9 +89,9 @@ length-cells pool i [] = refl
 length-cells pool i (r ∷ rs) = ap suc (length-cells pool (suc i) rs)
 
 -- a table has as many trees as records
-pub length-trees-of : (m : Image) → length (trees_of m) ≡ length m.records
+pub length-trees_of : (m : Image) → length (trees_of m) ≡ length m.records
 unfolding trees_of cells_of
-length-trees-of m = length-trees 1 (cells_of m) ∙ length-cells m.pool 1 m.records
+length-trees_of m = length-trees 1 (cells_of m) ∙ length-cells m.pool 1 m.records
 
 -- the cells of records and more records are the cells of both, numbered on
 pub cells-append : (pool : List ℕ) (i : ℕ) (rs qs : List Record)
@@ -114,19 +114,19 @@ pub reach-append : (k : ℕ) (ts us : List Tree) → k ≤ length ts → reach (
 reach-append k ts us h = get_or-append (nothing ∷ ts) us nothing k (omega arith)
 
 -- a step over all of the first trees leads among the second
-pub reach-past : (k : ℕ) (ts us : List Tree) → reach (ts ++ us) (length ts + suc k) ≡ reach us (suc k)
-reach-past k ts us = rw (add-suc, get_or-append-add)
+pub reach_past : (k : ℕ) (ts us : List Tree) → reach (ts ++ us) (length ts + suc k) ≡ reach us (suc k)
+reach_past k ts us = rw (add-suc, get_or-append-add)
 
 -- a tree whose steps lead to the same trees, whatever follows them, is the same
-tree-above : (i : ℕ) (shape : Shape) (x : Cell) (ts us : List Tree)
+tree_above : (i : ℕ) (shape : Shape) (x : Cell) (ts us : List Tree)
     → ((p : ℕ) → reach (ts ++ us) (step_in (part_at x p)) ≡ reach ts (step_in (part_at x p)))
     → tree_by shape i x (ts ++ us) ≡ tree_by shape i x ts
-tree-above i table_header x ts us to = refl
-tree-above i object x ts us to = simp to
-tree-above i attribute x ts us to = simp to
-tree-above i text x ts us to = simp to
-tree-above i (Rows.single sort) x ts us to = refl
-tree-above i (range sort) x ts us to = simp to
+tree_above i table_header x ts us to = refl
+tree_above i object x ts us to = simp to
+tree_above i attribute x ts us to = simp to
+tree_above i text x ts us to = simp to
+tree_above i (Rows.single sort) x ts us to = refl
+tree_above i (range sort) x ts us to = simp to
 
 -- a closed list of cells keeps its trees where more cells follow
 pub trees-append : (i : ℕ) (xs ys : List Cell) → Closed xs → trees i (xs ++ ys) ≡ trees i xs ++ trees (i + length xs) ys
@@ -136,4 +136,4 @@ trees-append i (x ∷ xs) ys h =
     let to : (us : List Tree) (p : ℕ) → reach (above ++ us) (step_in (part_at x p)) ≡ reach above (step_in (part_at x p)) =
     λ us p. reach-append (step_in (part_at x p)) above us (rw length-trees (h.0 p)) in
     let e : suc i + length xs ≡ i + suc (length xs) = omega arith in
-    ap (λ ts. tree_of i x ts ∷ ts) (trees-append (suc i) xs ys h.1 ∙ ap (λ j. above ++ trees j ys) e) ∙ ap (◌∷ (above ++ trees (i + suc (length xs)) ys)) (tree-above i (shape_of x.kind) x above (trees (i + suc (length xs)) ys) (to (trees (i + suc (length xs)) ys)))
+    ap (λ ts. tree_of i x ts ∷ ts) (trees-append (suc i) xs ys h.1 ∙ ap (λ j. above ++ trees j ys) e) ∙ ap (◌∷ (above ++ trees (i + suc (length xs)) ys)) (tree_above i (shape_of x.kind) x above (trees (i + suc (length xs)) ys) (to (trees (i + suc (length xs)) ys)))

@@ -18,40 +18,40 @@ use Rattle.table.specs.Check.{field_right, uses_of}
 use Rattle.table.specs.Names.{record_at}
 use Rattle.table.specs.Trees.{number, part_of, parts_of, Cell, cell, cells, cells_of, part_at, step_in, Tree, nothing, of_object, of_attributes, of_leaf, attributes_in, value_in, ranges_of, texts_of, items_in, reach, tree_by, tree_of, trees, trees_of, tree_at}
 use Rattle.table.proofs.Checked.{Checked, RecordGood}
-use Rattle.table.proofs.UseLaws.{uses-counted, by-link}
-use Rattle.table.proofs.CheckLaws.{record-good, field_at}
+use Rattle.table.proofs.UseLaws.{uses_counted, by_link}
+use Rattle.table.proofs.CheckLaws.{record_good, field_at}
 use Rattle.table.proofs.TreeLaws.{length-cells}
 
 -- the tree of a cell among others is made of the trees above it
-trees-there : (i k : ℕ) (xs : List Cell) (z : Cell) → k < ListN.length xs
+trees_there : (i k : ℕ) (xs : List Cell) (z : Cell) → k < ListN.length xs
     → get_or (trees i xs) k nothing ≡ tree_of (i + k) (get_or xs k z) (drop (suc k) (trees i xs))
-trees-there i k [] z h = absurd (omega arith)
-trees-there i zero (x ∷ xs) z h = rw add-zero
-trees-there i (suc k) (x ∷ xs) z h =
+trees_there i k [] z h = absurd (omega arith)
+trees_there i zero (x ∷ xs) z h = rw add-zero
+trees_there i (suc k) (x ∷ xs) z h =
     let e : suc i + k ≡ i + suc k = omega arith in
-    trees-there (suc i) k xs z (omega arith) ∙ ap (λ j. tree_of j (get_or xs k z) (drop (suc k) (trees (suc i) xs))) e
+    trees_there (suc i) k xs z (omega arith) ∙ ap (λ j. tree_of j (get_or xs k z) (drop (suc k) (trees (suc i) xs))) e
 
-cells-there : (pool : List ℕ) (i k : ℕ) (rs : List Record) (r : Record) (z : Cell) → k < ListN.length rs
+cells_there : (pool : List ℕ) (i k : ℕ) (rs : List Record) (r : Record) (z : Cell) → k < ListN.length rs
     → get_or (cells pool i rs) k z ≡ cell pool (i + k) (get_or rs k r)
-cells-there pool i k [] r z h = absurd (omega arith)
-cells-there pool i zero (x ∷ xs) r z h = rw add-zero
-cells-there pool i (suc k) (x ∷ xs) r z h =
+cells_there pool i k [] r z h = absurd (omega arith)
+cells_there pool i zero (x ∷ xs) r z h = rw add-zero
+cells_there pool i (suc k) (x ∷ xs) r z h =
     let e : suc i + k ≡ i + suc k = omega arith in
-    cells-there pool (suc i) k xs r z (omega arith) ∙ ap (λ j. cell pool j (get_or xs k r)) e
+    cells_there pool (suc i) k xs r z (omega arith) ∙ ap (λ j. cell pool j (get_or xs k r)) e
 
 -- a field as it is meant, by its place
-parts-there : (pool : List ℕ) (n : ℕ) (us : List Use) (xs : List ℕ) (i : ℕ) → i < ListN.length us → i < ListN.length xs
+parts_there : (pool : List ℕ) (n : ℕ) (us : List Use) (xs : List ℕ) (i : ℕ) → i < ListN.length us → i < ListN.length xs
     → get_or (parts_of pool n us xs) i (number 0) ≡ part_of pool n (get_or us i unnamed) (get_or xs i 0) (get_or xs (suc i) 0)
-parts-there pool n [] xs i h k = absurd (omega arith)
-parts-there pool n (u ∷ us) [] i h k = absurd (omega arith)
-parts-there pool n (u ∷ us) (x ∷ xs) zero h k = refl
-parts-there pool n (u ∷ us) (x ∷ xs) (suc i) h k = parts-there pool n us xs i (omega arith) (omega arith)
+parts_there pool n [] xs i h k = absurd (omega arith)
+parts_there pool n (u ∷ us) [] i h k = absurd (omega arith)
+parts_there pool n (u ∷ us) (x ∷ xs) zero h k = refl
+parts_there pool n (u ∷ us) (x ∷ xs) (suc i) h k = parts_there pool n us xs i (omega arith) (omega arith)
 
 -- a link, read as a step up, leads to the tree of the record that it names
-link-there : (m : Image) (k x : ℕ) (ks : List ℕ) (next : ℕ) → field_right m (suc k) (link ks) x next ≡ true
+link_there : (m : Image) (k x : ℕ) (ks : List ℕ) (next : ℕ) → field_right m (suc k) (link ks) x next ≡ true
     → reach (drop (suc k) (trees_of m)) (x - suc k) ≡ tree_at m x
 unfolding tree_at
-link-there m k x ks next h = by-link m (suc k) ks x next h
+link_there m k x ks next h = by_link m (suc k) ks x next h
     (λ z. let e : 0 - suc k ≡ 0 = omega arith in rw (z, e))
     (λ l.
     let above : suc k < x = l.above in
@@ -85,42 +85,42 @@ node_of m n r = node_by (shape_of r.kind) m n r
 
 module _ (m : Image) (k : ℕ) (r : Record) (g : RecordGood m (suc k) r) (s : Shape) (e : shape_of r.kind ≡ s) where
   -- a field as it is meant, where the record's shape is known
-  part-there : (i : ℕ) → i < field_count
+  part_there : (i : ℕ) → i < field_count
       → part_at (cell m.pool (suc k) r) i
       ≡ part_of m.pool (suc k) (get_or ((row_for s).uses r.fields) i unnamed) (field r i) (field r (suc i))
-  part-there i h =
-      parts-there m.pool (suc k) (uses_of r) r.fields i (omega (arith, uses-counted (shape_of r.kind) r.fields)) (omega (arith, g.counted))
+  part_there i h =
+      parts_there m.pool (suc k) (uses_of r) r.fields i (omega (arith, uses_counted (shape_of r.kind) r.fields)) (omega (arith, g.counted))
       ∙ ap (λ x. part_of m.pool (suc k) (get_or ((row_for x).uses r.fields) i unnamed) (field r i) (field r (suc i))) e
 
   -- where a link leads
-  to-there : (i : ℕ) (ks : List ℕ) → i < field_count → get_or ((row_for s).uses r.fields) i unnamed ≡ link ks
+  to_there : (i : ℕ) (ks : List ℕ) → i < field_count → get_or ((row_for s).uses r.fields) i unnamed ≡ link ks
       → reach (drop (suc k) (trees_of m)) (step_in (part_at (cell m.pool (suc k) r) i)) ≡ tree_at m (field r i)
-  to-there i ks h u =
+  to_there i ks h u =
       let f = field_at g i h in
       let w : field_right m (suc k) (link ks) (field r i) (field r (suc i)) ≡ true = rw (uses_of, row_of, e, u) at f in
-      ap (λ p. reach (drop (suc k) (trees_of m)) (step_in p)) (part-there i h ∙ ap (λ v. part_of m.pool (suc k) v (field r i) (field r (suc i))) u)
-      ∙ link-there m k (field r i) ks (field r (suc i)) w
+      ap (λ p. reach (drop (suc k) (trees_of m)) (step_in p)) (part_there i h ∙ ap (λ v. part_of m.pool (suc k) v (field r i) (field r (suc i))) u)
+      ∙ link_there m k (field r i) ks (field r (suc i)) w
 
-node-there : (m : Image) (k : ℕ) (r : Record) → RecordGood m (suc k) r → (s : Shape) → shape_of r.kind ≡ s
+node_there : (m : Image) (k : ℕ) (r : Record) → RecordGood m (suc k) r → (s : Shape) → shape_of r.kind ≡ s
     → tree_by s (suc k) (cell m.pool (suc k) r) (drop (suc k) (trees_of m)) ≡ node_by s m (suc k) r
-node-there m k r g table_header e = refl
-node-there m k r g object e = rw (part-there m k r g object e 0 (lit< tt), part-there m k r g object e 2 (lit< tt), to-there m k r g object e 4 _ (lit< tt) refl)
-node-there m k r g attribute e =
-    rw (part-there m k r g attribute e 0 (lit< tt), to-there m k r g attribute e 2 _ (lit< tt) refl, to-there m k r g attribute e 3 _ (lit< tt) refl)
-node-there m k r g text e = rw (part-there m k r g text e 0 (lit< tt), to-there m k r g text e 4 _ (lit< tt) refl)
-node-there m k r g (single sort) e = refl
-node-there m k r g (range sort) e =
-    rw (part-there m k r g (range sort) e 0 (lit< tt), part-there m k r g (range sort) e 1 (lit< tt), to-there m k r g (range sort) e 4 _ (lit< tt) refl)
+node_there m k r g table_header e = refl
+node_there m k r g object e = rw (part_there m k r g object e 0 (lit< tt), part_there m k r g object e 2 (lit< tt), to_there m k r g object e 4 _ (lit< tt) refl)
+node_there m k r g attribute e =
+    rw (part_there m k r g attribute e 0 (lit< tt), to_there m k r g attribute e 2 _ (lit< tt) refl, to_there m k r g attribute e 3 _ (lit< tt) refl)
+node_there m k r g text e = rw (part_there m k r g text e 0 (lit< tt), to_there m k r g text e 4 _ (lit< tt) refl)
+node_there m k r g (single sort) e = refl
+node_there m k r g (range sort) e =
+    rw (part_there m k r g (range sort) e 0 (lit< tt), part_there m k r g (range sort) e 1 (lit< tt), to_there m k r g (range sort) e 4 _ (lit< tt) refl)
 
 -- the tree at a record of a checked table is the record's, with the trees at its links
-pub tree-node : (m : Image) → Checked m → (n : ℕ) → 1 ≤ n → n < count m → tree_at m n ≡ node_of m n (record_at m n)
+pub tree_node : (m : Image) → Checked m → (n : ℕ) → 1 ≤ n → n < count m → tree_at m n ≡ node_of m n (record_at m n)
 unfolding tree_at trees_of cells_of
-tree-node m h zero a b = absurd (omega arith)
-tree-node m h (suc k) a b =
+tree_node m h zero a b = absurd (omega arith)
+tree_node m h (suc k) a b =
     let r = record_at m (suc k) in
     let z : Cell = cell m.pool 0 r in
     let one : 1 + k ≡ suc k = omega arith in
-    trees-there 1 k (cells_of m) z (rw length-cells (omega arith))
-    ∙ ap (λ x. tree_of (1 + k) x (drop (suc k) (trees_of m))) (cells-there m.pool 1 k m.records _ z (omega arith))
+    trees_there 1 k (cells_of m) z (rw length-cells (omega arith))
+    ∙ ap (λ x. tree_of (1 + k) x (drop (suc k) (trees_of m))) (cells_there m.pool 1 k m.records _ z (omega arith))
     ∙ ap (λ j. tree_of j (cell m.pool j r) (drop (suc k) (trees_of m))) one
-    ∙ node-there m k r (record-good m (suc k) h a b) (shape_of r.kind) refl
+    ∙ node_there m k r (record_good m (suc k) h a b) (shape_of r.kind) refl

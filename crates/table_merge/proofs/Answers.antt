@@ -11,7 +11,7 @@ use Rattle.refusals.specs.Limits.{record_limit, pool_limit}
 use Rattle.refusals.specs.Outcomes.{gave, writes}
 use Rattle.refusals.specs.declared.Cause.TheVariants.{TooManyRecords, PoolTooLarge}
 use Rattle.refusals.specs.declared.Refusal.{Refusal}
-use Rattle.refusals.proofs.Outcomes.{gives, front-is, no-fault, not_found, fits}
+use Rattle.refusals.proofs.Outcomes.{gives, front_is, no_fault_lem, not_found, fits}
 use Rattle.table.specs.Records.{count, image_of, bytes_of}
 use Rattle.table.specs.Check.{table_fault}
 use Rattle.table_merge.specs.Joining.{shifts_by, merged}
@@ -19,35 +19,35 @@ use Rattle.table_merge.specs.Merge.{MergeRequest, MergeReport, report, of_table,
 
 pub record Joined (q : MergeRequest) (m : MergeReport) (out : List ℕ) : Type 0 where
   pub first_passes : table_fault q.first ≡ none
-  pub second-passes : table_fault q.second ≡ none
-  pub records-fit : length (image_of q.first).records + count (image_of q.second) ≤ record_limit
-  pub pool-fits : length (image_of q.first).pool + length (image_of q.second).pool ≤ pool_limit
-  pub shifts-are : m.shifts ≡ shifts_by (image_of q.first)
+  pub second_passes : table_fault q.second ≡ none
+  pub records_fit : length (image_of q.first).records + count (image_of q.second) ≤ record_limit
+  pub pool_fits : length (image_of q.first).pool + length (image_of q.second).pool ≤ pool_limit
+  pub shifts_are : m.shifts ≡ shifts_by (image_of q.first)
   pub written_is : take m.length out ≡ bytes_of q.little (merged (image_of q.first) (image_of q.second))
 
-none-mapped : (table : ℕ) (f : Option Refusal) → map (of_table table) f ≡ none → f ≡ none
-none-mapped table none h = refl
-none-mapped table (some r) h = let z : ◌≡◌ {A = ℕ} 0 1 = cc in absurd (omega arith)
+none_mapped : (table : ℕ) (f : Option Refusal) → map (of_table table) f ≡ none → f ≡ none
+none_mapped table none h = refl
+none_mapped table (some r) h = let z : ◌≡◌ {A = ℕ} 0 1 = cc in absurd (omega arith)
 
-pub merge-gives : (q : MergeRequest) (out : List ℕ) (m : MergeReport) → (merge_answer q out).answer ≡ gave m
+pub merge_gives : (q : MergeRequest) (out : List ℕ) (m : MergeReport) → (merge_answer q out).answer ≡ gave m
     → Joined q m (merge_answer q out).out
 unfolding merge_answer join
-merge-gives q out m h =
+merge_gives q out m h =
     let x = image_of q.first in
     let y = image_of q.second in
     let bs = bytes_of q.little (merged x y) in
     let g = gives (merge_outcome q (length out)) out m h in
-    let a = no-fault g.written (map (of_table 1) (table_fault q.first)) _ g.is in
-    let b = no-fault g.written (map (of_table 2) (table_fault q.second)) _ a.1 in
+    let a = no_fault_lem g.written (map (of_table 1) (table_fault q.first)) _ g.is in
+    let b = no_fault_lem g.written (map (of_table 2) (table_fault q.second)) _ a.1 in
     let c = not_found g.written (ltb record_limit (length x.records + count y)) (neither TooManyRecords 0) _ b.1 in
     let d = not_found g.written (ltb pool_limit (length x.pool + length y.pool)) (neither PoolTooLarge 0) _ c.1 in
     let w = (fits neither (length bs) (length out) (writes bs (report (length bs) (shifts_by x))) g.written d.1).1 in
-    let r : report (length bs) (shifts_by x) ≡ m = ap (λ v. v.report) w ∙ g.report-is in
+    let r : report (length bs) (shifts_by x) ≡ m = ap (λ v. v.report) w ∙ g.report_is in
     record {
-      first_passes = none-mapped 1 (table_fault q.first) a.0;
-      second-passes = none-mapped 2 (table_fault q.second) b.0;
-      records-fit = ltb-false _ _ c.0;
-      pool-fits = ltb-false _ _ d.0;
-      shifts-are = sym (ap (λ v. v.shifts) r);
-      written_is = ap (λ v. take v.length (merge_answer q out).out) (sym r) ∙ front-is g (writes bs (report (length bs) (shifts_by x))) w;
+      first_passes = none_mapped 1 (table_fault q.first) a.0;
+      second_passes = none_mapped 2 (table_fault q.second) b.0;
+      records_fit = ltb-false _ _ c.0;
+      pool_fits = ltb-false _ _ d.0;
+      shifts_are = sym (ap (λ v. v.shifts) r);
+      written_is = ap (λ v. take v.length (merge_answer q out).out) (sym r) ∙ front_is g (writes bs (report (length bs) (shifts_by x))) w;
     }

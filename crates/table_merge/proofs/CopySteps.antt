@@ -11,7 +11,7 @@ use Rattle.table.specs.Rows.{shape_of}
 use Rattle.table.specs.Check.{uses_of}
 use Rattle.table.specs.Clauses.Answers.{record_of}
 use Rattle.table.specs.declared.records.Entry.{Entry}
-use Rattle.table.proofs.RecordLaws.{decode-counted, length-encode}
+use Rattle.table.proofs.RecordLaws.{decode_counted, length-encode}
 use Rattle.table_merge.specs.Joining.{Shifts, moved}
 use Rattle.table_merge.specs.Clauses.Answers.{Movable, Copying}
 use Rattle.table_merge.proofs.CheckedMerge.{length_moved}
@@ -20,18 +20,18 @@ use Rattle.lexis.proofs.Stores.{sets_behind}
 -- one record, read at its place, moved, and written at the place of its moved number
 module _ (bs : List ℕ) (n : ℕ) (s : Shifts) (from : ℕ) (e : Entry) (at : from ≡ record_size * n)
     (read : record_of e ≡ decode (take record_size (drop from bs))) where
-  entry-is : record_of e ≡ record_in bs n
-  entry-is = rw at at read
+  entry_is : record_of e ≡ record_in bs n
+  entry_is = rw at at read
 
-  pub entry-movable : (out : List ℕ) → 1 ≤ n → Copying bs (n + 1) s out → Movable s (shape_of e.kind) (record_of e)
-  entry-movable out l h = subst (λ r. Movable s (shape_of r.kind) r) (sym entry-is) (h.movable n l (omega arith))
+  pub entry_movable : (out : List ℕ) → 1 ≤ n → Copying bs (n + 1) s out → Movable s (shape_of e.kind) (record_of e)
+  entry_movable out l h = subst (λ r. Movable s (shape_of r.kind) r) (sym entry_is) (h.movable n l (omega arith))
 
-  pub record-copied : (little : Bool) (out x : List ℕ) (m : Entry) (k to : ℕ) → record_of m ≡ moved s (record_of e)
+  pub record_copied : (little : Bool) (out x : List ℕ) (m : Entry) (k to : ℕ) → record_of m ≡ moved s (record_of e)
       → k ≡ s.records + n → to ≡ record_size * k
       → x ≡ sets out to (encode little (record_of m))
       → x ≡ sets out (record_size * (s.records + n)) (encode little (moved s (record_in bs n)))
-  record-copied little out x m k to p q t w =
-      (rw (t, q) at w) ∙ ap (λ r. sets out (record_size * (s.records + n)) (encode little r)) (p ∙ ap (moved s) entry-is)
+  record_copied little out x m k to p q t w =
+      (rw (t, q) at w) ∙ ap (λ r. sets out (record_size * (s.records + n)) (encode little r)) (p ∙ ap (moved s) entry_is)
 
 -- what is left to write of the records below a count, from a number on
 abbrev pub left : List ℕ → ℕ → Shifts → Bool → ℕ → List ℕ → List ℕ
@@ -45,14 +45,14 @@ pub record InCopy (bs : List ℕ) (count : ℕ) (s : Shifts) (little : Bool) (wa
   pub same : length out ≡ length was
   pub is : left bs count s little n out ≡ left bs count s little 1 was
 
-pub copy-begins : (bs : List ℕ) (count : ℕ) (s : Shifts) (little : Bool) (out : List ℕ) → Copying bs count s out
+pub copy_begins : (bs : List ℕ) (count : ℕ) (s : Shifts) (little : Bool) (out : List ℕ) → Copying bs count s out
     → InCopy bs count s little out 1 out
-copy-begins bs count s little out h = record { copying = h; least = omega arith; same = refl; is = refl }
+copy_begins bs count s little out h = record { copying = h; least = omega arith; same = refl; is = refl }
 
 module _ {bs : List ℕ} {count : ℕ} {s : Shifts} {little : Bool} {was : List ℕ} {n : ℕ} {out : List ℕ}
     (inv : InCopy bs count s little was n out) where
-  pub copy-asks : n < count → Copying bs (n + 1) s out
-  copy-asks l =
+  pub copy_asks : n < count → Copying bs (n + 1) s out
+  copy_asks l =
       let h = inv.copying in
       record { inside = omega arith; room = omega arith; few = omega arith; movable = λ j a b. h.movable j a (omega arith) }
 
@@ -66,16 +66,16 @@ module _ {bs : List ℕ} {count : ℕ} {s : Shifts} {little : Bool} {was : List 
       let k = count - (n + 1) in
       let e : count - n ≡ suc k = omega arith in
       let f : record_size * n + record_size ≡ record_size * (n + 1) = omega arith in
-      let counted : length r.fields ≡ field_count = length_moved s (uses_of (record_in bs n)) (record_in bs n).fields ∙ decode-counted (take record_size (drop (record_size * n) bs)) in
+      let counted : length r.fields ≡ field_count = length_moved s (uses_of (record_in bs n)) (record_in bs n).fields ∙ decode_counted (take record_size (drop (record_size * n) bs)) in
       let g : record_size * (s.records + n) + length (encode little r) ≡ record_size * (s.records + (n + 1)) = omega (arith, length-encode little r counted) in
       rw (e, drop-drop record_size (record_size * n) bs, f) (sym (sets_behind (encode little r) _ out (record_size * (s.records + n)) (record_size * (s.records + (n + 1))) g))
 
-  pub copy-goes-on : (x : List ℕ) → n < count
+  pub copy_goes_on : (x : List ℕ) → n < count
       → x ≡ sets out (record_size * (s.records + n)) (encode little (moved s (record_in bs n))) → length x ≡ length out
       → InCopy bs count s little was (n + 1) x
-  copy-goes-on x l e k = record { copying = inv.copying; least = omega arith; same = omega arith; is = rw e (sym (one_less l) ∙ inv.is) }
+  copy_goes_on x l e k = record { copying = inv.copying; least = omega arith; same = omega arith; is = rw e (sym (one_less l) ∙ inv.is) }
 
-  pub copy-ends : count ≤ n → out ≡ left bs count s little 1 was
-  copy-ends l = let e : count - n ≡ 0 = omega arith in rw e at inv.is
+  pub copy_ends : count ≤ n → out ≡ left bs count s little 1 was
+  copy_ends l = let e : count - n ≡ 0 = omega arith in rw e at inv.is
 
-pub ruleset copy-steps = (entry-movable, record-copied, copy-begins, copy-asks, copy-goes-on, copy-ends)
+pub ruleset copy_steps = (entry_movable, record_copied, copy_begins, copy_asks, copy_goes_on, copy_ends)

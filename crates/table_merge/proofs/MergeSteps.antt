@@ -10,7 +10,7 @@ use lib.Seq.{sets}
 use borrow.Author.Tests.{lt-ltb, le-ltb}
 use Rattle.refusals.specs.Limits.{record_limit, pool_limit}
 use Rattle.refusals.specs.Outcomes.{Outcome, refused, gave, Answered, answered, write}
-use Rattle.refusals.proofs.Outcomes.{front-stored}
+use Rattle.refusals.proofs.Outcomes.{front_stored}
 use Rattle.refusals.specs.declared.Refusal.{Refusal}
 use Rattle.refusals.specs.declared.Cause.TheVariants.{TooManyRecords, PoolTooLarge, OutputTooShort}
 use Rattle.table.specs.Records.{count, image_of, bytes_of}
@@ -19,77 +19,77 @@ use Rattle.table.specs.Clauses.Answers.{Opened, fault_of}
 use Rattle.table.specs.declared.check.CheckAnswer.{CheckAnswer}
 use Rattle.table.specs.declared.check.CheckAnswer.TheVariants.{Passed, Refused}
 use Rattle.table.specs.declared.records.Frame.{Frame}
-use Rattle.table.proofs.FrameLaws.{count-opened, pool-opened}
+use Rattle.table.proofs.FrameLaws.{count_opened, pool_opened}
 use Rattle.table.proofs.NameSteps.{passed_none}
 use Rattle.table_merge.specs.Joining.{merged}
 use Rattle.table_merge.specs.Merge.{request, MergeReport, report, MergeRefusal, of_table, neither, join, merge_answer}
 use Rattle.table_merge.specs.Clauses.Answers.{shifts, Joinable, joined_length}
-use Rattle.table_merge.proofs.MovedLaws.{shifts-opened}
-use Rattle.table_merge.proofs.JoinSteps.{length-joined}
+use Rattle.table_merge.proofs.MovedLaws.{shifts_opened}
+use Rattle.table_merge.proofs.JoinSteps.{length_joined}
 
 module _ (first second : List ℕ) (x y : Frame) (little : Bool) (out : List ℕ) (a : Opened first x)
     (b : Opened second y) where
   -- the sizes that are tested are those of the counts
-  records-are : length (image_of first).records + count (image_of second) ≡ x.count - 1 + y.count
-  records-are = omega (arith, count-opened first x a, count-opened second y b)
+  records_are : length (image_of first).records + count (image_of second) ≡ x.count - 1 + y.count
+  records_are = omega (arith, count_opened first x a, count_opened second y b)
 
-  pools-are : length (image_of first).pool + length (image_of second).pool ≡ x.pool + y.pool
-  pools-are = omega (arith, pool-opened first x a, pool-opened second y b)
+  pools_are : length (image_of first).pool + length (image_of second).pool ≡ x.pool + y.pool
+  pools_are = omega (arith, pool_opened first x a, pool_opened second y b)
 
-  pub join-many : (z : Outcome MergeRefusal MergeReport) → z ≡ refused (neither TooManyRecords 0)
+  pub join_many : (z : Outcome MergeRefusal MergeReport) → z ≡ refused (neither TooManyRecords 0)
       → record_limit < x.count - 1 + y.count
       → answered z out ≡ write (join (image_of first) (image_of second) little (length out)) out
   unfolding join
-  join-many z e h = rw (e, records-are, lt-ltb record_limit (x.count - 1 + y.count) h)
+  join_many z e h = rw (e, records_are, lt-ltb record_limit (x.count - 1 + y.count) h)
 
   module _ (few : x.count - 1 + y.count ≤ record_limit) where
-    pub join-large : (z : Outcome MergeRefusal MergeReport) → z ≡ refused (neither PoolTooLarge 0)
+    pub join_large : (z : Outcome MergeRefusal MergeReport) → z ≡ refused (neither PoolTooLarge 0)
         → pool_limit < x.pool + y.pool
         → answered z out ≡ write (join (image_of first) (image_of second) little (length out)) out
     unfolding join
-    join-large z e h =
-        rw (e, records-are, le-ltb record_limit (x.count - 1 + y.count) few, pools-are, lt-ltb pool_limit (x.pool + y.pool) h)
+    join_large z e h =
+        rw (e, records_are, le-ltb record_limit (x.count - 1 + y.count) few, pools_are, lt-ltb pool_limit (x.pool + y.pool) h)
 
     module _ (small : x.pool + y.pool ≤ pool_limit) (p : table_fault first ≡ none) (q : table_fault second ≡ none) where
       pub joinable : Joinable first second x y
-      joinable = record { first_passes = p; second-passes = q; first-opened = a; second-opened = b; few = few; small = small }
+      joinable = record { first_passes = p; second_passes = q; first_opened = a; second_opened = b; few = few; small = small }
 
-      pub join-short : (z : Outcome MergeRefusal MergeReport) (l : ℕ) → z ≡ refused (neither OutputTooShort l)
+      pub join_short : (z : Outcome MergeRefusal MergeReport) (l : ℕ) → z ≡ refused (neither OutputTooShort l)
           → l ≡ joined_length x y → length out < l
           → answered z out ≡ write (join (image_of first) (image_of second) little (length out)) out
       unfolding join
-      join-short z l e t h =
-          let n : length (bytes_of little (merged (image_of first) (image_of second))) ≡ l = length-joined joinable little ∙ sym t in
-          rw (e, records-are, le-ltb record_limit (x.count - 1 + y.count) few, pools-are, le-ltb pool_limit (x.pool + y.pool) small, n, lt-ltb (length out) l h)
+      join_short z l e t h =
+          let n : length (bytes_of little (merged (image_of first) (image_of second))) ≡ l = length_joined joinable little ∙ sym t in
+          rw (e, records_are, le-ltb record_limit (x.count - 1 + y.count) few, pools_are, le-ltb pool_limit (x.pool + y.pool) small, n, lt-ltb (length out) l h)
 
-      pub join-done : (o : List ℕ) (l : ℕ) → l ≡ joined_length x y → l ≤ length out
+      pub join_done : (o : List ℕ) (l : ℕ) → l ≡ joined_length x y → l ≤ length out
           → o ≡ sets out 0 (bytes_of little (merged (image_of first) (image_of second)))
           → answered (gave (report l (shifts (x.count - 1) x.pool))) o
           ≡ write (join (image_of first) (image_of second) little (length out)) out
       unfolding join
-      join-done o l t h w =
+      join_done o l t h w =
           let bs = bytes_of little (merged (image_of first) (image_of second)) in
-          let n : length bs ≡ l = length-joined joinable little ∙ sym t in
-          let v : o ≡ bs ++ drop (length bs) out = w ∙ front-stored bs out (omega arith) in
-          rw (v, records-are, le-ltb record_limit (x.count - 1 + y.count) few, pools-are, le-ltb pool_limit (x.pool + y.pool) small, le-ltb (length out) (length bs) (omega arith), n, shifts-opened first x a)
+          let n : length bs ≡ l = length_joined joinable little ∙ sym t in
+          let v : o ≡ bs ++ drop (length bs) out = w ∙ front_stored bs out (omega arith) in
+          rw (v, records_are, le-ltb record_limit (x.count - 1 + y.count) few, pools_are, le-ltb pool_limit (x.pool + y.pool) small, le-ltb (length out) (length bs) (omega arith), n, shifts_opened first x a)
 
 -- the check of each table
 module _ (first second : List ℕ) (little : Bool) (out : List ℕ) where
-  pub first-refused : (c : CheckAnswer) (r : Refusal) → fault_of c ≡ table_fault first → c ≡ Refused r
+  pub first_refused_lem : (c : CheckAnswer) (r : Refusal) → fault_of c ≡ table_fault first → c ≡ Refused r
       → answered (refused (of_table 1 r)) out ≡ merge_answer (request first second little) out
   unfolding merge_answer
-  first-refused c r e h = rw (← e, h)
+  first_refused_lem c r e h = rw (← e, h)
 
   module _ (c : CheckAnswer) (e : fault_of c ≡ table_fault first) (h : c ≡ Passed) where
-    pub second-refused : (d : CheckAnswer) (r : Refusal) → fault_of d ≡ table_fault second → d ≡ Refused r
+    pub second_refused_lem : (d : CheckAnswer) (r : Refusal) → fault_of d ≡ table_fault second → d ≡ Refused r
         → answered (refused (of_table 2 r)) out ≡ merge_answer (request first second little) out
     unfolding merge_answer
-    second-refused d r f g = rw (← e, h, ← f, g)
+    second_refused_lem d r f g = rw (← e, h, ← f, g)
 
-    pub both-pass : (d : CheckAnswer) (m : Answered MergeRefusal MergeReport) → fault_of d ≡ table_fault second
+    pub both_pass : (d : CheckAnswer) (m : Answered MergeRefusal MergeReport) → fault_of d ≡ table_fault second
         → d ≡ Passed → m ≡ write (join (image_of first) (image_of second) little (length out)) out
         → m ≡ merge_answer (request first second little) out
     unfolding merge_answer
-    both-pass d m f g w = rw (← e, h, ← f, g) w
+    both_pass d m f g w = rw (← e, h, ← f, g) w
 
-pub ruleset merge-steps = (join-many, join-large, joinable, join-short, join-done, first-refused, second-refused, both-pass, passed_none)
+pub ruleset merge_steps = (join_many, join_large, joinable, join_short, join_done, first_refused_lem, second_refused_lem, both_pass, passed_none)

@@ -10,7 +10,7 @@ use Rattle.table.specs.Rows.{Shape, table_header, object, attribute, text, singl
 use Rattle.meaning.specs.Constraints.{integers, dates}
 use Rattle.table.specs.Clauses.Answers.{record_of}
 use Rattle.table.specs.declared.records.Entry.{Entry}
-use Rattle.table.proofs.UseLaws.{names_none, plain_kind, plain-shape}
+use Rattle.table.proofs.UseLaws.{names_none, plain_kind, plain_shape}
 use Rattle.table_merge.specs.Joining.{Shifts, moved}
 use Rattle.table_merge.specs.Clauses.Answers.{shifts, moved_link, moved_place, moved_as, Movable}
 
@@ -23,22 +23,22 @@ module _ (t x y : ℕ) where
     pub moves : (z : ℕ) → z ≡ y → z ≡ cond (eqb t 0) x y
     moves z e = rw (ne_eqb t 0 h) e
 
-    pub moves-within : cond (eqb t 0) x y < 2 ^ 32 → y < 2 ^ 32
-    moves-within l = rw (ne_eqb t 0 h) at l
+    pub moves_within : cond (eqb t 0) x y < 2 ^ 32 → y < 2 ^ 32
+    moves_within l = rw (ne_eqb t 0 h) at l
 
 -- the fields that a kind names, moved one by one
 module _ (records pool : ℕ) (r : Entry) where
-  pub object-moved : (a c e : ℕ) → a ≡ moved_place pool r.a r.b → c ≡ moved_place pool r.c r.d
+  pub object_moved : (a c e : ℕ) → a ≡ moved_place pool r.a r.b → c ≡ moved_place pool r.c r.d
       → e ≡ moved_link records r.e
       → record_of (record { kind = r.kind; flag = r.flag; a = a; b = r.b; c = c; d = r.d; e = e })
       ≡ moved_as (shifts records pool) object (record_of r)
-  object-moved a c e p q t = rw (p, q, t)
+  object_moved a c e p q t = rw (p, q, t)
 
-  pub attribute-moved : (a c d : ℕ) → a ≡ moved_place pool r.a r.b → c ≡ moved_link records r.c
+  pub attribute_moved : (a c d : ℕ) → a ≡ moved_place pool r.a r.b → c ≡ moved_link records r.c
       → d ≡ moved_link records r.d
       → record_of (record { kind = r.kind; flag = r.flag; a = a; b = r.b; c = c; d = d; e = r.e })
       ≡ moved_as (shifts records pool) attribute (record_of r)
-  attribute-moved a c d p q t = rw (p, q, t)
+  attribute_moved a c d p q t = rw (p, q, t)
 
   pub item-moved : (e : ℕ) → e ≡ moved_link records r.e
       → record_of (record { kind = r.kind; flag = r.flag; a = r.a; b = r.b; c = r.c; d = r.d; e = e })
@@ -52,45 +52,45 @@ module _ (records pool : ℕ) (r : Entry) where
 
 module _ (s : Shifts) (r : Entry) where
   -- the shape that is known
-  shape-movable : (x : Shape) → shape_of r.kind ≡ x → Movable s (shape_of r.kind) (record_of r)
+  shape_movable : (x : Shape) → shape_of r.kind ≡ x → Movable s (shape_of r.kind) (record_of r)
       → Movable s x (record_of r)
-  shape-movable x e h = rw (← e) h
+  shape_movable x e h = rw (← e) h
 
-  shape-moved : (x : Shape) (y : Record) → shape_of r.kind ≡ x → y ≡ moved_as s x (record_of r)
+  shape_moved : (x : Shape) (y : Record) → shape_of r.kind ≡ x → y ≡ moved_as s x (record_of r)
       → y ≡ moved s (record_of r)
-  shape-moved x y e h = h ∙ ap (λ z. moved_as s z (record_of r)) (sym e)
+  shape_moved x y e h = h ∙ ap (λ z. moved_as s z (record_of r)) (sym e)
 
   shape_at : (k : ℕ) (x : Shape) → r.kind ≡ k → shape_of k ≡ x → shape_of r.kind ≡ x
   shape_at k x e h = ap shape_of e ∙ h
 
-  pub object-movable : r.kind ≡ 1 → Movable s (shape_of r.kind) (record_of r) → Movable s object (record_of r)
+  pub object_movable : r.kind ≡ 1 → Movable s (shape_of r.kind) (record_of r) → Movable s object (record_of r)
   unfolding shape_of
-  object-movable e h = shape-movable object (shape_at 1 object e refl) h
+  object_movable e h = shape_movable object (shape_at 1 object e refl) h
 
-  pub object-is : (y : Record) → r.kind ≡ 1 → y ≡ moved_as s object (record_of r) → y ≡ moved s (record_of r)
+  pub object_is : (y : Record) → r.kind ≡ 1 → y ≡ moved_as s object (record_of r) → y ≡ moved s (record_of r)
   unfolding shape_of
-  object-is y e h = shape-moved object y (shape_at 1 object e refl) h
+  object_is y e h = shape_moved object y (shape_at 1 object e refl) h
 
-  pub attribute-movable : r.kind ≡ 2 → Movable s (shape_of r.kind) (record_of r) → Movable s attribute (record_of r)
+  pub attribute_movable : r.kind ≡ 2 → Movable s (shape_of r.kind) (record_of r) → Movable s attribute (record_of r)
   unfolding shape_of
-  attribute-movable e h = shape-movable attribute (shape_at 2 attribute e refl) h
+  attribute_movable e h = shape_movable attribute (shape_at 2 attribute e refl) h
 
-  pub attribute-is : (y : Record) → r.kind ≡ 2 → y ≡ moved_as s attribute (record_of r) → y ≡ moved s (record_of r)
+  pub attribute_is : (y : Record) → r.kind ≡ 2 → y ≡ moved_as s attribute (record_of r) → y ≡ moved s (record_of r)
   unfolding shape_of
-  attribute-is y e h = shape-moved attribute y (shape_at 2 attribute e refl) h
+  attribute_is y e h = shape_moved attribute y (shape_at 2 attribute e refl) h
 
   -- the kind that is left of 4 and 5
-  text-shape : 4 ≤ r.kind → (r.kind ≡ 4 → ⊥) → r.kind < 6 → shape_of r.kind ≡ text
+  text_shape : 4 ≤ r.kind → (r.kind ≡ 4 → ⊥) → r.kind < 6 → shape_of r.kind ≡ text
   unfolding shape_of
-  text-shape h h4 l = shape_at 5 text (omega arith) refl
+  text_shape h h4 l = shape_at 5 text (omega arith) refl
 
-  pub text-movable : 4 ≤ r.kind → (r.kind ≡ 4 → ⊥) → r.kind < 6 → Movable s (shape_of r.kind) (record_of r)
+  pub text_movable : 4 ≤ r.kind → (r.kind ≡ 4 → ⊥) → r.kind < 6 → Movable s (shape_of r.kind) (record_of r)
       → Movable s text (record_of r)
-  text-movable h h4 l m = shape-movable text (text-shape h h4 l) m
+  text_movable h h4 l m = shape_movable text (text_shape h h4 l) m
 
-  pub text-is : (y : Record) → 4 ≤ r.kind → (r.kind ≡ 4 → ⊥) → r.kind < 6 → y ≡ moved_as s text (record_of r)
+  pub text_is : (y : Record) → 4 ≤ r.kind → (r.kind ≡ 4 → ⊥) → r.kind < 6 → y ≡ moved_as s text (record_of r)
       → y ≡ moved s (record_of r)
-  text-is y h h4 l q = shape-moved text y (text-shape h h4 l) q
+  text_is y h h4 l q = shape_moved text y (text_shape h h4 l) q
 
   -- a kind that names no field
   none_moves : (x : Shape) → names_none x ≡ true → record_of r ≡ moved_as s x (record_of r)
@@ -102,48 +102,48 @@ module _ (s : Shifts) (r : Entry) where
   none_moves (range sort) h = absurd (false≢true h)
 
   still : plain_kind r.kind ≡ true → record_of r ≡ moved s (record_of r)
-  still h = none_moves (shape_of r.kind) (plain-shape r.kind h)
+  still h = none_moves (shape_of r.kind) (plain_shape r.kind h)
 
-  still-at : (k : ℕ) → r.kind ≡ k → plain_kind k ≡ true → record_of r ≡ moved s (record_of r)
-  still-at k e h = still (ap plain_kind e ∙ h)
+  still_at : (k : ℕ) → r.kind ≡ k → plain_kind k ≡ true → record_of r ≡ moved s (record_of r)
+  still_at k e h = still (ap plain_kind e ∙ h)
 
-  pub none-still : r.kind ≡ 0 → record_of r ≡ moved s (record_of r)
-  none-still e = still-at 0 e refl
+  pub none_still : r.kind ≡ 0 → record_of r ≡ moved s (record_of r)
+  none_still e = still_at 0 e refl
 
-  pub boolean-still : (r.kind ≡ 0 → ⊥) → (r.kind ≡ 1 → ⊥) → (r.kind ≡ 2 → ⊥) → r.kind < 4
+  pub boolean_still : (r.kind ≡ 0 → ⊥) → (r.kind ≡ 1 → ⊥) → (r.kind ≡ 2 → ⊥) → r.kind < 4
       → record_of r ≡ moved s (record_of r)
-  boolean-still h0 h1 h2 l = still-at 3 (omega arith) refl
+  boolean_still h0 h1 h2 l = still_at 3 (omega arith) refl
 
-  pub pattern-still : 6 ≤ r.kind → r.kind < 7 → record_of r ≡ moved s (record_of r)
-  pattern-still h l = still-at 6 (omega arith) refl
+  pub pattern_still : 6 ≤ r.kind → r.kind < 7 → record_of r ≡ moved s (record_of r)
+  pattern_still h l = still_at 6 (omega arith) refl
 
-  pub rest-still : 7 ≤ r.kind → (r.kind ≡ 7 → ⊥) → record_of r ≡ moved s (record_of r)
-  rest-still h h7 = still (rw (le-leb 8 r.kind (omega arith)) (or-true (eqb r.kind 0 || eqb r.kind 3 || eqb r.kind 6)))
+  pub rest_still : 7 ≤ r.kind → (r.kind ≡ 7 → ⊥) → record_of r ≡ moved s (record_of r)
+  rest_still h h7 = still (rw (le-leb 8 r.kind (omega arith)) (or-true (eqb r.kind 0 || eqb r.kind 3 || eqb r.kind 6)))
 
 -- integers and date intervals move alike: by their link alone
 module _ (records pool : ℕ) (r : Entry) where
-  pub integer-movable : r.kind ≡ 4 → Movable (shifts records pool) (shape_of r.kind) (record_of r)
+  pub integer_movable : r.kind ≡ 4 → Movable (shifts records pool) (shape_of r.kind) (record_of r)
       → Movable (shifts records 0) (range integers) (record_of r)
   unfolding shape_of
-  integer-movable e h = let g = shape-movable (shifts records pool) r (range integers) (shape_at (shifts records pool) r 4 (range integers) e refl) h in record { fits = g.fits }
+  integer_movable e h = let g = shape_movable (shifts records pool) r (range integers) (shape_at (shifts records pool) r 4 (range integers) e refl) h in record { fits = g.fits }
 
-  pub date-movable : r.kind ≡ 7 → Movable (shifts records pool) (shape_of r.kind) (record_of r)
+  pub date_movable : r.kind ≡ 7 → Movable (shifts records pool) (shape_of r.kind) (record_of r)
       → Movable (shifts records 0) (range integers) (record_of r)
   unfolding shape_of
-  date-movable e h = let g = shape-movable (shifts records pool) r (range dates) (shape_at (shifts records pool) r 7 (range dates) e refl) h in record { fits = g.fits }
+  date_movable e h = let g = shape_movable (shifts records pool) r (range dates) (shape_at (shifts records pool) r 7 (range dates) e refl) h in record { fits = g.fits }
 
-  pub integer-is : (x : Record) → r.kind ≡ 4 → x ≡ moved_as (shifts records 0) (range integers) (record_of r)
+  pub integer_is : (x : Record) → r.kind ≡ 4 → x ≡ moved_as (shifts records 0) (range integers) (record_of r)
       → x ≡ moved (shifts records pool) (record_of r)
   unfolding shape_of
-  integer-is x e h = shape-moved (shifts records pool) r (range integers) x (shape_at (shifts records pool) r 4 (range integers) e refl) h
+  integer_is x e h = shape_moved (shifts records pool) r (range integers) x (shape_at (shifts records pool) r 4 (range integers) e refl) h
 
-  pub date-is : (x : Record) → r.kind ≡ 7 → x ≡ moved_as (shifts records 0) (range integers) (record_of r)
+  pub date_is : (x : Record) → r.kind ≡ 7 → x ≡ moved_as (shifts records 0) (range integers) (record_of r)
       → x ≡ moved (shifts records pool) (record_of r)
   unfolding shape_of
-  date-is x e h = shape-moved (shifts records pool) r (range dates) x (shape_at (shifts records pool) r 7 (range dates) e refl) h
+  date_is x e h = shape_moved (shifts records pool) r (range dates) x (shape_at (shifts records pool) r 7 (range dates) e refl) h
 
-pub ruleset choice-steps = (stays, moves, moves-within)
+pub ruleset choice_steps = (stays, moves, moves_within)
 
-pub ruleset move-steps = (object-moved, attribute-moved, item-moved, string-moved)
+pub ruleset move_steps = (object_moved, attribute_moved, item-moved, string-moved)
 
-pub ruleset kind-steps = (object-movable, object-is, attribute-movable, attribute-is, text-movable, text-is, integer-movable, date-movable, integer-is, date-is, none-still, boolean-still, pattern-still, rest-still)
+pub ruleset kind_steps = (object_movable, object_is, attribute_movable, attribute_is, text_movable, text_is, integer_movable, date_movable, integer_is, date_is, none_still, boolean_still, pattern_still, rest_still)

@@ -18,8 +18,8 @@ Each {A} P o = (a : A) → o ≡ some a → P a
 pub none_each : {A : Type 0} (P : A → Type 0) → Each P none
 none_each P a e = let z : ◌≡◌ {A = ℕ} 0 1 = cc in absurd (omega arith)
 
-pub some-each : {A : Type 0} (P : A → Type 0) (a : A) → P a → Each P (some a)
-some-each P a h b e = let q : a ≡ b = cc in subst P q h
+pub some_each : {A : Type 0} (P : A → Type 0) (a : A) → P a → Each P (some a)
+some_each P a h b e = let q : a ≡ b = cc in subst P q h
 
 -- an order that is one of two tests passed
 pub le_left : (a b : ℕ) (t : Bool) → (leb a b && t) ≡ true → a ≤ b
@@ -50,5 +50,5 @@ below (suc n) test h i l = last (eqb i n) refl (below n test (and_right (test n)
     last false e f = let g = eqb-false i n e in f (omega arith)
 
 -- the bytes behind a place, as the code lends them
-pub rest-is : (w : List ℕ) (n : ℕ) → take (length w - n) (drop n w) ≡ drop n w
-rest-is w n = let l = length-drop n w in take_all (length w - n) (drop n w) (omega arith)
+pub rest_is : (w : List ℕ) (n : ℕ) → take (length w - n) (drop n w) ≡ drop n w
+rest_is w n = let l = length-drop n w in take_all (length w - n) (drop n w) (omega arith)

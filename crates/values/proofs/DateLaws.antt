@@ -14,20 +14,20 @@ use Rattle.lexis.proofs.Cases.{by_cond, either}
 use Rattle.values.specs.Integers.{value_of}
 use Rattle.values.specs.Calendar.{real, packed, year_of, month_of, day_of}
 use Rattle.values.specs.Dates.{Date, exactly, digits_at, real_date, date_of}
-use Rattle.values.proofs.Common.{Each, none_each, some-each}
-use Rattle.values.proofs.IntegerLaws.{digit_byte, digit-is}
-use Rattle.values.proofs.CalendarLaws.{real-last}
+use Rattle.values.proofs.Common.{Each, none_each, some_each}
+use Rattle.values.proofs.IntegerLaws.{digit_byte, digit_is}
+use Rattle.values.proofs.CalendarLaws.{real_last}
 
 -- a date that is read is real, with one part to three
 pub record Good (d : Date) : Type 0 where
   pub is_real : real d.day ≡ true
-  pub some-part : 1 ≤ d.parts
-  pub three-parts : d.parts ≤ 3
+  pub some_part : 1 ≤ d.parts
+  pub three_parts : d.parts ≤ 3
 
 real-good : (parts day : ℕ) → 1 ≤ parts → parts ≤ 3 → Each Good (real_date parts day)
 real-good parts day l h =
     by_cond (Each Good) (real day)
-    (λ t. some-each Good _ (record { is_real = t; some-part = l; three-parts = h }))
+    (λ t. some_each Good _ (record { is_real = t; some_part = l; three_parts = h }))
     (λ t. none_each _)
 
 pub date-good : (w : List ℕ) (d : Date) → date_of w ≡ some d → Good d
@@ -42,8 +42,8 @@ date-good w =
 abbrev last_digit : ℕ → ℕ
 last_digit n = digit_byte (n % 10)
 
-last-digit : (n : ℕ) → is digit (last_digit n) ≡ true
-last-digit n = digit-is (n % 10) (omega arith)
+last_digit_lem : (n : ℕ) → is digit (last_digit n) ≡ true
+last_digit_lem n = digit_is (n % 10) (omega arith)
 
 -- yyyy-mm-dd of a packed date
 unfoldable pub spell_date : ℕ → List ℕ
@@ -60,28 +60,28 @@ date-length p = refl
 
 pub date-shaped : (p : ℕ) → shaped date_shape (spell_date p) ≡ true
 unfolding spell_date shaped
-date-shaped p = simp last-digit
+date-shaped p = simp last_digit_lem
 
 -- four digits and two digits hold their number
-four-value : (n : ℕ) → n < 10_000
+four_value : (n : ℕ) → n < 10_000
     → value_of 0 (last_digit (n / 1000) ∷ last_digit (n / 100) ∷ last_digit (n / 10) ∷ last_digit n ∷ []) ≡ n
 unfolding value_of
-four-value n h =
+four_value n h =
     let a : n / 10 / 10 ≡ n / 100 = omega arith in
     let b : n / 100 / 10 ≡ n / 1000 = omega arith in
     let c : n / 1000 % 10 ≡ n / 1000 = omega arith in
     omega arith
 
-two-value : (n : ℕ) → n < 100 → value_of 0 (last_digit (n / 10) ∷ last_digit n ∷ []) ≡ n
+two_value : (n : ℕ) → n < 100 → value_of 0 (last_digit (n / 10) ∷ last_digit n ∷ []) ≡ n
 unfolding value_of
-two-value n h = omega arith
+two_value n h = omega arith
 
 date-value : (p : ℕ) → p < 100_000_000
     → packed (digits_at 0 4 (spell_date p)) (digits_at 5 2 (spell_date p)) (digits_at 8 2 (spell_date p)) ≡ p
 unfolding spell_date
-date-value p h = rw (four-value (year_of p) (omega arith), two-value (month_of p) (omega arith), two-value (day_of p) (omega arith)) (omega arith)
+date-value p h = rw (four_value (year_of p) (omega arith), two_value (month_of p) (omega arith), two_value (day_of p) (omega arith)) (omega arith)
 
 -- a real day that is spelled reads back
-pub date-back : (p : ℕ) → real p ≡ true → date_of (spell_date p) ≡ some (record { parts = 3; day = p })
+pub date_back : (p : ℕ) → real p ≡ true → date_of (spell_date p) ≡ some (record { parts = 3; day = p })
 unfolding date_of
-date-back p e = let l = real-last p e in rw (date-length p, date-shaped p, date-value p (omega arith), e)
+date_back p e = let l = real_last p e in rw (date-length p, date-shaped p, date-value p (omega arith), e)

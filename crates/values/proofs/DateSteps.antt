@@ -10,63 +10,63 @@ use Rattle.lexis.specs.Text.{bytes}
 use Rattle.values.specs.Calendar.{packed, real}
 use Rattle.values.specs.Dates.{Date, exactly, real_date, date_of}
 use Rattle.values.specs.Clauses.Answers.{DigitsAre, year_date, month_date, day_date}
-use Rattle.values.proofs.ShapeSteps.{exactly-long}
+use Rattle.values.proofs.ShapeSteps.{exactly_long}
 
 -- a day that the calendar has
 module _ (parts day : ℕ) (r : Bool) (h : r ≡ real day) where
-  pub real-is : r ≡ true → some (record { parts = parts; day = day }) ≡ real_date parts day
-  real-is q = rw (← h, q)
+  pub real_is_lem : r ≡ true → some (record { parts = parts; day = day }) ≡ real_date parts day
+  real_is_lem q = rw (← h, q)
 
-  pub real-not : r ≡ false → none ≡ real_date parts day
-  real-not q = rw (← h, q)
+  pub real_not : r ≡ false → none ≡ real_date parts day
+  real_not q = rw (← h, q)
 
 -- bytes of a shape reach as far as it
-pub exactly-reaches : (shape w : List ℕ) (r : Bool) (n : ℕ) → r ≡ exactly shape w → r ≡ true → n ≤ length shape
+pub exactly_reaches : (shape w : List ℕ) (r : Bool) (n : ℕ) → r ≡ exactly shape w → r ≡ true → n ≤ length shape
     → n ≤ length w
-exactly-reaches shape w r n h q l = let e = exactly-long shape w r h q in omega arith
+exactly_reaches shape w r n h q l = let e = exactly_long shape w r h q in omega arith
 
 -- a date's parts, packed
 module _ (w : List ℕ) (a : Option Date) (p y : ℕ) (year : DigitsAre w 0 4 400_000 y) where
-  pub year-read : p ≡ packed y 1 1 → a ≡ real_date 1 p → a ≡ year_date w
-  year-read q h = rw (q, year.is) at h
+  pub year_read : p ≡ packed y 1 1 → a ≡ real_date 1 p → a ≡ year_date w
+  year_read q h = rw (q, year.is) at h
 
   module _ (m : ℕ) (month : DigitsAre w 5 2 3_000 m) where
-    pub month-read : p ≡ packed y m 1 → a ≡ real_date 2 p → a ≡ month_date w
-    month-read q h = rw (q, year.is, month.is) at h
+    pub month_read : p ≡ packed y m 1 → a ≡ real_date 2 p → a ≡ month_date w
+    month_read q h = rw (q, year.is, month.is) at h
 
-    pub day-read : (d : ℕ) → DigitsAre w 8 2 3_000 d → p ≡ packed y m d → a ≡ real_date 3 p
+    pub day_read : (d : ℕ) → DigitsAre w 8 2 3_000 d → p ≡ packed y m d → a ≡ real_date 3 p
         → a ≡ day_date w
-    day-read d day q h = rw (q, year.is, month.is, day.is) at h
+    day_read d day q h = rw (q, year.is, month.is, day.is) at h
 
 -- a date by its shape
 module _ (w : List ℕ) (a : Option Date) (r : Bool) (h : r ≡ exactly (bytes "dddd") w) where
-  pub date-year : r ≡ true → a ≡ year_date w → a ≡ date_of w
+  pub date_year : r ≡ true → a ≡ year_date w → a ≡ date_of w
   unfolding date_of
-  date-year q e = rw (← h, q) e
+  date_year q e = rw (← h, q) e
 
   module _ (n : r ≡ false) (s : Bool) (i : s ≡ exactly (bytes "dddd-dd") w) where
-    pub date-month : s ≡ true → a ≡ month_date w → a ≡ date_of w
+    pub date_month : s ≡ true → a ≡ month_date w → a ≡ date_of w
     unfolding date_of
-    date-month q e = rw (← h, n, ← i, q) e
+    date_month q e = rw (← h, n, ← i, q) e
 
     module _ (m : s ≡ false) (t : Bool) (j : t ≡ exactly (bytes "dddd-dd-dd") w) where
-      pub date-day : t ≡ true → a ≡ day_date w → a ≡ date_of w
+      pub date_day : t ≡ true → a ≡ day_date w → a ≡ date_of w
       unfolding date_of
-      date-day q e = rw (← h, n, ← i, m, ← j, q) e
+      date_day q e = rw (← h, n, ← i, m, ← j, q) e
 
-      pub date-none : t ≡ false → a ≡ none → a ≡ date_of w
+      pub date_none : t ≡ false → a ≡ none → a ≡ date_of w
       unfolding date_of
-      date-none q e = rw (← h, n, ← i, m, ← j, q) e
+      date_none q e = rw (← h, n, ← i, m, ← j, q) e
 
 pub ruleset steps = (
-  real-is,
-  real-not,
-  exactly-reaches,
-  year-read,
-  month-read,
-  day-read,
-  date-year,
-  date-month,
-  date-day,
-  date-none,
+  real_is_lem,
+  real_not,
+  exactly_reaches,
+  year_read,
+  month_read,
+  day_read,
+  date_year,
+  date_month,
+  date_day,
+  date_none,
 )

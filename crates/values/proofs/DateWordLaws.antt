@@ -12,55 +12,55 @@ use Rattle.values.specs.Calendar.{real, packed}
 use Rattle.values.specs.Integers.{value_of}
 use Rattle.values.specs.Dates.{Date, exactly, digits_at, real_date, date_of}
 use Rattle.values.specs.Days.{IsDay, packed_day}
-use Rattle.values.proofs.Common.{Each, none_each, some-each}
-use Rattle.values.proofs.DayLaws.{day-real, packed-day}
+use Rattle.values.proofs.Common.{Each, none_each, some_each}
+use Rattle.values.proofs.DayLaws.{day_real, packed_day_lem}
 use Rattle.values.specs.WordRules.{IsDate}
 use Rattle.values.specs.WordRules
-use Rattle.values.proofs.DigitLaws.{no-more, Row, done, more, fixed-row, by-exactly, two, two-most, four}
+use Rattle.values.proofs.DigitLaws.{no_more_lem, Row, done, more, fixed_row, by_exactly, two, two_most, four}
 
 -- what is read is a date of the rule
-real-by : (w : List ℕ) (parts y m d : ℕ) → m ≤ 99 → d ≤ 99
+real_by : (w : List ℕ) (parts y m d : ℕ) → m ≤ 99 → d ≤ 99
     → (IsDay y m d → IsDate w (record { parts = parts; day = packed y m d }))
     → Each (IsDate w) (real_date parts (packed y m d))
-real-by w parts y m d h k f =
-    by_cond (Each (IsDate w)) (real (packed y m d)) (λ e. some-each (IsDate w) _ (f ((day-real y m d h k).0 e))) (λ e. none_each (IsDate w))
+real_by w parts y m d h k f =
+    by_cond (Each (IsDate w)) (real (packed y m d)) (λ e. some_each (IsDate w) _ (f ((day_real y m d h k).0 e))) (λ e. none_each (IsDate w))
 
-date-by : (w : List ℕ) → Each (IsDate w) (date_of w)
+date_by : (w : List ℕ) → Each (IsDate w) (date_of w)
 unfolding date_of
-date-by w =
+date_by w =
     by_cond (Each (IsDate w)) (exactly (bytes "dddd") w)
-    (by-exactly (λ v. Each (IsDate v) (real_date 1 (packed (digits_at 0 4 v) 1 1))) (bytes "dddd") w
-    (λ a ha b hb c hc d hd z l. rw (no-more z (omega arith)) (real-by _ 1 _ 1 1 (omega arith) (omega arith) (WordRules.year (four a b c d ha hb hc hd)))))
+    (by_exactly (λ v. Each (IsDate v) (real_date 1 (packed (digits_at 0 4 v) 1 1))) (bytes "dddd") w
+    (λ a ha b hb c hc d hd z l. rw (no_more_lem z (omega arith)) (real_by _ 1 _ 1 1 (omega arith) (omega arith) (WordRules.year (four a b c d ha hb hc hd)))))
     (λ n. by_cond (Each (IsDate w)) (exactly (bytes "dddd-dd") w)
-    (by-exactly (λ v. Each (IsDate v) (real_date 2 (packed (digits_at 0 4 v) (digits_at 5 2 v) 1))) (bytes "dddd-dd") w
-    (λ a ha b hb c hc d hd e he f hf z l. rw (no-more z (omega arith))
-    (real-by _ 2 _ _ 1 (two-most e f he hf) (omega arith) (WordRules.month (four a b c d ha hb hc hd) (two e f he hf)))))
+    (by_exactly (λ v. Each (IsDate v) (real_date 2 (packed (digits_at 0 4 v) (digits_at 5 2 v) 1))) (bytes "dddd-dd") w
+    (λ a ha b hb c hc d hd e he f hf z l. rw (no_more_lem z (omega arith))
+    (real_by _ 2 _ _ 1 (two_most e f he hf) (omega arith) (WordRules.month (four a b c d ha hb hc hd) (two e f he hf)))))
     (λ m. by_cond (Each (IsDate w)) (exactly (bytes "dddd-dd-dd") w)
-    (by-exactly (λ v. Each (IsDate v) (real_date 3 (packed (digits_at 0 4 v) (digits_at 5 2 v) (digits_at 8 2 v)))) (bytes "dddd-dd-dd") w
-    (λ a ha b hb c hc d hd e he f hf g hg h hh z l. rw (no-more z (omega arith))
-    (real-by _ 3 _ _ _ (two-most e f he hf) (two-most g h hg hh) (WordRules.day (four a b c d ha hb hc hd) (two e f he hf) (two g h hg hh)))))
+    (by_exactly (λ v. Each (IsDate v) (real_date 3 (packed (digits_at 0 4 v) (digits_at 5 2 v) (digits_at 8 2 v)))) (bytes "dddd-dd-dd") w
+    (λ a ha b hb c hc d hd e he f hf g hg h hh z l. rw (no_more_lem z (omega arith))
+    (real_by _ 3 _ _ _ (two_most e f he hf) (two_most g h hg hh) (WordRules.day (four a b c d ha hb hc hd) (two e f he hf) (two g h hg hh)))))
     (λ k. none_each (IsDate w))))
 
 -- a date of the rule is read
-year-of : {y : List ℕ} {year : ℕ} → Row 4 0 y year → IsDay year 1 1
+year_of_lem : {y : List ℕ} {year : ℕ} → Row 4 0 y year → IsDay year 1 1
     → date_of y ≡ some (record { parts = 1; day = packed year 1 1 })
 unfolding date_of shaped value_of
-year-of (more p (more q (more r (more s done)))) i = rw (p, q, r, s, (packed-day _).1 (packed_day i))
+year_of_lem (more p (more q (more r (more s done)))) i = rw (p, q, r, s, (packed_day_lem _).1 (packed_day i))
 
-month-of : {y m : List ℕ} {year month : ℕ} → Row 4 0 y year → Row 2 0 m month → IsDay year month 1
+month_of_lem : {y m : List ℕ} {year month : ℕ} → Row 4 0 y year → Row 2 0 m month → IsDay year month 1
     → date_of (y ++ (byte "-" ∷ m)) ≡ some (record { parts = 2; day = packed year month 1 })
 unfolding date_of shaped value_of
-month-of (more a (more b (more c (more d done)))) (more e (more f done)) i = rw (a, b, c, d, e, f, (packed-day _).1 (packed_day i))
+month_of_lem (more a (more b (more c (more d done)))) (more e (more f done)) i = rw (a, b, c, d, e, f, (packed_day_lem _).1 (packed_day i))
 
-day-of : {y m d : List ℕ} {year month day : ℕ} → Row 4 0 y year → Row 2 0 m month → Row 2 0 d day → IsDay year month day
+day_of_lem : {y m d : List ℕ} {year month day : ℕ} → Row 4 0 y year → Row 2 0 m month → Row 2 0 d day → IsDay year month day
     → date_of (y ++ (byte "-" ∷ (m ++ (byte "-" ∷ d)))) ≡ some (record { parts = 3; day = packed year month day })
 unfolding date_of shaped value_of
-day-of (more a (more b (more c (more d done)))) (more e (more f done)) (more g (more h done)) i = rw (a, b, c, d, e, f, g, h, (packed-day _).1 (packed_day i))
+day_of_lem (more a (more b (more c (more d done)))) (more e (more f done)) (more g (more h done)) i = rw (a, b, c, d, e, f, g, h, (packed_day_lem _).1 (packed_day i))
 
-date-of : {w : List ℕ} {d : Date} → IsDate w d → date_of w ≡ some d
-date-of (WordRules.year y i) = year-of (fixed-row y) i
-date-of (WordRules.month y m i) = month-of (fixed-row y) (fixed-row m) i
-date-of (WordRules.day y m d i) = day-of (fixed-row y) (fixed-row m) (fixed-row d) i
+date_of_lem : {w : List ℕ} {d : Date} → IsDate w d → date_of w ≡ some d
+date_of_lem (WordRules.year y i) = year_of_lem (fixed_row y) i
+date_of_lem (WordRules.month y m i) = month_of_lem (fixed_row y) (fixed_row m) i
+date_of_lem (WordRules.day y m d i) = day_of_lem (fixed_row y) (fixed_row m) (fixed_row d) i
 
 pub date-word : (w : List ℕ) (d : Date) → (date_of w ≡ some d) ↔ IsDate w d
-date-word w d = (date-by w d, date-of)
+date-word w d = (date_by w d, date_of_lem)

@@ -13,29 +13,29 @@ use Rattle.lexis.specs.Clauses.Answers.{FlagIs}
 use Rattle.values.specs.Durations.{slots_if, duration_of}
 use Rattle.values.specs.Clauses.Answers.{duration_answer}
 use Rattle.values.specs.declared.durations.Duration.{Duration}
-use Rattle.values.proofs.Common.{rest-is}
+use Rattle.values.proofs.Common.{rest_is}
 
 module _ (flag : ℕ) where
-  pub slots-none : flag ≡ 0 → none ≡ slots_if flag
-  slots-none e = rw (eq-eqb flag 0 e) refl
+  pub slots_none : flag ≡ 0 → none ≡ slots_if flag
+  slots_none e = rw (eq-eqb flag 0 e) refl
 
-  pub slots-are : (flag ≡ 0 → ⊥) → some flag ≡ slots_if flag
-  slots-are n = rw (ne_eqb flag 0 n) refl
+  pub slots_are : (flag ≡ 0 → ⊥) → some flag ≡ slots_if flag
+  slots_are n = rw (ne_eqb flag 0 n) refl
 
-pub duration-empty : (w : List ℕ) → length w ≡ 0 → none ≡ duration_of w
+pub duration_empty : (w : List ℕ) → length w ≡ 0 → none ≡ duration_of w
 unfolding duration_of slots_of
-duration-empty [] e = refl
-duration-empty (b ∷ w) e = absurd (omega arith)
+duration_empty [] e = refl
+duration_empty (b ∷ w) e = absurd (omega arith)
 
 module _ (w : List ℕ) (flag : ℕ) (r : Duration) (h : duration_answer r ≡ slots_if flag) where
-  pub duration-signed : byte_at w 0 ≡ byte "-" → FlagIs (slots_of digit_slot (take (length w - 1) (drop 1 w))) flag
+  pub duration_signed : byte_at w 0 ≡ byte "-" → FlagIs (slots_of digit_slot (take (length w - 1) (drop 1 w))) flag
       → duration_answer r ≡ duration_of w
   unfolding duration_of
-  duration-signed e q = rw (eq-eqb (byte_at w 0) (byte "-") e, ← rest-is w 1, ← q.is) h
+  duration_signed e q = rw (eq-eqb (byte_at w 0) (byte "-") e, ← rest_is w 1, ← q.is) h
 
-  pub duration-unsigned : (byte_at w 0 ≡ byte "-" → ⊥) → FlagIs (slots_of digit_slot w) flag
+  pub duration_unsigned : (byte_at w 0 ≡ byte "-" → ⊥) → FlagIs (slots_of digit_slot w) flag
       → duration_answer r ≡ duration_of w
   unfolding duration_of
-  duration-unsigned n q = rw (ne_eqb (byte_at w 0) (byte "-") n, ← q.is) h
+  duration_unsigned n q = rw (ne_eqb (byte_at w 0) (byte "-") n, ← q.is) h
 
-pub ruleset steps = (slots-none, slots-are, duration-empty, duration-signed, duration-unsigned)
+pub ruleset steps = (slots_none, slots_are, duration_empty, duration_signed, duration_unsigned)

@@ -11,37 +11,37 @@ use Rattle.lexis.specs.Durations.{digit_slot, slots_of}
 use Rattle.lexis.specs.DurationRules.{SlotsBehindP, DigitsAndLetter}
 use Rattle.lexis.specs.DurationRules
 use Rattle.lexis.proofs.Cases.{by_cond}
-use Rattle.lexis.proofs.SlotLaws.{slots-some}
-use Rattle.lexis.proofs.DurationLaws.{word-slots-are}
+use Rattle.lexis.proofs.SlotLaws.{slots_some}
+use Rattle.lexis.proofs.DurationLaws.{word_slots_are}
 use Rattle.values.specs.Durations.{slots_if, duration_of}
 use Rattle.values.specs.WordRules.{IsDuration}
 use Rattle.values.specs.WordRules
-use Rattle.values.proofs.Common.{Each, none_each, some-each}
+use Rattle.values.proofs.Common.{Each, none_each, some_each}
 
 -- slots, if there are any
-slots-by : (P : ℕ → Type 0) (w : List ℕ) → ((f : ℕ) → SlotsBehindP DigitsAndLetter w f → P f)
+slots_by : (P : ℕ → Type 0) (w : List ℕ) → ((f : ℕ) → SlotsBehindP DigitsAndLetter w f → P f)
     → Each P (slots_if (slots_of digit_slot w))
-slots-by P w g =
+slots_by P w g =
     by_cond (Each P) (eqb (slots_of digit_slot w) 0)
     (λ e. none_each P)
-    (λ e. some-each P (slots_of digit_slot w) (g _ ((word-slots-are w _ (eqb-false _ 0 e)).0 refl)))
+    (λ e. some_each P (slots_of digit_slot w) (g _ ((word_slots_are w _ (eqb-false _ 0 e)).0 refl)))
 
-duration-by : (w : List ℕ) → Each (IsDuration w) (duration_of w)
+duration_by : (w : List ℕ) → Each (IsDuration w) (duration_of w)
 unfolding duration_of
-duration-by [] = slots-by (IsDuration []) [] (λ f h. WordRules.unsigned h)
-duration-by (b ∷ w) =
+duration_by [] = slots_by (IsDuration []) [] (λ f h. WordRules.unsigned h)
+duration_by (b ∷ w) =
     by_cond (λ (v : List ℕ). Each (IsDuration (b ∷ w)) (slots_if (slots_of digit_slot v))) (eqb b (byte "-"))
-    (λ e. slots-by (IsDuration (b ∷ w)) w (λ f h. subst (λ (c : ℕ). IsDuration (c ∷ w) f) (sym (eqb-true b (byte "-") e)) (WordRules.signed h)))
-    (λ e. slots-by (IsDuration (b ∷ w)) (b ∷ w) (λ f h. WordRules.unsigned h))
+    (λ e. slots_by (IsDuration (b ∷ w)) w (λ f h. subst (λ (c : ℕ). IsDuration (c ∷ w) f) (sym (eqb-true b (byte "-") e)) (WordRules.signed h)))
+    (λ e. slots_by (IsDuration (b ∷ w)) (b ∷ w) (λ f h. WordRules.unsigned h))
 
-slots-of : {w : List ℕ} {f : ℕ} → SlotsBehindP DigitsAndLetter w f → slots_if (slots_of digit_slot w) ≡ some f
-slots-of {w} {f} h = let n = slots-some h in rw ((word-slots-are w f n).1 h, ne_eqb f 0 n) refl
+slots_of_lem : {w : List ℕ} {f : ℕ} → SlotsBehindP DigitsAndLetter w f → slots_if (slots_of digit_slot w) ≡ some f
+slots_of_lem {w} {f} h = let n = slots_some h in rw ((word_slots_are w f n).1 h, ne_eqb f 0 n) refl
 
-duration-of : {w : List ℕ} {f : ℕ} → IsDuration w f → duration_of w ≡ some f
+duration_of_lem : {w : List ℕ} {f : ℕ} → IsDuration w f → duration_of w ≡ some f
 unfolding duration_of
-duration-of (WordRules.unsigned (DurationRules.dates k n)) = slots-of (DurationRules.dates k n)
-duration-of (WordRules.unsigned (DurationRules.times k l n)) = slots-of (DurationRules.times k l n)
-duration-of (WordRules.signed h) = slots-of h
+duration_of_lem (WordRules.unsigned (DurationRules.dates k n)) = slots_of_lem (DurationRules.dates k n)
+duration_of_lem (WordRules.unsigned (DurationRules.times k l n)) = slots_of_lem (DurationRules.times k l n)
+duration_of_lem (WordRules.signed h) = slots_of_lem h
 
-pub duration-word : (w : List ℕ) (f : ℕ) → (duration_of w ≡ some f) ↔ IsDuration w f
-duration-word w f = (duration-by w f, duration-of)
+pub duration_word : (w : List ℕ) (f : ℕ) → (duration_of w ≡ some f) ↔ IsDuration w f
+duration_word w f = (duration_by w f, duration_of_lem)

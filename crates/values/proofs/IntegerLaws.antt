@@ -14,38 +14,38 @@ use Rattle.lexis.specs.Runs.{all}
 use Rattle.lexis.proofs.Cases.{by_cond, either}
 use Rattle.lexis.proofs.Places.{byte_inside}
 use Rattle.values.specs.Integers.{value_of, nought, greatest, plain, integer_of, twos_complement, Pair, magnitude, inside, around}
-use Rattle.values.proofs.Common.{Each, none_each, some-each, le_left, le_right, below}
+use Rattle.values.proofs.Common.{Each, none_each, some_each, le_left, le_right, below}
 
 -- an integer that is read lies in the range
 abbrev InRange : Option ℕ → Type 0
 InRange = Each (λ n. n ≤ greatest)
 
-pub integer-in-range : (w : List ℕ) (n : ℕ) → integer_of w ≡ some n → n ≤ greatest
+pub integer_in_range : (w : List ℕ) (n : ℕ) → integer_of w ≡ some n → n ≤ greatest
 unfolding integer_of
-integer-in-range w =
+integer_in_range w =
     either InRange (eqb (get_or w 0 0) (byte "-"))
     (let n = value_of 0 (drop 1 w) in
-    either InRange (plain (drop 1 w) && leb 1 n && leb n nought) (some-each (λ n. n ≤ greatest) (nought - n) (omega arith)) (none_each _))
+    either InRange (plain (drop 1 w) && leb 1 n && leb n nought) (some_each (λ n. n ≤ greatest) (nought - n) (omega arith)) (none_each _))
     (let n = value_of 0 w in
     by_cond InRange (plain w && leb n 2_147_483_647)
-    (λ e. let l = le_right (plain w) n 2_147_483_647 e in some-each (λ n. n ≤ greatest) (nought + n) (omega arith)) (λ e. none_each _))
+    (λ e. let l = le_right (plain w) n 2_147_483_647 e in some_each (λ n. n ≤ greatest) (nought + n) (omega arith)) (λ e. none_each _))
 
 -- two's complement fits 32 bits
-pub complement-fits : (x : ℕ) → twos_complement x < 2 ^ 32
-complement-fits x = omega arith
+pub complement_fits : (x : ℕ) → twos_complement x < 2 ^ 32
+complement_fits x = omega arith
 
 -- a value not below 0 stands for itself, and one below 0 for 2 ^ 32 less its distance from 0
-pub complement-value : (x : ℕ) → x ≤ greatest
+pub complement_value : (x : ℕ) → x ≤ greatest
     → (nought ≤ x → twos_complement x ≡ x - nought) × (x < nought → twos_complement x ≡ 2 ^ 32 - (nought - x))
-complement-value x h = omega arith
+complement_value x h = omega arith
 
 -- two's complement undoes itself
-pub complement-back : (x : ℕ) → x ≤ greatest → twos_complement (twos_complement x) ≡ x
-complement-back x h = omega arith
+pub complement_back : (x : ℕ) → x ≤ greatest → twos_complement (twos_complement x) ≡ x
+complement_back x h = omega arith
 
 -- two's complement is one-to-one
-pub complement-once : (x y : ℕ) → x ≤ greatest → y ≤ greatest → twos_complement x ≡ twos_complement y → x ≡ y
-complement-once x y h l e = omega arith
+pub complement_once : (x y : ℕ) → x ≤ greatest → y ≤ greatest → twos_complement x ≡ twos_complement y → x ≡ y
+complement_once x y h l e = omega arith
 
 -- the ends of `+/-` lie in the range, the low end first just if d is not below 0
 pub record Ends (d : ℕ) (p : Pair) : Type 0 where
@@ -67,9 +67,9 @@ around-ends a d h e =
 abbrev pub digit_byte : ℕ → ℕ
 digit_byte n = byte "0" + n
 
-pub digit-is : (n : ℕ) → n < 10 → is digit (digit_byte n) ≡ true
+pub digit_is : (n : ℕ) → n < 10 → is digit (digit_byte n) ≡ true
 unfolding sort_of
-digit-is n h = below 10 (λ i. is digit (digit_byte i)) refl n h
+digit_is n h = below 10 (λ i. is digit (digit_byte i)) refl n h
 
 -- the digits of n in front of others, in at most k steps
 unfoldable pub digits_of : ℕ → ℕ → List ℕ → List ℕ
@@ -93,27 +93,27 @@ digits_value (suc k) n ds =
     (ap (λ m. value_of m ds) (omega arith))
     (digits_value k (n / 10) (digit_byte (n % 10) ∷ ds) ∙ ap (λ m. value_of m ds) (omega arith))
 
-pub decimal-value : (n : ℕ) → value_of 0 (decimal n) ≡ n
+pub decimal_value : (n : ℕ) → value_of 0 (decimal n) ≡ n
 unfolding decimal value_of
-decimal-value n = digits_value n n []
+decimal_value n = digits_value n n []
 
 -- they are digits
-digits-all : (k n : ℕ) (ds : List ℕ) → n ≤ k → all (is digit) ds ≡ true → all (is digit) (digits_of k n ds) ≡ true
+digits_all : (k n : ℕ) (ds : List ℕ) → n ≤ k → all (is digit) ds ≡ true → all (is digit) (digits_of k n ds) ≡ true
 unfolding digits_of all
-digits-all zero n ds h e = rw (digit-is n (omega arith), e)
-digits-all (suc k) n ds h e =
+digits_all zero n ds h e = rw (digit_is n (omega arith), e)
+digits_all (suc k) n ds h e =
     by_cond (λ l. all (is digit) l ≡ true) (ltb n 10)
-    (λ t. rw (digit-is n (ltb-true n 10 t), e))
-    (λ t. let l = ltb-false n 10 t in digits-all k (n / 10) (digit_byte (n % 10) ∷ ds) (omega arith) (rw (digit-is (n % 10) (omega arith), e)))
+    (λ t. rw (digit_is n (ltb-true n 10 t), e))
+    (λ t. let l = ltb-false n 10 t in digits_all k (n / 10) (digit_byte (n % 10) ∷ ds) (omega arith) (rw (digit_is (n % 10) (omega arith), e)))
 
 -- the first of them is not 0, unless the number is
-digits-first : (k n : ℕ) (ds : List ℕ) → 1 ≤ n → n ≤ k → byte "0" < get_or (digits_of k n ds) 0 0
+digits_first : (k n : ℕ) (ds : List ℕ) → 1 ≤ n → n ≤ k → byte "0" < get_or (digits_of k n ds) 0 0
 unfolding digits_of
-digits-first zero n ds l h = omega arith
-digits-first (suc k) n ds l h =
+digits_first zero n ds l h = omega arith
+digits_first (suc k) n ds l h =
     by_cond (λ w. byte "0" < get_or w 0 0) (ltb n 10)
     (λ t. omega arith)
-    (λ t. let g = ltb-false n 10 t in digits-first k (n / 10) (digit_byte (n % 10) ∷ ds) (omega arith) (omega arith))
+    (λ t. let g = ltb-false n 10 t in digits_first k (n / 10) (digit_byte (n % 10) ∷ ds) (omega arith) (omega arith))
 
 -- the spelling is plain, with no `-` in front
 pub record Unsigned (ds : List ℕ) : Type 0 where
@@ -126,21 +126,21 @@ from_first ds h e = record {
   no_sign = ne_eqb (get_or ds 0 0) (byte "-") (omega arith);
 }
 
-pub decimal-unsigned : (n : ℕ) → Unsigned (decimal n)
+pub decimal_unsigned : (n : ℕ) → Unsigned (decimal n)
 unfolding decimal digits_of all sort_of
-decimal-unsigned zero = record { is_plain = refl; no_sign = refl }
-decimal-unsigned (suc n) =
+decimal_unsigned zero = record { is_plain = refl; no_sign = refl }
+decimal_unsigned (suc n) =
     let m = suc n in
-    from_first (digits_of m m []) (digits-first m m [] (omega arith) (omega arith)) (digits-all m m [] (omega arith) refl)
+    from_first (digits_of m m []) (digits_first m m [] (omega arith) (omega arith)) (digits_all m m [] (omega arith) refl)
 
 -- an integer that is spelled reads back
-pub integer-back : (n : ℕ) → n ≤ greatest → integer_of (spell_integer n) ≡ some n
+pub integer_back : (n : ℕ) → n ≤ greatest → integer_of (spell_integer n) ≡ some n
 unfolding spell_integer integer_of
-integer-back n h =
+integer_back n h =
     by_cond (λ w. integer_of w ≡ some n) (ltb n nought)
     (λ t. let l = ltb-true n nought t in
-    rw ((decimal-unsigned (nought - n)).is_plain, decimal-value (nought - n), le-leb 1 (nought - n) (omega arith), le-leb (nought - n) nought (omega arith))
+    rw ((decimal_unsigned (nought - n)).is_plain, decimal_value (nought - n), le-leb 1 (nought - n) (omega arith), le-leb (nought - n) nought (omega arith))
     (ap {B = Option ℕ} some (omega arith)))
     (λ t. let l = ltb-false n nought t in
-    rw ((decimal-unsigned (n - nought)).no_sign, (decimal-unsigned (n - nought)).is_plain, decimal-value (n - nought), le-leb (n - nought) 2_147_483_647 (omega arith))
+    rw ((decimal_unsigned (n - nought)).no_sign, (decimal_unsigned (n - nought)).is_plain, decimal_value (n - nought), le-leb (n - nought) 2_147_483_647 (omega arith))
     (ap {B = Option ℕ} some (omega arith)))

@@ -22,9 +22,9 @@ use Rattle.values.specs.Words.{reads}
 use Rattle.values.specs.declared.integers.Number.{Number}
 use Rattle.values.specs.declared.integers.Number.TheVariants.{Value, Nothing}
 use Rattle.values.proofs.Common.{le_left, le_right, by_order}
-use Rattle.values.proofs.DigitLaws.{tenfold, tenfold-more}
-use Rattle.lexis.proofs.Places.{drop-in}
-use Rattle.lexis.proofs.QuickSteps.{digit-dash}
+use Rattle.values.proofs.DigitLaws.{tenfold, tenfold_more}
+use Rattle.lexis.proofs.Places.{drop_in}
+use Rattle.lexis.proofs.QuickSteps.{digit_dash}
 
 -- digits do not take a number down
 value-least : (n : ℕ) (ds : List ℕ) → n ≤ value_of n ds
@@ -38,49 +38,49 @@ module _ (n i : ℕ) (ds : List ℕ) (x : Option ℕ) (now : digits_from n (drop
   unfolding digits_from all value_of
   digits_above h l = rw (drop_of_length-le ds h, lt-leb n nought l) at now
 
-  pub digits-end : length ds ≤ i → n ≤ nought → some n ≡ x
+  pub digits_end : length ds ≤ i → n ≤ nought → some n ≡ x
   unfolding digits_from all value_of
-  digits-end h l = rw (drop_of_length-le ds h, le-leb n nought l) at now
+  digits_end h l = rw (drop_of_length-le ds h, le-leb n nought l) at now
 
   module _ (r : Bool) (h : i < length ds) (q : r ≡ is digit (get_or ds i 0)) where
-    pub digits-other : not r ≡ true → none ≡ x
+    pub digits_other : not r ≡ true → none ≡ x
     unfolding digits_from all
-    digits-other k = rw (drop-in ds i h, ← q, not-true r k) at now
+    digits_other k = rw (drop_in ds i h, ← q, not-true r k) at now
 
     module _ (k : not r ≡ false) where
-      pub digits-large : 214_748_364 < n → none ≡ x
+      pub digits_large : 214_748_364 < n → none ≡ x
       unfolding digits_from all value_of
-      digits-large l =
+      digits_large l =
           let m = n * 10 + (get_or ds i 0 - byte "0") in
           let least = value-least m (drop (i + 1) ds) in
           let above = lt-leb (value_of m (drop (i + 1) ds)) nought (omega arith) in
-          rw (drop-in ds i h, above, and-false) at now
+          rw (drop_in ds i h, above, and-false) at now
 
-      pub digits-on : (v : ℕ) → DigitIs (get_or ds i 0) v → digits_from (n * 10 + v) (drop (i + 1) ds) ≡ x
+      pub digits_on : (v : ℕ) → DigitIs (get_or ds i 0) v → digits_from (n * 10 + v) (drop (i + 1) ds) ≡ x
       unfolding digits_from all value_of
-      digits-on v d = rw d.is (rw (drop-in ds i h, ← q, not-false r k) at now)
+      digits_on v d = rw d.is (rw (drop_in ds i h, ← q, not-false r k) at now)
 
 -- plain digits
 module _ (ds : List ℕ) where
-  plain-digits : 1 ≤ length ds → cond (eqb (get_or ds 0 0) (byte "0")) (eqb (length ds) 1) true ≡ true
+  plain_digits : 1 ≤ length ds → cond (eqb (get_or ds 0 0) (byte "0")) (eqb (length ds) 1) true ≡ true
       → digits_from 0 ds ≡ plain_number ds
   unfolding digits_from plain_number
-  plain-digits h q = rw (le-leb 1 (length ds) h, q) (simp and-true)
+  plain_digits h q = rw (le-leb 1 (length ds) h, q) (simp and-true)
 
   pub plain-empty : length ds ≡ 0 → none ≡ plain_number ds
   unfolding plain_number
   plain-empty h = rw (lt-leb 1 (length ds) (omega arith), and-false)
 
-  pub plain-zero : (length ds ≡ 1 → ⊥) → get_or ds 0 0 ≡ byte "0" → none ≡ plain_number ds
+  pub plain_zero : (length ds ≡ 1 → ⊥) → get_or ds 0 0 ≡ byte "0" → none ≡ plain_number ds
   unfolding plain_number
-  plain-zero n q = rw (eq-eqb (get_or ds 0 0) (byte "0") q, ne_eqb (length ds) 1 n, and-false)
+  plain_zero n q = rw (eq-eqb (get_or ds 0 0) (byte "0") q, ne_eqb (length ds) 1 n, and-false)
 
   module _ (a : Option ℕ) (e : a ≡ digits_from 0 ds) where
-    pub plain-one : length ds ≡ 1 → a ≡ plain_number ds
-    plain-one h = e ∙ plain-digits (omega arith) (rw (eq-eqb (length ds) 1 h) (either (λ t. t ≡ true) (eqb (get_or ds 0 0) (byte "0")) refl refl))
+    pub plain_one : length ds ≡ 1 → a ≡ plain_number ds
+    plain_one h = e ∙ plain_digits (omega arith) (rw (eq-eqb (length ds) 1 h) (either (λ t. t ≡ true) (eqb (get_or ds 0 0) (byte "0")) refl refl))
 
     pub plain_more : (length ds ≡ 0 → ⊥) → (get_or ds 0 0 ≡ byte "0" → ⊥) → a ≡ plain_number ds
-    plain_more h n = e ∙ plain-digits (omega arith) (rw (ne_eqb (get_or ds 0 0) (byte "0") n))
+    plain_more h n = e ∙ plain_digits (omega arith) (rw (ne_eqb (get_or ds 0 0) (byte "0") n))
 
 -- what is known of a plain number that is there, and where there is none
 there : (b : Bool) (n v : ℕ) → some n ≡ cond b (some v) none → (b ≡ true) × (n ≡ v)
@@ -91,57 +91,57 @@ missing : (b : Bool) (v : ℕ) → none ≡ cond b (some v) none → b ≡ false
 missing true v e = let z : ◌≡◌ {A = ℕ} 0 1 = cc in absurd (omega arith)
 missing false v e = refl
 
-without-middle : (p a b : Bool) → (p && b) ≡ false → (p && a && b) ≡ false
-without-middle true a b h = rw (h, and-false)
-without-middle false a b h = refl
+without_middle : (p a b : Bool) → (p && b) ≡ false → (p && a && b) ≡ false
+without_middle true a b h = rw (h, and-false)
+without_middle false a b h = refl
 
-below-too : (p : Bool) (v : ℕ) → (p && leb v nought) ≡ false → (p && leb v 2_147_483_647) ≡ false
-below-too true v h = let l = leb-false v nought h in lt-leb v 2_147_483_647 (omega arith)
-below-too false v h = refl
+below_too : (p : Bool) (v : ℕ) → (p && leb v nought) ≡ false → (p && leb v 2_147_483_647) ≡ false
+below_too true v h = let l = leb-false v nought h in lt-leb v 2_147_483_647 (omega arith)
+below_too false v h = refl
 
 module _ (ds : List ℕ) (r : Number) (h : integer_answer r ≡ plain_number ds) where
-  plain-there : (n : ℕ) → r ≡ Value n → (plain ds ≡ true) × (n ≡ value_of 0 ds) × (n ≤ nought)
+  plain_there : (n : ℕ) → r ≡ Value n → (plain ds ≡ true) × (n ≡ value_of 0 ds) × (n ≤ nought)
   unfolding plain_number
-  plain-there n q =
+  plain_there n q =
       let p = plain ds in
       let v = value_of 0 ds in
       let t = there (p && leb v nought) n v (rw q at h) in
       let m = le_right p v nought t.0 in
       (and_left p (leb v nought) t.0, t.1, omega arith)
 
-  plain-missing : r ≡ Nothing → (plain ds && leb (value_of 0 ds) nought) ≡ false
+  plain_missing : r ≡ Nothing → (plain ds && leb (value_of 0 ds) nought) ≡ false
   unfolding plain_number
-  plain-missing q = missing (plain ds && leb (value_of 0 ds) nought) (value_of 0 ds) (rw q at h)
+  plain_missing q = missing (plain ds && leb (value_of 0 ds) nought) (value_of 0 ds) (rw q at h)
 
   module _ (n : ℕ) (q : r ≡ Value n) where
     pub plain-most : n ≤ nought
-    plain-most = (plain-there n q).2
+    plain-most = (plain_there n q).2
 
     pub negative-nought : n < 1 → none ≡ negative ds
     negative-nought l =
-        let t = plain-there n q in
+        let t = plain_there n q in
         rw (t.0, ← t.1, lt-leb 1 n l)
 
-    pub negative-some : 1 ≤ n → some (nought - n) ≡ negative ds
-    negative-some l =
-        let t = plain-there n q in
+    pub negative_some : 1 ≤ n → some (nought - n) ≡ negative ds
+    negative_some l =
+        let t = plain_there n q in
         rw (t.0, ← t.1, le-leb 1 n l, le-leb n nought t.2)
 
-    pub unsigned-large : 2_147_483_647 < n → none ≡ not_negative ds
-    unsigned-large l =
-        let t = plain-there n q in
+    pub unsigned_large : 2_147_483_647 < n → none ≡ not_negative ds
+    unsigned_large l =
+        let t = plain_there n q in
         rw (t.0, ← t.1, lt-leb n 2_147_483_647 l)
 
-    pub unsigned-some : n ≤ 2_147_483_647 → some (nought + n) ≡ not_negative ds
-    unsigned-some l =
-        let t = plain-there n q in
+    pub unsigned_some : n ≤ 2_147_483_647 → some (nought + n) ≡ not_negative ds
+    unsigned_some l =
+        let t = plain_there n q in
         rw (t.0, ← t.1, le-leb n 2_147_483_647 l)
 
-  pub negative-none : r ≡ Nothing → none ≡ negative ds
-  negative-none q = let v = value_of 0 ds in rw (without-middle (plain ds) (leb 1 v) (leb v nought) (plain-missing q))
+  pub negative_none : r ≡ Nothing → none ≡ negative ds
+  negative_none q = let v = value_of 0 ds in rw (without_middle (plain ds) (leb 1 v) (leb v nought) (plain_missing q))
 
-  pub unsigned-none : r ≡ Nothing → none ≡ not_negative ds
-  unsigned-none q = rw (below-too (plain ds) (value_of 0 ds) (plain-missing q))
+  pub unsigned_none : r ≡ Nothing → none ≡ not_negative ds
+  unsigned_none q = rw (below_too (plain ds) (value_of 0 ds) (plain_missing q))
 
 -- the ways to an integer
 pub integer_empty : (w : List ℕ) → length w ≡ 0 → none ≡ integer_of w
@@ -150,16 +150,16 @@ integer_empty [] h = refl
 integer_empty (b ∷ bs) h = absurd (omega arith)
 
 module _ (w : List ℕ) (a : Option ℕ) where
-  pub integer-minus : (length w ≡ 0 → ⊥) → get_or w 0 0 ≡ byte "-" → a ≡ negative (take (length w - 1) (drop 1 w))
+  pub integer_minus : (length w ≡ 0 → ⊥) → get_or w 0 0 ≡ byte "-" → a ≡ negative (take (length w - 1) (drop 1 w))
       → a ≡ integer_of w
   unfolding integer_of
-  integer-minus n q e =
+  integer_minus n q e =
       let l = length-drop 1 w in
       rw (eq-eqb (get_or w 0 0) (byte "-") q) (rw (take_all (length w - 1) (drop 1 w) (omega arith)) at e)
 
-  pub integer-digits : (get_or w 0 0 ≡ byte "-" → ⊥) → a ≡ not_negative w → a ≡ integer_of w
+  pub integer_digits : (get_or w 0 0 ≡ byte "-" → ⊥) → a ≡ not_negative w → a ≡ integer_of w
   unfolding integer_of
-  integer-digits n e = rw (ne_eqb (get_or w 0 0) (byte "-") n) e
+  integer_digits n e = rw (ne_eqb (get_or w 0 0) (byte "-") n) e
 
 -- every byte passes a test where their run ends with them
 all_past : (f : ℕ → Bool) (at : ℕ) (bs : List ℕ) → eqb (past f at bs) (at + length bs) ≡ all f bs
@@ -174,38 +174,38 @@ all_past f at (b ∷ bs) = by_byte (all_past f (at + 1) bs) (f b) refl
 
 -- an integer of few digits
 module _ (w : List ℕ) where
-  pub short-empty : length w ≡ 0 → false ≡ short_integer w
+  pub short_empty : length w ≡ 0 → false ≡ short_integer w
   unfolding short_integer
-  short-empty h = rw (lt-leb 1 (length w) (omega arith), and-false)
+  short_empty h = rw (lt-leb 1 (length w) (omega arith), and-false)
 
-  pub short-long : 9 < length w → false ≡ short_integer w
+  pub short_long : 9 < length w → false ≡ short_integer w
   unfolding short_integer
-  short-long h = rw (lt-leb (length w) 9 h, and-false)
+  short_long h = rw (lt-leb (length w) 9 h, and-false)
 
   module _ (e : ℕ) (p : PlaceIs w 0 (past (is digit) 0 (drop 0 w)) e) where
-    digits-all : eqb e (length w) ≡ all (is digit) w
-    digits-all = let n : 0 + length w ≡ length w = omega arith in rw p.is (rw n at (all_past (is digit) 0 w))
+    digits_all : eqb e (length w) ≡ all (is digit) w
+    digits_all = let n : 0 + length w ≡ length w = omega arith in rw p.is (rw n at (all_past (is digit) 0 w))
 
-    pub short-other : (e ≡ length w → ⊥) → false ≡ short_integer w
+    pub short_other : (e ≡ length w → ⊥) → false ≡ short_integer w
     unfolding short_integer
-    short-other n = rw (sym digits-all ∙ ne_eqb e (length w) n)
+    short_other n = rw (sym digits_all ∙ ne_eqb e (length w) n)
 
     module _ (q : e ≡ length w) (h : length w ≡ 0 → ⊥) (l : length w ≤ 9) where
       every : all (is digit) w ≡ true
-      every = sym digits-all ∙ eq-eqb e (length w) q
+      every = sym digits_all ∙ eq-eqb e (length w) q
 
-      pub short-more : (get_or w 0 0 ≡ byte "0" → ⊥) → true ≡ short_integer w
+      pub short_more : (get_or w 0 0 ≡ byte "0" → ⊥) → true ≡ short_integer w
       unfolding short_integer
-      short-more n = rw (every, le-leb 1 (length w) (omega arith), ne_eqb (get_or w 0 0) (byte "0") n, le-leb (length w) 9 l)
+      short_more n = rw (every, le-leb 1 (length w) (omega arith), ne_eqb (get_or w 0 0) (byte "0") n, le-leb (length w) 9 l)
 
-      pub short-zero : get_or w 0 0 ≡ byte "0" → eqb (length w) 1 ≡ short_integer w
+      pub short_zero : get_or w 0 0 ≡ byte "0" → eqb (length w) 1 ≡ short_integer w
       unfolding short_integer
-      short-zero n = rw (every, le-leb 1 (length w) (omega arith), eq-eqb (get_or w 0 0) (byte "0") n, le-leb (length w) 9 l, and-true)
+      short_zero n = rw (every, le-leb 1 (length w) (omega arith), eq-eqb (get_or w 0 0) (byte "0") n, le-leb (length w) 9 l, and-true)
 
 -- no byte above `9` is a digit
-above-digits : (b : ℕ) → byte "9" < b → is digit b ≡ false
+above_digits : (b : ℕ) → byte "9" < b → is digit b ≡ false
 unfolding sort_of
-above-digits b h =
+above_digits b h =
     rw (lt-leb b (byte "9") h, and-false)
     (later (among b blanks) (within (byte "a") (byte "z") b) (within (byte "A") (byte "Z") b) (among b marks))
   where
@@ -217,7 +217,7 @@ above-digits b h =
     later false false false false = refl
 
 digit-most : (b : ℕ) → is digit b ≡ true → b ≤ byte "9"
-digit-most b e = by_order b (byte "9") (λ k. k) (λ k. absurd (false≢true (sym (above-digits b k) ∙ e)))
+digit-most b e = by_order b (byte "9") (λ k. k) (λ k. absurd (false≢true (sym (above_digits b k) ∙ e)))
 
 -- digits behind a number
 value-most : (n m : ℕ) (ds : List ℕ) → n < m → all (is digit) ds ≡ true → value_of n ds < tenfold (length ds) m
@@ -228,15 +228,15 @@ value-most n m (b ∷ bs) h a =
     value-most (n * 10 + (b - byte "0")) (m * 10) bs (omega arith) (and_right (is digit b) (all (is digit) bs) a)
 
 -- the first of digits is one
-first-digit : (w : List ℕ) → 1 ≤ length w → all (is digit) w ≡ true → is digit (get_or w 0 0) ≡ true
+first_digit : (w : List ℕ) → 1 ≤ length w → all (is digit) w ≡ true → is digit (get_or w 0 0) ≡ true
 unfolding all
-first-digit [] h a = absurd (omega arith)
-first-digit (b ∷ bs) h a = and_left (is digit b) (all (is digit) bs) a
+first_digit [] h a = absurd (omega arith)
+first_digit (b ∷ bs) h a = and_left (is digit b) (all (is digit) bs) a
 
 -- few digits spell an integer
-pub short-reads : (w : List ℕ) → short_integer w ≡ true → reads (integer_of w) ≡ true
+pub short_reads : (w : List ℕ) → short_integer w ≡ true → reads (integer_of w) ≡ true
 unfolding short_integer integer_of tenfold
-short-reads w e =
+short_reads w e =
     let x = all (is digit) w in
     let y = leb 1 (length w) in
     let z = cond (eqb (get_or w 0 0) (byte "0")) (eqb (length w) 1) true in
@@ -245,78 +245,78 @@ short-reads w e =
     let a = and_left x y xy in
     let l = leb-true (length w) 9 (and_right (plain w) (leb (length w) 9) e) in
     let v = value-most 0 1 w (omega arith) a in
-    let t = tenfold-more (length w) 9 1 l in
-    let d = first-digit w (leb-true 1 (length w) (and_right x y xy)) a in
-    rw (digit-dash (get_or w 0 0) d, p, le-leb (value_of 0 w) 2_147_483_647 (omega (arith, v, t)))
+    let t = tenfold_more (length w) 9 1 l in
+    let d = first_digit w (leb-true 1 (length w) (and_right x y xy)) a in
+    rw (digit_dash (get_or w 0 0) d, p, le-leb (value_of 0 w) 2_147_483_647 (omega (arith, v, t)))
 
 -- how far a number lies from 0
 module _ (d : ℕ) where
   pub magnitude-above : nought ≤ d → d - nought ≡ magnitude d
   magnitude-above h = rw (le-leb nought d h)
 
-  pub magnitude-below : d < nought → nought - d ≡ magnitude d
-  magnitude-below h = rw (lt-leb nought d h)
+  pub magnitude_below : d < nought → nought - d ≡ magnitude d
+  magnitude_below h = rw (lt-leb nought d h)
 
 -- both ends in the range
 module _ (a d n : ℕ) (e : n ≡ magnitude d) where
-  pub inside-not : a < n → false ≡ inside a d
+  pub inside_not : a < n → false ≡ inside a d
   unfolding inside
-  inside-not h = rw (← e, lt-leb n a h)
+  inside_not h = rw (← e, lt-leb n a h)
 
-  pub inside-high : a < 2 ^ 32 → n ≤ a → leb n (greatest - a) ≡ inside a d
+  pub inside_high : a < 2 ^ 32 → n ≤ a → leb n (greatest - a) ≡ inside a d
   unfolding inside
-  inside-high h l = rw (← e, le-leb n a l) (by_order n (greatest - a)
+  inside_high h l = rw (← e, le-leb n a l) (by_order n (greatest - a)
       (λ k. le-leb n (greatest - a) k ∙ sym (le-leb (a + n) greatest (omega arith)))
       (λ k. lt-leb n (greatest - a) k ∙ sym (lt-leb (a + n) greatest (omega arith))))
 
   module _ (i : inside a d ≡ true) where
-    pub around-low : n ≤ a
+    pub around_low : n ≤ a
     unfolding inside
-    around-low = rw (← e) at (le_left (magnitude d) a (leb (a + magnitude d) greatest) i)
+    around_low = rw (← e) at (le_left (magnitude d) a (leb (a + magnitude d) greatest) i)
 
-    pub around-high : Fits w32 (a + n)
+    pub around_high : Fits w32 (a + n)
     unfolding inside
-    around-high = let h = le_right (leb (magnitude d) a) (a + magnitude d) greatest i in record { fits = omega arith }
+    around_high = let h = le_right (leb (magnitude d) a) (a + magnitude d) greatest i in record { fits = omega arith }
 
   pub around-above : nought ≤ d → pair (a - n) (a + n) ≡ around a d
   unfolding around
   around-above h = rw (← e, le-leb nought d h)
 
-  pub around-below : d < nought → pair (a + n) (a - n) ≡ around a d
+  pub around_below : d < nought → pair (a + n) (a - n) ≡ around a d
   unfolding around
-  around-below h = rw (← e, lt-leb nought d h)
+  around_below h = rw (← e, lt-leb nought d h)
 
 pub ruleset steps = (
-  short-empty,
-  short-long,
-  short-other,
-  short-more,
-  short-zero,
+  short_empty,
+  short_long,
+  short_other,
+  short_more,
+  short_zero,
   digits_above,
-  digits-end,
-  digits-other,
-  digits-large,
-  digits-on,
+  digits_end,
+  digits_other,
+  digits_large,
+  digits_on,
   plain-empty,
-  plain-zero,
-  plain-one,
+  plain_zero,
+  plain_one,
   plain_more,
   plain-most,
   negative-nought,
-  negative-some,
-  negative-none,
-  unsigned-large,
-  unsigned-some,
-  unsigned-none,
+  negative_some,
+  negative_none,
+  unsigned_large,
+  unsigned_some,
+  unsigned_none,
   integer_empty,
-  integer-minus,
-  integer-digits,
+  integer_minus,
+  integer_digits,
   magnitude-above,
-  magnitude-below,
-  inside-not,
-  inside-high,
-  around-low,
-  around-high,
+  magnitude_below,
+  inside_not,
+  inside_high,
+  around_low,
+  around_high,
   around-above,
-  around-below,
+  around_below,
 )

@@ -12,7 +12,7 @@ use Rattle.lexis.proofs.Cases.{either}
 use Rattle.lexis.proofs.Tables.{wrong}
 use Rattle.values.specs.Patterns.{fits, fits_date, fits_time}
 use Rattle.values.specs.Times.{time_of, good_time, hours, minutes, seconds, zone}
-use Rattle.values.proofs.Common.{Each, none_each, some-each}
+use Rattle.values.proofs.Common.{Each, none_each, some_each}
 
 -- a pattern's test, its flag, and whether it admits one part, two parts and three
 pub record Row : Type 0 where
@@ -45,21 +45,21 @@ agrees r =
     beq (r.admits r.flag 1) r.one && beq (r.admits r.flag 2) r.two && beq (r.admits r.flag 3) r.three
 
 -- all rows hold
-pub patterns-hold : wrong agrees 0 rows ≡ []
+pub patterns_hold : wrong agrees 0 rows ≡ []
 unfolding wrong fits fits_date fits_time
-patterns-hold = refl
+patterns_hold = refl
 
 -- a time that is read has one part to three
 abbrev OneToThree : ℕ → Type 0
 OneToThree n = (1 ≤ n) × (n ≤ 3)
 
-good-parts : (b : Bool) (m : ℕ) → OneToThree m → Each OneToThree (good_time b m)
-good-parts b m h = either (Each OneToThree) b (some-each OneToThree m h) (none_each _)
+good_parts : (b : Bool) (m : ℕ) → OneToThree m → Each OneToThree (good_time b m)
+good_parts b m h = either (Each OneToThree) b (some_each OneToThree m h) (none_each _)
 
-pub time-parts : (w : List ℕ) (n : ℕ) → time_of w ≡ some n → (1 ≤ n) × (n ≤ 3)
+pub time_parts : (w : List ℕ) (n : ℕ) → time_of w ≡ some n → (1 ≤ n) × (n ≤ 3)
 unfolding time_of
-time-parts w =
+time_parts w =
     let P = Each OneToThree in
-    either P (shaped (bytes "dd:dd:dd") w) (good-parts (hours w && minutes w && seconds w && zone (drop 8 w)) 3 (omega arith))
-    (either P (shaped (bytes "dd:dd") w) (good-parts (hours w && minutes w && zone (drop 5 w)) 2 (omega arith))
-    (either P (shaped (bytes "dd") w) (good-parts (hours w && zone (drop 2 w)) 1 (omega arith)) (none_each _)))
+    either P (shaped (bytes "dd:dd:dd") w) (good_parts (hours w && minutes w && seconds w && zone (drop 8 w)) 3 (omega arith))
+    (either P (shaped (bytes "dd:dd") w) (good_parts (hours w && minutes w && zone (drop 5 w)) 2 (omega arith))
+    (either P (shaped (bytes "dd") w) (good_parts (hours w && zone (drop 2 w)) 1 (omega arith)) (none_each _)))

@@ -13,8 +13,8 @@ use Rattle.values.proofs.Common.{all_below, below, by_order}
 
 -- between two numbers
 module _ (low high n : ℕ) where
-  pub within-below : n < low → false ≡ within low high n
-  within-below h = rw (lt-leb low n h)
+  pub within_below : n < low → false ≡ within low high n
+  within_below h = rw (lt-leb low n h)
 
   pub within-from : low ≤ n → leb n high ≡ within low high n
   within-from h = rw (le-leb low n h)
@@ -51,113 +51,113 @@ module _ (ps : List Part) (h : length ps ≤ 3) where
 
 module _ (flag parts : ℕ) where
   -- yyyy-mm-dd, yyyy-mm-??, yyyy-??-??, yyyy-mm-XX, yyyy-??-XX
-  pub date-first : flag ≡ 1 → eqb parts 3 ≡ fits_date flag parts
+  pub date_first : flag ≡ 1 → eqb parts 3 ≡ fits_date flag parts
   unfolding fits fits_date
-  date-first q = rw q (single (get_or date_patterns 0 []) (omega arith) 3 (omega arith) refl parts)
+  date_first q = rw q (single (get_or date_patterns 0 []) (omega arith) 3 (omega arith) refl parts)
 
-  pub date-second : (r : Bool) → r ≡ within 2 3 parts → flag ≡ 2 → r ≡ fits_date flag parts
+  pub date_second : (r : Bool) → r ≡ within 2 3 parts → flag ≡ 2 → r ≡ fits_date flag parts
   unfolding fits fits_date
-  date-second r e q = e ∙ rw q (range (get_or date_patterns 1 []) (omega arith) 2 3 (omega arith) refl parts)
+  date_second r e q = e ∙ rw q (range (get_or date_patterns 1 []) (omega arith) 2 3 (omega arith) refl parts)
 
-  pub date-third : (r : Bool) → r ≡ within 1 3 parts → flag ≡ 3 → r ≡ fits_date flag parts
+  pub date_third : (r : Bool) → r ≡ within 1 3 parts → flag ≡ 3 → r ≡ fits_date flag parts
   unfolding fits fits_date
-  date-third r e q = e ∙ rw q (range (get_or date_patterns 2 []) (omega arith) 1 3 (omega arith) refl parts)
+  date_third r e q = e ∙ rw q (range (get_or date_patterns 2 []) (omega arith) 1 3 (omega arith) refl parts)
 
-  pub date-fourth : flag ≡ 4 → eqb parts 2 ≡ fits_date flag parts
+  pub date_fourth : flag ≡ 4 → eqb parts 2 ≡ fits_date flag parts
   unfolding fits fits_date
-  date-fourth q = rw q (single (get_or date_patterns 3 []) (omega arith) 2 (omega arith) refl parts)
+  date_fourth q = rw q (single (get_or date_patterns 3 []) (omega arith) 2 (omega arith) refl parts)
 
-  pub date-fifth : (r : Bool) → r ≡ within 1 2 parts → flag ≡ 5 → r ≡ fits_date flag parts
+  pub date_fifth : (r : Bool) → r ≡ within 1 2 parts → flag ≡ 5 → r ≡ fits_date flag parts
   unfolding fits fits_date
-  date-fifth r e q = e ∙ rw q (range (get_or date_patterns 4 []) (omega arith) 1 2 (omega arith) refl parts)
+  date_fifth r e q = e ∙ rw q (range (get_or date_patterns 4 []) (omega arith) 1 2 (omega arith) refl parts)
 
   -- Thh:mm:ss, Thh:mm:XX, Thh:??:XX, Thh:??:??
-  pub time-first : flag ≡ 1 → eqb parts 3 ≡ fits_time flag parts
+  pub time_first : flag ≡ 1 → eqb parts 3 ≡ fits_time flag parts
   unfolding fits fits_time
-  time-first q = rw q (single (get_or time_patterns 0 []) (omega arith) 3 (omega arith) refl parts)
+  time_first q = rw q (single (get_or time_patterns 0 []) (omega arith) 3 (omega arith) refl parts)
 
-  pub time-second : flag ≡ 2 → eqb parts 2 ≡ fits_time flag parts
+  pub time_second : flag ≡ 2 → eqb parts 2 ≡ fits_time flag parts
   unfolding fits fits_time
-  time-second q = rw q (single (get_or time_patterns 1 []) (omega arith) 2 (omega arith) refl parts)
+  time_second q = rw q (single (get_or time_patterns 1 []) (omega arith) 2 (omega arith) refl parts)
 
-  pub time-third : (r : Bool) → r ≡ within 1 2 parts → flag ≡ 3 → r ≡ fits_time flag parts
+  pub time_third : (r : Bool) → r ≡ within 1 2 parts → flag ≡ 3 → r ≡ fits_time flag parts
   unfolding fits fits_time
-  time-third r e q = e ∙ rw q (range (get_or time_patterns 2 []) (omega arith) 1 2 (omega arith) refl parts)
+  time_third r e q = e ∙ rw q (range (get_or time_patterns 2 []) (omega arith) 1 2 (omega arith) refl parts)
 
-  pub time-fourth : (r : Bool) → r ≡ within 1 3 parts → flag ≡ 4 → r ≡ fits_time flag parts
+  pub time_fourth : (r : Bool) → r ≡ within 1 3 parts → flag ≡ 4 → r ≡ fits_time flag parts
   unfolding fits fits_time
-  time-fourth r e q = e ∙ rw q (range (get_or time_patterns 3 []) (omega arith) 1 3 (omega arith) refl parts)
+  time_fourth r e q = e ∙ rw q (range (get_or time_patterns 3 []) (omega arith) 1 3 (omega arith) refl parts)
 
   -- no pattern has the flag
-  pub date-zero : flag ≡ 0 → eqb parts 0 ≡ fits_date flag parts
+  pub date_zero : flag ≡ 0 → eqb parts 0 ≡ fits_date flag parts
   unfolding fits fits_date
-  date-zero q = rw q
+  date_zero q = rw q
 
-  pub time-zero : flag ≡ 0 → eqb parts 0 ≡ fits_time flag parts
+  pub time_zero : flag ≡ 0 → eqb parts 0 ≡ fits_time flag parts
   unfolding fits fits_time
-  time-zero q = rw q
+  time_zero q = rw q
 
   module _ (a : flag ≡ 0 → ⊥) (b : flag ≡ 1 → ⊥) (c : flag ≡ 2 → ⊥) (d : flag ≡ 3 → ⊥) (e : flag ≡ 4 → ⊥) where
     pub date-other : (flag ≡ 5 → ⊥) → eqb parts 0 ≡ fits_date flag parts
     unfolding fits fits_date
     date-other f = let l : 6 ≤ flag = omega arith in rw (get_or-eq_default ([] ∷ date_patterns) [] {n = flag} l)
 
-    pub time-other : eqb parts 0 ≡ fits_time flag parts
+    pub time_other : eqb parts 0 ≡ fits_time flag parts
     unfolding fits fits_time
-    time-other = let l : 5 ≤ flag = omega arith in rw (get_or-eq_default ([] ∷ time_patterns) [] {n = flag} l)
+    time_other = let l : 5 ≤ flag = omega arith in rw (get_or-eq_default ([] ∷ time_patterns) [] {n = flag} l)
 
 -- one slot
 module _ (pattern filled : ℕ) where
-  pub slot-free : filled % 2 ≡ 0 → true ≡ slot_fits pattern filled
-  slot-free q = rw (eq-eqb (filled % 2) 0 q)
+  pub slot_free : filled % 2 ≡ 0 → true ≡ slot_fits pattern filled
+  slot_free q = rw (eq-eqb (filled % 2) 0 q)
 
-  pub slot-filled : (filled % 2 ≡ 0 → ⊥) → eqb (pattern % 2) 1 ≡ slot_fits pattern filled
-  slot-filled n = rw (ne_eqb (filled % 2) 0 n)
+  pub slot_filled : (filled % 2 ≡ 0 → ⊥) → eqb (pattern % 2) 1 ≡ slot_fits pattern filled
+  slot_filled n = rw (ne_eqb (filled % 2) 0 n)
 
 -- the slots that are left, all of them at first
-pub slots-all : (pattern filled : ℕ) → slots_fit 7 pattern filled ≡ fits_duration pattern filled
+pub slots_all : (pattern filled : ℕ) → slots_fit 7 pattern filled ≡ fits_duration pattern filled
 unfolding fits_duration
-slots-all pattern filled = refl
+slots_all pattern filled = refl
 
 pub slots_end : (left p f : ℕ) (x : Bool) → slots_fit left p f ≡ x → left ≤ 0 → true ≡ x
 unfolding slots_fit
 slots_end zero p f x now l = now
 slots_end (suc left) p f x now l = absurd (omega arith)
 
-pub slots-without : (left p f : ℕ) (x r : Bool) → slots_fit left p f ≡ x → 0 < left → r ≡ slot_fits p f → not r ≡ true
+pub slots_without : (left p f : ℕ) (x r : Bool) → slots_fit left p f ≡ x → 0 < left → r ≡ slot_fits p f → not r ≡ true
     → false ≡ x
 unfolding slots_fit
-slots-without zero p f x r now l q k = absurd (omega arith)
-slots-without (suc left) p f x r now l q k = rw (← q, not-true r k) at now
+slots_without zero p f x r now l q k = absurd (omega arith)
+slots_without (suc left) p f x r now l q k = rw (← q, not-true r k) at now
 
-pub slots-on : (left p f : ℕ) (x r : Bool) → slots_fit left p f ≡ x → 0 < left → r ≡ slot_fits p f → not r ≡ false
+pub slots_on : (left p f : ℕ) (x r : Bool) → slots_fit left p f ≡ x → 0 < left → r ≡ slot_fits p f → not r ≡ false
     → slots_fit (left - 1) (p / 2) (f / 2) ≡ x
 unfolding slots_fit
-slots-on zero p f x r now l q k = absurd (omega arith)
-slots-on (suc left) p f x r now l q k =
+slots_on zero p f x r now l q k = absurd (omega arith)
+slots_on (suc left) p f x r now l q k =
     let n : suc left - 1 ≡ left = omega arith in
     rw n (rw (← q, not-false r k) at now)
 
 pub ruleset steps = (
-  within-below,
+  within_below,
   within-from,
-  date-zero,
-  date-first,
-  date-second,
-  date-third,
-  date-fourth,
-  date-fifth,
+  date_zero,
+  date_first,
+  date_second,
+  date_third,
+  date_fourth,
+  date_fifth,
   date-other,
-  time-zero,
-  time-first,
-  time-second,
-  time-third,
-  time-fourth,
-  time-other,
-  slot-free,
-  slot-filled,
-  slots-all,
+  time_zero,
+  time_first,
+  time_second,
+  time_third,
+  time_fourth,
+  time_other,
+  slot_free,
+  slot_filled,
+  slots_all,
   slots_end,
-  slots-without,
-  slots-on,
+  slots_without,
+  slots_on,
 )

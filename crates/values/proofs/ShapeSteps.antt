@@ -9,53 +9,53 @@ use lib.ListN.{length, get_or}
 use borrow.Author.Tests.{eq-eqb, ne_eqb, not-true, eqb-true}
 use Rattle.lexis.specs.Runs.{same, shaped, any_digit, all}
 use Rattle.lexis.proofs.Cases.{and_left, and_right}
-use Rattle.lexis.proofs.Places.{drop-in}
+use Rattle.lexis.proofs.Places.{drop_in}
 use Rattle.values.specs.Integers.{value_of}
 use Rattle.values.specs.Dates.{exactly, digits_at}
 use Rattle.values.specs.Clauses.Answers.{DigitIs, DigitsAre}
 
 -- a shape, to the end
 module _ (shape w : List ℕ) where
-  pub exactly-not : (length w ≡ length shape → ⊥) → false ≡ exactly shape w
-  exactly-not n = rw (ne_eqb (length w) (length shape) n)
+  pub exactly_not : (length w ≡ length shape → ⊥) → false ≡ exactly shape w
+  exactly_not n = rw (ne_eqb (length w) (length shape) n)
 
   pub exactly-shaped : (r : Bool) → r ≡ shaped shape w → length w ≡ length shape → r ≡ exactly shape w
   exactly-shaped r h q = rw (eq-eqb (length w) (length shape) q) h
 
 -- bytes of a shape are as many
-pub exactly-long : (shape w : List ℕ) (r : Bool) → r ≡ exactly shape w → r ≡ true → length w ≡ length shape
-exactly-long shape w r h q =
+pub exactly_long : (shape w : List ℕ) (r : Bool) → r ≡ exactly shape w → r ≡ true → length w ≡ length shape
+exactly_long shape w r h q =
     eqb-true (length w) (length shape) (and_left (eqb (length w) (length shape)) (shaped shape w) (sym h ∙ q))
 
 -- a shape in which no digit may stand is a word
-and-swap : (a b c : Bool) → (a && (b && c)) ≡ (b && (a && c))
-and-swap true true c = refl
-and-swap true false c = refl
-and-swap false true c = refl
-and-swap false false c = refl
+and_swap : (a b c : Bool) → (a && (b && c)) ≡ (b && (a && c))
+and_swap true true c = refl
+and_swap true false c = refl
+and_swap false true c = refl
+and_swap false false c = refl
 
 abbrev pub literally : List ℕ → Bool
 literally shape = all (λ x. not (eqb x any_digit)) shape
 
-pub exactly-same : (shape w : List ℕ) → literally shape ≡ true → exactly shape w ≡ same shape w
+pub exactly_same : (shape w : List ℕ) → literally shape ≡ true → exactly shape w ≡ same shape w
 unfolding all shaped same
-exactly-same [] [] h = refl
-exactly-same [] (b ∷ bs) h = rw (eqb-suc-zero (length bs))
-exactly-same (x ∷ xs) [] h = rw (eqb-zero-suc (length xs))
-exactly-same (x ∷ xs) (b ∷ bs) h =
+exactly_same [] [] h = refl
+exactly_same [] (b ∷ bs) h = rw (eqb-suc-zero (length bs))
+exactly_same (x ∷ xs) [] h = rw (eqb-zero-suc (length xs))
+exactly_same (x ∷ xs) (b ∷ bs) h =
     let n = not-true (eqb x any_digit) (and_left (not (eqb x any_digit)) (literally xs) h) in
-    let more = exactly-same xs bs (and_right (not (eqb x any_digit)) (literally xs) h) in
-    rw (n, eqb-suc-suc (length bs) (length xs), ← more) (and-swap (eqb (length bs) (length xs)) (eqb x b) (shaped xs bs))
+    let more = exactly_same xs bs (and_right (not (eqb x any_digit)) (literally xs) h) in
+    rw (n, eqb-suc-suc (length bs) (length xs), ← more) (and_swap (eqb (length bs) (length xs)) (eqb x b) (shaped xs bs))
 
 -- two digits, and four
-pub two-are : (w : List ℕ) (at x y : ℕ) → at + 2 ≤ length w → DigitIs (get_or w at 0) x → DigitIs (get_or w (at + 1) 0) y
+pub two_are : (w : List ℕ) (at x y : ℕ) → at + 2 ≤ length w → DigitIs (get_or w at 0) x → DigitIs (get_or w (at + 1) 0) y
     → DigitsAre w at 2 3_000 (x * 10 + y)
 unfolding value_of
-two-are w at x y h a b =
+two_are w at x y h a b =
     let ha = a.fits in
     let hb = b.fits in
     record {
-      is = rw (drop-in w at (omega arith), drop-in w (at + 1) (omega arith), ← a.is, ← b.is) (omega arith);
+      is = rw (drop_in w at (omega arith), drop_in w (at + 1) (omega arith), ← a.is, ← b.is) (omega arith);
       fits = omega arith;
     }
 
@@ -75,8 +75,8 @@ four_are w x y h a b =
     record { is = four_is w x y h a.is b.is; fits = omega arith }
 
 pub ruleset steps = (
-  exactly-not,
+  exactly_not,
   exactly-shaped,
-  two-are,
+  two_are,
   four_are,
 )

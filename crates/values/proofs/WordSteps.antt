@@ -22,36 +22,36 @@ use Rattle.values.specs.declared.durations.Duration.{Duration}
 use Rattle.values.specs.declared.durations.Duration.TheVariants as duration
 use Rattle.values.specs.declared.words.Boolean.{Boolean}
 use Rattle.values.specs.declared.words.Boolean.TheVariants as boolean
-use Rattle.values.proofs.ShapeSteps.{exactly-same}
-use Rattle.values.proofs.IntegerSteps.{short-reads}
+use Rattle.values.proofs.ShapeSteps.{exactly_same}
+use Rattle.values.proofs.IntegerSteps.{short_reads}
 
 -- True and False
 module _ (w : List ℕ) (r : Bool) (h : r ≡ exactly (bytes "True") w) where
-  as-true : exactly (bytes "True") w ≡ same (bytes "True") w
+  as_true : exactly (bytes "True") w ≡ same (bytes "True") w
   unfolding all
-  as-true = exactly-same (bytes "True") w refl
+  as_true = exactly_same (bytes "True") w refl
 
-  as-false : exactly (bytes "False") w ≡ same (bytes "False") w
+  as_false : exactly (bytes "False") w ≡ same (bytes "False") w
   unfolding all
-  as-false = exactly-same (bytes "False") w refl
+  as_false = exactly_same (bytes "False") w refl
 
-  pub boolean-true : r ≡ true → some 1 ≡ boolean_of w
+  pub boolean_true : r ≡ true → some 1 ≡ boolean_of w
   unfolding boolean_of
-  boolean-true q = rw (← as-true, ← h, q)
+  boolean_true q = rw (← as_true, ← h, q)
 
   module _ (n : r ≡ false) (s : Bool) (i : s ≡ exactly (bytes "False") w) where
-    pub boolean-false : s ≡ true → some 2 ≡ boolean_of w
+    pub boolean_false : s ≡ true → some 2 ≡ boolean_of w
     unfolding boolean_of
-    boolean-false q = rw (← as-true, ← h, n, ← as-false, ← i, q)
+    boolean_false q = rw (← as_true, ← h, n, ← as_false, ← i, q)
 
-    pub boolean-none : s ≡ false → none ≡ boolean_of w
+    pub boolean_none : s ≡ false → none ≡ boolean_of w
     unfolding boolean_of
-    boolean-none q = rw (← as-true, ← h, n, ← as-false, ← i, q)
+    boolean_none q = rw (← as_true, ← h, n, ← as_false, ← i, q)
 
 -- few digits are a good word
-pub good-few-digits : (w : List ℕ) (r : Bool) → r ≡ short_integer w → r ≡ true → true ≡ good w
+pub good_few_digits : (w : List ℕ) (r : Bool) → r ≡ short_integer w → r ≡ true → true ≡ good w
 unfolding good
-good-few-digits w r h e = rw (short-reads w (sym h ∙ e)) (second (reads (boolean_of w)) (reads (date_of w)) (reads (time_of w)) (reads (duration_of w)))
+good_few_digits w r h e = rw (short_reads w (sym h ∙ e)) (second (reads (boolean_of w)) (reads (date_of w)) (reads (time_of w)) (reads (duration_of w)))
   where
     second : (x y z v : Bool) → true ≡ (x || true || y || z || v)
     second true y z v = refl
@@ -59,9 +59,9 @@ good-few-digits w r h e = rw (short-reads w (sym h ∙ e)) (second (reads (boole
 
 -- a good word, by the first that it reads as
 module _ (w : List ℕ) (b : Boolean) (hb : boolean_answer b ≡ boolean_of w) where
-  pub good-boolean : (n : ℕ) → b ≡ boolean.Value n → true ≡ good w
+  pub good_boolean : (n : ℕ) → b ≡ boolean.Value n → true ≡ good w
   unfolding good
-  good-boolean n q = rw (← hb, q)
+  good_boolean n q = rw (← hb, q)
 
   module _ (nb : b ≡ boolean.Nothing) (i : Number) (hi : integer_answer i ≡ integer_of w) where
     pub good-integer : (n : ℕ) → i ≡ number.Value n → true ≡ good w
@@ -74,28 +74,28 @@ module _ (w : List ℕ) (b : Boolean) (hb : boolean_answer b ≡ boolean_of w) w
       good-date p n q = rw (← hb, nb, ← hi, ni, ← hd, q)
 
       module _ (nd : d ≡ date.Nothing) (t : Parts) (ht : time_answer t ≡ time_of w) where
-        pub good-time : (n : ℕ) → t ≡ time.Value n → true ≡ good w
+        pub good_time_lem : (n : ℕ) → t ≡ time.Value n → true ≡ good w
         unfolding good
-        good-time n q = rw (← hb, nb, ← hi, ni, ← hd, nd, ← ht, q)
+        good_time_lem n q = rw (← hb, nb, ← hi, ni, ← hd, nd, ← ht, q)
 
         module _ (nt : t ≡ time.Nothing) (u : Duration) (hu : duration_answer u ≡ duration_of w) where
-          pub good-duration : (n : ℕ) → u ≡ duration.Value n → true ≡ good w
+          pub good_duration : (n : ℕ) → u ≡ duration.Value n → true ≡ good w
           unfolding good
-          good-duration n q = rw (← hb, nb, ← hi, ni, ← hd, nd, ← ht, nt, ← hu, q)
+          good_duration n q = rw (← hb, nb, ← hi, ni, ← hd, nd, ← ht, nt, ← hu, q)
 
           pub good_none : u ≡ duration.Nothing → false ≡ good w
           unfolding good
           good_none q = rw (← hb, nb, ← hi, ni, ← hd, nd, ← ht, nt, ← hu, q)
 
 pub ruleset steps = (
-  boolean-true,
-  boolean-false,
-  boolean-none,
-  good-few-digits,
-  good-boolean,
+  boolean_true,
+  boolean_false,
+  boolean_none,
+  good_few_digits,
+  good_boolean,
   good-integer,
   good-date,
-  good-time,
-  good-duration,
+  good_time_lem,
+  good_duration,
   good_none,
 )

@@ -14,15 +14,15 @@ module _ (xs : List ℕ) (n : ℕ) where
   counts h = (h, sym (length-take-le n xs h))
 
   -- a number below the length, and the length itself
-  pub counts-below : n < length xs → IsPrefixLen n xs
-  counts-below h = counts (omega arith)
+  pub counts_below : n < length xs → IsPrefixLen n xs
+  counts_below h = counts (omega arith)
 
   pub counts_all : n ≡ length xs → IsPrefixLen n xs
   counts_all h = counts (omega arith)
 
   -- a place behind which nothing more was read
-  pub counts-read : (before : List ℕ) (next : ℕ) → Grown n before xs next → IsPrefixLen n xs
-  counts-read before next h = counts (omega arith)
+  pub counts_read : (before : List ℕ) (next : ℕ) → Grown n before xs next → IsPrefixLen n xs
+  counts_read before next h = counts (omega arith)
 
   -- the same numbers are what a buffer cut to n bytes has
   pub cut_below : n < length xs → n ≡ cut n xs

@@ -10,9 +10,9 @@ use Rattle.table.specs.Order.{get}
 use Rattle.vectors.specs.Reading.{case_head}
 
 module _ (bs : List ℕ) (n : ℕ) where
-  pub head-none : n < 6 → record { kind = 0; little = false; number = 0 } ≡ case_head bs n
-  head-none h = rw (lt-ltb n 6 h)
+  pub head_none : n < 6 → record { kind = 0; little = false; number = 0 } ≡ case_head bs n
+  head_none h = rw (lt-ltb n 6 h)
 
-  pub head-some : 6 ≤ n → (x : ℕ) → x ≡ get false (take 4 (drop 2 bs))
+  pub head_some : 6 ≤ n → (x : ℕ) → x ≡ get false (take 4 (drop 2 bs))
       → record { kind = get_or bs 0 0; little = eqb (get_or bs 1 0) 1; number = x } ≡ case_head bs n
-  head-some h x e = rw (le-ltb n 6 h, e)
+  head_some h x e = rw (le-ltb n 6 h, e)

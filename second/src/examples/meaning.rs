@@ -50,9 +50,9 @@ pub fn file() -> File {
     }
     let _ = write!(out, "\npub trees : List Object\ntrees =\n    {}\n    ∷ []\n", trees.join("\n    ∷ "));
     let parts = [
-        ("-- how many records each has, its header left out", "records-counted", "object_records", records),
-        ("-- the bytes of each pool", "pools-filled", "object_pool", pools),
-        ("-- the numbers of the records, in text order", "numbers-in-order", "object_numbers", numbers),
+        ("-- how many records each has, its header left out", "records_counted", "object_records", records),
+        ("-- the bytes of each pool", "pools_filled", "object_pool", pools),
+        ("-- the numbers of the records, in text order", "numbers_in_order", "object_numbers", numbers),
     ];
     for (about, name, count, expected) in parts {
         let _ = write!(out, "\n{about}\npub {name} : each {count} trees ≡ {}\n", term::list(&expected));
@@ -62,7 +62,7 @@ pub fn file() -> File {
     out.push_str("\n-- the flags of 0..0, 0..1 and 1..1\n");
     let _ = write!(
         out,
-        "pub existence-flags : (prohibited ∷ optional ∷ required ∷ []) ≡ {flags}\nexistence-flags = refl\n"
+        "pub existence_flags : (prohibited ∷ optional ∷ required ∷ []) ≡ {flags}\nexistence_flags = refl\n"
     );
     File { path: String::from("crates/meaning/proofs/CountTable.antt"), text: out, cases: TEXTS.len() }
 }

@@ -115,8 +115,8 @@ impl Table {
                 sign = "∷ ";
             }
         }
-        let _ = write!(out, "    {sign}[]\n\npub none-wrong : wrong {} 0 cases ≡ []\n", self.right);
-        let _ = write!(out, "unfolding wrong {} cases {}\nnone-wrong = refl\n", self.right, self.unfolding);
+        let _ = write!(out, "    {sign}[]\n\npub none_wrong : wrong {} 0 cases ≡ []\n", self.right);
+        let _ = write!(out, "unfolding wrong {} cases {}\nnone_wrong = refl\n", self.right, self.unfolding);
         out
     }
 }

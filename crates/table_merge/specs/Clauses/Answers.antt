@@ -48,9 +48,9 @@ header_with count pool root = make 0 0 (count ∷ pool ∷ root ∷ [])
 -- two tables that pass the check, with their counts, are not too large for one
 pub record Joinable (first second : List ℕ) (x y : Frame) : Type 0 where
   pub first_passes : table_fault first ≡ none
-  pub second-passes : table_fault second ≡ none
-  pub first-opened : Opened first x
-  pub second-opened : Opened second y
+  pub second_passes : table_fault second ≡ none
+  pub first_opened : Opened first x
+  pub second_opened : Opened second y
   pub few : x.count - 1 + y.count ≤ record_limit
   pub small : x.pool + y.pool ≤ pool_limit
 

@@ -1,12 +1,12 @@
 -- `cadl_items::strings::keep_string` meets its contract. Assumes nothing.
-use Rattle.cadl_items.proofs.StringSteps.{keep-equal, keep-comma, keep-end}
+use Rattle.cadl_items.proofs.StringSteps.{keep_equal, keep_comma, keep_end}
 use Rattle.cadl_items.proofs.strings.keep_string.Goals as goal
 
 pub returns-then-repeated : goal.returns-then-repeated
-returns-then-repeated c = search keep-equal
+returns-then-repeated c = search keep_equal
 
 pub returns-then-u-eq-COMMA : goal.returns-then-u-eq-COMMA
-returns-then-u-eq-COMMA c = search keep-comma
+returns-then-u-eq-COMMA c = search keep_comma
 
 pub returns : goal.returns
-returns c = search keep-end
+returns c = search keep_end

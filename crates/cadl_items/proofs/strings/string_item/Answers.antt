@@ -1,9 +1,9 @@
 -- `cadl_items::strings::string_item` meets its contract. Assumes nothing.
-use Rattle.cadl_items.proofs.StringSteps.{step-faulty, step_kept, step_room}
+use Rattle.cadl_items.proofs.StringSteps.{step_faulty, step_kept, step_room}
 use Rattle.cadl_items.proofs.strings.string_item.Goals as goal
 
 pub returns-in-Fault : goal.returns-in-Fault
-returns-in-Fault c = search step-faulty
+returns-in-Fault c = search step_faulty
 
 pub keep_string-requires : goal.keep_string-requires
 keep_string-requires c = search step_room

@@ -1,16 +1,16 @@
 -- `cadl_objects::existence::from_nought` meets its contract. Assumes nothing.
-use Rattle.cadl_objects.proofs.ExistenceSteps.{existence-steps}
+use Rattle.cadl_objects.proofs.ExistenceSteps.{existence_steps}
 use borrow.Author.Rules.{rules}
 use Rattle.cadl_objects.proofs.existence.from_nought.Goals as goal
 
 pub returns-then-t-ne-DOTS : goal.returns-then-t-ne-DOTS
-returns-then-t-ne-DOTS c = search (existence-steps, rules)
+returns-then-t-ne-DOTS c = search (existence_steps, rules)
 
 pub returns-then-spells : goal.returns-then-spells
-returns-then-spells c = search (existence-steps, rules)
+returns-then-spells c = search (existence_steps, rules)
 
 pub returns-then-spells-2 : goal.returns-then-spells-2
-returns-then-spells-2 c = search (existence-steps, rules)
+returns-then-spells-2 c = search (existence_steps, rules)
 
 pub returns : goal.returns
-returns c = search (existence-steps, rules)
+returns c = search (existence_steps, rules)

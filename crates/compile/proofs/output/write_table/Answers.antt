@@ -1,12 +1,12 @@
 -- `compile::output::write_table` meets its contract. Assumes nothing.
-use Rattle.compile.proofs.TableSteps.{output-short, output-written}
+use Rattle.compile.proofs.TableSteps.{output_short, output_written}
 use Rattle.compile.proofs.output.write_table.Goals as goal
 
 pub returns-then-out-length : goal.returns-then-out-length
-returns-then-out-length c = search output-short
+returns-then-out-length c = search output_short
 
 pub returns : goal.returns
 returns c =
     let records = c.copy-arg-2-1.given in
     let bytes = c.copy-arg-4-1.given in
-    search output-written
+    search output_written

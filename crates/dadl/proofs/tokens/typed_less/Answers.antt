@@ -1,9 +1,9 @@
 -- `dadl::tokens::typed_less` meets its contract. Assumes nothing.
-use Rattle.dadl.proofs.TokenSteps.{less-missing, less-there}
+use Rattle.dadl.proofs.TokenSteps.{less_missing, less_there}
 use Rattle.dadl.proofs.tokens.typed_less.Goals as goal
 
 pub returns-in-Fault : goal.returns-in-Fault
-returns-in-Fault c = search less-missing
+returns-in-Fault c = search less_missing
 
 pub returns-in-Taken : goal.returns-in-Taken
-returns-in-Taken c = search less-there
+returns-in-Taken c = search less_there

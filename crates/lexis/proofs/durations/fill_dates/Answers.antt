@@ -1,6 +1,6 @@
 -- `lexis::durations::fill_dates` meets its contract. Assumes nothing.
-use Rattle.lexis.proofs.DurationSteps.{dates-filled}
+use Rattle.lexis.proofs.DurationSteps.{dates_filled}
 use Rattle.lexis.proofs.durations.fill_dates.Goals as goal
 
 pub returns : goal.returns
-returns c = search dates-filled
+returns c = search dates_filled

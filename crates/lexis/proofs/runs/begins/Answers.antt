@@ -1,9 +1,9 @@
 -- `lexis::runs::begins` meets its contract. Assumes nothing.
-use Rattle.lexis.proofs.RunSteps.{begins-short, word_first, word_end, word_out, word_on}
+use Rattle.lexis.proofs.RunSteps.{begins_short, word_first, word_end, word_out, word_on}
 use Rattle.lexis.proofs.runs.begins.Goals as goal
 
 pub returns-then-s-at : goal.returns-then-s-at
-returns-then-s-at c = search begins-short
+returns-then-s-at c = search begins_short
 
 pub loop-i-init : goal.loop-i-init
 loop-i-init c = search word_first

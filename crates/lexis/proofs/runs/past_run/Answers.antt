@@ -1,9 +1,9 @@
 -- `lexis::runs::past_run` meets its contract. Assumes nothing.
-use Rattle.lexis.proofs.RunSteps.{run-first, run_end, run_out, run_on}
+use Rattle.lexis.proofs.RunSteps.{run_first, run_end, run_out, run_on}
 use Rattle.lexis.proofs.runs.past_run.Goals as goal
 
 pub loop-at-init : goal.loop-at-init
-loop-at-init c = search run-first
+loop-at-init c = search run_first
 
 pub returns-then-not-in_class : goal.returns-then-not-in_class
 returns-then-not-in_class c = search run_out

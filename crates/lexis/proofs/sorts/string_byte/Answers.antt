@@ -3,7 +3,7 @@ use mathlib.Core.Path.{refl}
 use mathlib.Core.Bool.{false}
 use native.Mathlib.Omega.{arith}
 use Rattle.lexis.specs.Bytes.{string_byte}
-use Rattle.lexis.proofs.ByteLaws.{agree, string-last}
+use Rattle.lexis.proofs.ByteLaws.{agree, string_last}
 use Rattle.lexis.proofs.sorts.string_byte.Goals as goal
 
 pub returns-then-b-lt32 : goal.returns-then-b-lt32
@@ -19,4 +19,4 @@ unfolding string_byte
 returns-then-b-eq92 c = agree (λ b. false) string_byte 92 1 refl c.args.b (omega arith) (omega arith)
 
 pub returns : goal.returns
-returns c = search string-last
+returns c = search string_last

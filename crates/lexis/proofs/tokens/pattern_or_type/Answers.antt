@@ -1,15 +1,15 @@
 -- `lexis::tokens::pattern_or_type` meets its contract. Assumes nothing.
-use Rattle.lexis.proofs.ContentSteps.{type-other, type-no-pattern, type-stays, type-pattern}
+use Rattle.lexis.proofs.ContentSteps.{type_other, type_no_pattern, type_stays, type_pattern}
 use Rattle.lexis.proofs.tokens.pattern_or_type.Goals as goal
 
 pub returns-then-s-start-ne80 : goal.returns-then-s-start-ne80
-returns-then-s-start-ne80 c = search type-other
+returns-then-s-start-ne80 c = search type_other
 
 pub returns-then-flag-lt1 : goal.returns-then-flag-lt1
-returns-then-flag-lt1 c = search type-no-pattern
+returns-then-flag-lt1 c = search type_no_pattern
 
 pub returns-then-not-closes : goal.returns-then-not-closes
-returns-then-not-closes c = search type-stays
+returns-then-not-closes c = search type_stays
 
 pub returns : goal.returns
-returns c = search type-pattern
+returns c = search type_pattern

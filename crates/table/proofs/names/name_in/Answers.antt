@@ -1,18 +1,18 @@
 -- `table::names::name_in` meets its contract. Assumes nothing.
 use mathlib.Core.Path.{ap}
 use mathlib.Core.Bool.{not}
-use Rattle.table.proofs.NameSteps.{name-steps, name-inside}
+use Rattle.table.proofs.NameSteps.{name_steps, name-inside}
 use borrow.Author.Rules.{rules}
 use Rattle.table.proofs.names.name_in.Goals as goal
 
 pub frame_of-frame-requires : goal.frame_of-frame-requires
-frame_of-frame-requires c = search (name-steps, rules)
+frame_of-frame-requires c = search (name_steps, rules)
 
 pub kind_at-requires : goal.kind_at-requires
-kind_at-requires c = search (name-steps, rules)
+kind_at-requires c = search (name_steps, rules)
 
 pub returns-then-not-has_name : goal.returns-then-not-has_name
-returns-then-not-has_name c = search (name-steps, rules)
+returns-then-not-has_name c = search (name_steps, rules)
 
 pub name_part-requires : goal.name_part-requires
 name_part-requires c =
@@ -20,4 +20,4 @@ name_part-requires c =
     record { opened = p.0; le_n = p.1 }
 
 pub returns : goal.returns
-returns c = search (name-steps, rules)
+returns c = search (name_steps, rules)

@@ -1,10 +1,10 @@
 -- `table::order::get32` meets its contract. Assumes nothing.
-use Rattle.table.proofs.OrderSteps.{order-steps}
+use Rattle.table.proofs.OrderSteps.{order_steps}
 use borrow.Author.Rules.{rules}
 use Rattle.table.proofs.order.get32.Goals as goal
 
 pub returns-then-little : goal.returns-then-little
-returns-then-little c = search (order-steps, rules)
+returns-then-little c = search (order_steps, rules)
 
 pub returns-else-little : goal.returns-else-little
-returns-else-little c = search (order-steps, rules)
+returns-else-little c = search (order_steps, rules)

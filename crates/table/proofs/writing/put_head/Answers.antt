@@ -2,7 +2,7 @@
 use native.Mathlib.Omega.{arith}
 use lib.ListN.{length-set}
 use borrow.Author.Rules.{rules}
-use Rattle.table.proofs.WriteSteps.{write-steps}
+use Rattle.table.proofs.WriteSteps.{write_steps}
 use Rattle.table.proofs.writing.put_head.Goals as goal
 
 pub bounds-out-at-2 : goal.bounds-out-at-2
@@ -15,4 +15,4 @@ pub bounds-out-at-4 : goal.bounds-out-at-4
 bounds-out-at-4 c = simp length-set (omega arith)
 
 pub returns : goal.returns
-returns c = search (write-steps, rules)
+returns c = search (write_steps, rules)
