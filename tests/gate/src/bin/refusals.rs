@@ -1,7 +1,7 @@
 //! Reads what `rt ci` or `rt must-fail` said, and tells of which edits the refusal was first told elsewhere than at the function or the law that they name.
-//! That is for information: the crate is refused all the same.
+//! That is for information: the crate is refused all the same. Where a count is given, as many refusals must be told of.
 //!
-//!     refusals FILE
+//!     refusals FILE [COUNT]
 
 use gate::edits;
 use gate::refusals::{fit, refusals};
@@ -14,8 +14,9 @@ use std::process::ExitCode;
 fn main() -> ExitCode {
     let words: Vec<String> = std::env::args().skip(1).collect();
     let done = match &words[..] {
-        [file] => tell(file),
-        _ => Err("usage: refusals FILE".to_string()),
+        [file] => tell(file, None),
+        [file, count] => tell(file, Some(count)),
+        _ => Err("usage: refusals FILE [COUNT]".to_string()),
     };
     match done {
         Ok(()) => ExitCode::SUCCESS,
@@ -26,7 +27,7 @@ fn main() -> ExitCode {
     }
 }
 
-fn tell(file: &str) -> Result<(), String> {
+fn tell(file: &str, count: Option<&String>) -> Result<(), String> {
     let said = fs::read_to_string(file).map_err(|error| format!("{file}: {error}"))?;
     let refused = refusals(&said);
     let edits = edits::all(Path::new("."))?;
@@ -49,5 +50,8 @@ fn tell(file: &str) -> Result<(), String> {
         fit.elsewhere.len(),
         fit.unnamed
     );
-    Ok(())
+    match count {
+        Some(count) if *count != refused.len().to_string() => Err(format!("{count} refusals were to be told of")),
+        _ => Ok(()),
+    }
 }
