@@ -20,7 +20,7 @@ pub struct Function {
     pub cited: Vec<String>,
     /// Where its body stands in the file, from the opening brace up to the closing one.
     pub body: Range<usize>,
-    /// Its lines in the file, counted from 1: from the first up to the closing brace.
+    /// Its lines in the file, counted from 1: from its first attribute or line up to the closing brace.
     pub lines: RangeInclusive<usize>,
     /// The name of its line `#[cycle(NAME)]`, under which it is proved together with functions that it calls and that call it.
     pub cycle: Option<String>,
@@ -130,7 +130,8 @@ fn functions_of(file: &str, text: &str) -> Vec<Function> {
             file: file.to_string(),
             cited: cited_in(&text[lines[index].0..body.start], &definitions),
             names: names_of(&text[body.clone()]),
-            lines: index + 1..=index + text[lines[index].0..body.end].lines().count(),
+            lines: index + 1 - attributes_before(&lines[..index]).count()
+                ..=index + text[lines[index].0..body.end].lines().count(),
             body,
             cycle: cycle_before(&lines[..index]),
         });
@@ -183,10 +184,17 @@ fn comment_before(lines: &[(usize, &str)]) -> String {
     said.join(" ")
 }
 
+/// The attributes before a function, the nearest first.
+fn attributes_before<'a>(lines: &'a [(usize, &'a str)]) -> impl Iterator<Item = &'a str> {
+    lines.iter().rev().map(|(_, line)| line.trim()).take_while(|line| line.starts_with("#["))
+}
+
 /// The cycle that an attribute before a function names.
 fn cycle_before(lines: &[(usize, &str)]) -> Option<String> {
-    let attributes = lines.iter().rev().map(|(_, line)| line.trim()).take_while(|line| line.starts_with("#["));
-    attributes.filter_map(|line| line.strip_prefix("#[cycle(")?.strip_suffix(")]")).map(str::to_string).next()
+    attributes_before(lines)
+        .filter_map(|line| line.strip_prefix("#[cycle(")?.strip_suffix(")]"))
+        .map(str::to_string)
+        .next()
 }
 
 /// What a file takes from the specs of the crates.
@@ -325,6 +333,9 @@ fn carry(a: u32, b: u32) -> u32 {
         assert_eq!(&LIB[add.body.clone()], "{\n    // not a call: twice\n    carry(a, b)\n}");
         let carry = &sources.functions[index(&sources, "carry")];
         assert!(!carry.public && carry.comment.is_empty() && LIB[carry.body.clone()].ends_with("a + b\n}"));
+        let first = LIB.lines().position(|line| line == "#[unsafe(no_mangle)]").expect("the sample has it") + 1;
+        let at = |line| sources.at("src/lib.rt", line).map(|function| function.path.as_str());
+        assert_eq!((at(first - 1), at(first), at(first + 2)), (None, Some("add"), Some("add")));
     }
 
     #[test]
