@@ -6,7 +6,7 @@ ghost use Rattle.lexis.specs.DataTokens.{name_sort, run, data_token_on, data_tok
 ghost use Rattle.lexis.specs.Clauses.Answers.{words_of, sorting, PlaceIs, WordEnds, StartsAlike, is_mark, TokenIs};
 
 use crate::reader::{Tokens, token_from};
-use crate::runs::{Class, past_run};
+use crate::runs::{Digit, Run, Word, past_run};
 use crate::sorts::{byte_at, is_capital, is_digit, is_small, run_byte, run_mark};
 use crate::spellings::{Words, data_mark, word_sort};
 use crate::tokens::quoted;
@@ -54,7 +54,7 @@ fn run_end(s: &[u8], at: usize) -> usize
     if !run_mark(byte_at(s, at)) {
         return at;
     }
-    past_run(s, at, Class::Run)
+    past_run::<Run>(s, at)
 }
 
 // The run at a place. It is a word where the word at the place ends with it.
@@ -62,7 +62,7 @@ fn run(s: &[u8], at: usize, behind: bool) -> Token
     requires { at < length s.now }
     ensures { result ≡ run (sorting behind) s.now at }
 {
-    let word_end = past_run(s, at, Class::Word);
+    let word_end = past_run::<Word>(s, at);
     let end = run_end(s, word_end);
     let k = run_sort(&s[at..end], s[at], behind, word_end == end);
     Token {
@@ -168,7 +168,7 @@ pub fn value_token_at(s: &[u8], from: usize) -> Token
         return quoted(s, from);
     }
     if is_digit(b) {
-        let end = past_run(s, from, Class::Digit);
+        let end = past_run::<Digit>(s, from);
         if !run_byte(byte_at(s, end)) {
             return Token {
                 sort: WORD_RUN,

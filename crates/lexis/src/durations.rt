@@ -4,7 +4,7 @@ ghost use Rattle.lexis.specs.Text.{bytes};
 ghost use Rattle.lexis.specs.Durations.{in_either_case, letter_slot, digit_slot, filled, fill, fill_all, behind_time, slots_of, pattern_slots};
 ghost use Rattle.lexis.specs.Clauses.Answers.{slot_by, SlotIs, filled_at, FillRoom, FillIs, FlagIs};
 
-use crate::runs::{Class, past_run};
+use crate::runs::{Digit, past_run};
 
 // How far a walk over slots has come: the slots filled, as a flag, and the place behind them.
 #[derive(Clone, Copy)]
@@ -48,7 +48,7 @@ fn digit_slot(w: &[u8], at: usize, letter: u8) -> usize
     requires { at ≤ length w.now }
     ensures { SlotIs w.now at (digit_slot letter (drop at w.now)) result }
 {
-    let end = past_run(w, at, Class::Digit);
+    let end = past_run::<Digit>(w, at);
     let digits = end - at;
     if digits < 1 {
         return 0;

@@ -10,7 +10,7 @@ ghost use Rattle.lexis.specs.Clauses.Answers.{words_of, TokenIs, TypeThere};
 
 use crate::durations::pattern_slots;
 use crate::reader::{Tokens, token_from};
-use crate::runs::{Class, past_run, shaped, starts_with};
+use crate::runs::{Digit, Text, Word, past_run, shaped, starts_with};
 use crate::sorts::{CAPITAL, DIGIT, MARK, SMALL, byte_at, is_digit, sort_of};
 use crate::spellings::{Words, date_pattern, element_sign, mark, time_pattern, word_sort};
 use crate::{
@@ -23,7 +23,7 @@ fn word(s: &[u8], at: usize, f: Words, sort: u8) -> Token
     requires { at ≤ length s.now }
     ensures { result ≡ word s.now (words_of f) sort at }
 {
-    let end = past_run(s, at, Class::Word);
+    let end = past_run::<Word>(s, at);
     let k = word_sort(&s[at..end], f, sort);
     Token {
         sort: k,
@@ -64,7 +64,7 @@ fn number(s: &[u8], at: usize) -> Token
             end: at + 10,
         };
     }
-    let end = past_run(s, at, Class::Digit);
+    let end = past_run::<Digit>(s, at);
     Token {
         sort: INTEGER,
         start: at,
@@ -90,7 +90,7 @@ fn sign(s: &[u8], at: usize) -> Token
     ensures { result ≡ sign s.now at }
 {
     if negative(s, at) {
-        let end = past_run(s, at + 1, Class::Digit);
+        let end = past_run::<Digit>(s, at + 1);
         return Token {
             sort: INTEGER,
             start: at,
@@ -105,7 +105,7 @@ pub fn quoted(s: &[u8], at: usize) -> Token
     requires { at < length s.now }
     ensures { result ≡ quoted s.now at }
 {
-    let end = past_run(s, at + 1, Class::Text);
+    let end = past_run::<Text>(s, at + 1);
     if byte_at(s, end) == b'"' {
         return Token {
             sort: STRING,

@@ -4,7 +4,7 @@ ghost use Rattle.values.specs.Integers.{integer_of, negative, not_negative, twos
 ghost use Rattle.values.specs.Clauses.Answers.{integer_answer, digits_from, plain_number, short_integer};
 
 use crate::shapes::digit_value;
-use lexis::runs::{Class, past_run};
+use lexis::runs::{Digit, past_run};
 use lexis::sorts::is_digit;
 
 // An integer that is read, or that none is spelled.
@@ -114,7 +114,7 @@ pub fn short_integer(w: &[u8]) -> bool
     if SHORT < w.len() {
         return false;
     }
-    if past_run(w, 0, Class::Digit) != w.len() {
+    if past_run::<Digit>(w, 0) != w.len() {
         return false;
     }
     if w[0] != b'0' {

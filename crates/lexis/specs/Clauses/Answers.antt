@@ -14,8 +14,6 @@ use Rattle.lexis.specs.declared.reader.Tokens.{Tokens}
 use Rattle.lexis.specs.declared.reader.Tokens.TheVariants.{Constraint, Data, Behind}
 use Rattle.lexis.specs.declared.spellings.Words.{Words}
 use Rattle.lexis.specs.declared.spellings.Words.TheVariants.{Keywords, Booleans}
-use Rattle.lexis.specs.declared.runs.Class.{Class}
-use Rattle.lexis.specs.declared.runs.Class.TheVariants.{Digit, Word, Text, Run}
 
 -- r is the place x, from a place of the text on
 pub record PlaceIs (s : List ℕ) (from x r : ℕ) : Type 0 where
@@ -60,13 +58,6 @@ is_mark b sort =
     (cond (eqb sort open_round) (eqb b (byte "("))
     (cond (eqb sort close_round) (eqb b (byte ")")) false))))
 
--- the test that the bytes of a class pass
-abbrev pub test_of : Class → ℕ → Bool
-test_of Digit = is digit
-test_of Word = word_byte
-test_of Text = string_byte
-test_of Run = run_byte
-
 -- a comment is open behind the byte b, before which one is open or not, and behind which bs stand
 abbrev pub comment_open : Bool → ℕ → List ℕ → Bool
 comment_open true b bs = not (line_end b)
@@ -76,11 +67,6 @@ comment_open false b bs = opens_comment b bs
 abbrev pub token_here : Bool → ℕ → List ℕ → Bool
 token_here true b bs = false
 token_here false b bs = not (is blank b || opens_comment b bs)
-
--- a byte of a shape admits another by the shape's rule, a byte of a spelling only itself
-abbrev pub admits : Bool → ℕ → ℕ → Bool
-admits true = allows
-admits false = eqb
 
 -- the bytes begin with bytes that the word's admit, one by one
 unfoldable pub begins_by : (ℕ → ℕ → Bool) → List ℕ → List ℕ → Bool
