@@ -1,5 +1,5 @@
 -- What the functions of this crate promise of their answers: an equation with a definition, and bounds. Assumes nothing.
-use Rattle.std.specs.Prelude.{◌≡◌, Bool, true, false, cond, not, ◌&&◌, ◌||◌, List, [], ◌∷◌, ℕ, ◌+◌, ◌≤◌, ◌<◌, eqb, length, drop}
+use Rattle.std.specs.Prelude.{◌≡◌, Bool, true, false, cond, not, ◌&&◌, ◌||◌, List, [], ◌∷◌, ℕ, Option, Some, None, IfSome, ◌+◌, ◌≤◌, ◌<◌, eqb, length, drop}
 use Rattle.lexis.specs.Bytes.{among, is, blank, digit, word_byte, string_byte, run_byte, line_end}
 use Rattle.lexis.specs.Text.{byte, bytes}
 use Rattle.lexis.specs.Runs.{byte_at, allows}
@@ -12,8 +12,10 @@ use Rattle.lexis.specs.declared.Token.{Token}
 use Rattle.lexis.specs.declared.durations.Slots.{Slots}
 use Rattle.lexis.specs.declared.reader.Tokens.{Tokens}
 use Rattle.lexis.specs.declared.reader.Tokens.TheVariants.{Constraint, Data, Behind}
-use Rattle.lexis.specs.declared.spellings.Words.{Words}
-use Rattle.lexis.specs.declared.spellings.Words.TheVariants.{Keywords, Booleans}
+
+-- a number, none where it is 0
+abbrev pub unless_zero : ℕ → Option ℕ
+unless_zero n = cond (eqb n 0) None (Some n)
 
 -- r is the place x, from a place of the text on
 pub record PlaceIs (s : List ℕ) (from x r : ℕ) : Type 0 where
@@ -74,22 +76,6 @@ begins_by f [] bs = true
 begins_by f (w ∷ ws) [] = false
 begins_by f (w ∷ ws) (b ∷ bs) = f w b && begins_by f ws bs
 
--- the words that are no NAME, and those that are no TYPE
-abbrev pub words_of : Words → List Literal
-words_of Keywords = keywords
-words_of Booleans = booleans
-
--- how the sort of a run is told, behind `(` and elsewhere
-abbrev pub sorting : Bool → List ℕ → ℕ → ℕ
-sorting true = type_sort
-sorting false = run_sort
-
--- the tokens are those behind `(`
-abbrev pub behind_of : Tokens → Bool
-behind_of Constraint = false
-behind_of Data = false
-behind_of Behind = true
-
 -- the next token from a place of a text on, of those that are read
 abbrev pub token_by : Tokens → List ℕ → ℕ → Token
 token_by Constraint = token_at
@@ -104,15 +90,10 @@ pub record TokenIs (s : List ℕ) (from : ℕ) (t r : Token) : Type 0 where
   pub inside : r.end ≤ length s
   pub strict : 1 < r.sort → r.start < r.end
 
--- a slot with digits, or without
-abbrev pub slot_by : Bool → ℕ → List ℕ → ℕ
-slot_by true = digit_slot
-slot_by false = letter_slot
-
--- r is a slot's size n, from a place of the word on
-pub record SlotIs (w : List ℕ) (at n r : ℕ) : Type 0 where
-  pub is : r ≡ n
-  pub inside : at + r ≤ length w
+-- r is a slot's size n, none where it is 0, from a place of the word on
+pub record SlotIs (w : List ℕ) (at n : ℕ) (r : Option ℕ) : Type 0 where
+  pub is : r ≡ unless_zero n
+  pub inside : IfSome r (λ size. at + size ≤ length w)
 
 -- a walk over slots, by the place that it has come to
 abbrev pub filled_at : List ℕ → Slots → Filled
@@ -129,10 +110,10 @@ pub record FillIs (w : List ℕ) (most : ℕ) (x : Filled) (r : Slots) : Type 0 
   pub inside : r.at ≤ length w
   pub few : r.flag ≤ most
 
--- r is the flag n, and at most that of all slots
-pub record FlagIs (n r : ℕ) : Type 0 where
-  pub is : r ≡ n
-  pub few : r ≤ 127
+-- r is the flag n, none where it is 0, and at most that of all slots
+pub record FlagIs (n : ℕ) (r : Option ℕ) : Type 0 where
+  pub is : r ≡ unless_zero n
+  pub few : IfSome r (λ flag. flag ≤ 127)
 
 -- a TYPE with its bytes stands in the text
 pub record TypeThere (s : List ℕ) (t : Token) : Type 0 where
