@@ -340,7 +340,7 @@ module _ (kind low high next : ℕ) (below : Bool) (n : NotEmpty kind low high b
   closed-before k =
       let e : leb high low ≡ false = rw k at n.some in
       let l = leb-false high low e in
-      record { Some = omega arith; day = λ d. n.day d l }
+      record { some = omega arith; day = λ d. n.day d l }
 
   pub closed_below : below ≡ true → (h : ℕ) → h ≡ before kind high
       → interval_reading (interval_read.Interval kind low h next)
@@ -368,7 +368,7 @@ module _ (s : List ℕ) (kind low high at : ℕ) (below : Bool) (r : Expected)
     close_empty k = let z : empty (ends undecided low high below) ≡ true = sym h ∙ k in rw (expected_token e t g, z)
 
     pub close_some : b ≡ false → Closable s kind low high at → NotEmpty kind low high below
-    close_some k d = record { Some = sym h ∙ k; day = d.day }
+    close_some k d = record { some = sym h ∙ k; day = d.day }
 
     pub close_closed : b ≡ false → (i : IntervalRead)
         → interval_reading i ≡ got (shut kind (closed (ends kind low high below))) t.end

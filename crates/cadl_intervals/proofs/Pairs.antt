@@ -1,7 +1,7 @@
 -- Values, ends and closed pairs of a kind: integers as distances up to the greatest, days of the calendar. Assumes nothing.
-use mathlib.Core.Path.{◌≡◌, refl}
+use mathlib.Core.Path.{◌≡◌, refl, ap}
 use mathlib.Core.Bool.{Bool, true, false, cond}
-use Rattle.std.specs.Prelude.{Option, None, Some, option_map as map}
+use Rattle.std.specs.Prelude.{Option, None, Some, option_map as map, unwrap_or}
 use Rattle.std.proofs.lemmas.Option.{none-some}
 use mathlib.Core.Logic.{◌≢◌}
 use mathlib.Core.List.{List}
@@ -55,7 +55,7 @@ value_read kind w = by_cond (λ (o : Option ℕ). (v : ℕ) → o ≡ Some v →
   where
     day_read : (o : Option Date) → date_of w ≡ o → (v : ℕ) → map (λ (d : Date). d.day) o ≡ Some v → real v ≡ true
     day_read None h v e = absurd (none-some v e)
-    day_read (Some d) h v refl = (date-good w d h).is_real
+    day_read (Some d) h v e = let k : d.day ≡ v = ap (λ o. unwrap_or o 0) e in rw k at (date-good w d h).is_real
 
 pub least-good : (kind : ℕ) → kind ≡ date → least kind ≤ last_day → real (least kind) ≡ true
 unfolding real month_days leap
