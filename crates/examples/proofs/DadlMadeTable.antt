@@ -13,13 +13,13 @@ use Rattle.dadl.proofs.Examples.{Case, accepts, refuses, right}
 pub cases : List Case
 cases =
     -- texts as the generator gives them, not too many with the same answer
-    accepts (bytes "(Other)\t\t\n<\n  a_=<-P00m00W9999dT0H\t  >\nyyyy=<0>--Ô{5P\r>") (datum 10 (some (bytes "Other")) (member (bytes "a_") (word 17 (bytes "-P00m00W9999dT0H")) (member (bytes "yyyy") (word 44 (bytes "0")) no_more)))
+    accepts (bytes "(Other)\t\t\n<\n  a_=<-P00m00W9999dT0H\t  >\nyyyy=<0>--Ô{5P\r>") (datum 10 (Some (bytes "Other")) (member (bytes "a_") (word 17 (bytes "-P00m00W9999dT0H")) (member (bytes "yyyy") (word 44 (bytes "0")) no_more)))
     ∷ accepts (bytes "<>") (datum 0 None no_more)
     ∷ accepts (bytes "(Pd)<matche=<P5y0w>>") (datum 4 (Some (bytes "Pd")) (member (bytes "matche") (word 12 (bytes "P5y0w")) no_more))
     ∷ accepts (bytes "<a_=<P5m>>") (datum 0 None (member (bytes "a_") (word 4 (bytes "P5m")) no_more))
     ∷ accepts (bytes "( True1 ) < a_ = < 4170-09-11 > a1 = ( C ) < > >") (datum 10 (Some (bytes "True1")) (member (bytes "a_") (word 17 (bytes "4170-09-11")) (member (bytes "a1") (block (datum 43 (Some (bytes "C")) no_more)) no_more)))
-    ∷ accepts (bytes "<x9Z_ --\n=<\n-P12w5d>  >") (datum 0 none (member (bytes "x9Z_") (word 10 (bytes "-P12w5d")) no_more))
-    ∷ accepts (bytes "(Other\n)<x9Z_=<   >existenc=\t \n<08Z ---%-\u{1f}\r>  a= <existence1=-->{>¬*R-\r<True\t>matche=<P00y>--*´\rc --a!| (>\n=<\r >>>") (datum 8 (some (bytes "Other")) (member (bytes "x9Z_") (block (datum 14 none no_more)) (member (bytes "existenc") (word 31 (bytes "08Z")) (member (bytes "a") (block (datum 49 none (member (bytes "existence1") (word 71 (bytes "True")) (member (bytes "matche") (word 85 (bytes "P00y")) (member (bytes "c") (block (datum 108 none no_more)) no_more))))) no_more))))
+    ∷ accepts (bytes "<x9Z_ --\n=<\n-P12w5d>  >") (datum 0 None (member (bytes "x9Z_") (word 10 (bytes "-P12w5d")) no_more))
+    ∷ accepts (bytes "(Other\n)<x9Z_=<   >existenc=\t \n<08Z ---%-\u{1f}\r>  a= <existence1=-->{>¬*R-\r<True\t>matche=<P00y>--*´\rc --a!| (>\n=<\r >>>") (datum 8 (Some (bytes "Other")) (member (bytes "x9Z_") (block (datum 14 None no_more)) (member (bytes "existenc") (word 31 (bytes "08Z")) (member (bytes "a") (block (datum 49 None (member (bytes "existence1") (word 71 (bytes "True")) (member (bytes "matche") (word 85 (bytes "P00y")) (member (bytes "c") (block (datum 108 None no_more)) no_more))))) no_more))))
     ∷ accepts (bytes "<yyyy=(FALSE)<true=<>>>") (datum 0 None (member (bytes "yyyy") (block (datum 13 (Some (bytes "FALSE")) (member (bytes "true") (block (datum 19 None no_more)) no_more))) no_more))
     ∷ accepts (bytes "<a=<12:30:15+00:00>>") (datum 0 None (member (bytes "a") (word 3 (bytes "12:30:15+00:00")) no_more))
     ∷ accepts (bytes "<a=<08-05>>") (datum 0 None (member (bytes "a") (word 3 (bytes "08-05")) no_more))
@@ -29,7 +29,7 @@ cases =
     ∷ accepts (bytes "(TRUE)<matche=<0108-05>>") (datum 6 (Some (bytes "TRUE")) (member (bytes "matche") (word 14 (bytes "0108-05")) no_more))
     ∷ refuses (bytes "< <") 2 2
     ∷ accepts (bytes "<ab=<False>a=<\"ab\">mm=<24089571>>") (datum 0 None (member (bytes "ab") (word 4 (bytes "False")) (member (bytes "a") (string 13 (bytes "ab")) (member (bytes "mm") (word 22 (bytes "24089571")) no_more))))
-    ∷ accepts (bytes "(Thh)<aa=<\"--\">>") (datum 5 (some (bytes "Thh")) (member (bytes "aa") (string 9 (bytes "--")) no_more))
+    ∷ accepts (bytes "(Thh)<aa=<\"--\">>") (datum 5 (Some (bytes "Thh")) (member (bytes "aa") (string 9 (bytes "--")) no_more))
     ∷ accepts (bytes "( A1 ) < ab = < 08:30-12 > b = ( XX ) < > existenc = ( Thh ) < > >") (datum 7 (Some (bytes "A1")) (member (bytes "ab") (word 14 (bytes "08:30-12")) (member (bytes "b") (block (datum 38 (Some (bytes "XX")) no_more)) (member (bytes "existenc") (block (datum 61 (Some (bytes "Thh")) no_more)) no_more))))
     ∷ accepts (bytes "<a=<-P5y040m0005dT040h1M0005s>>") (datum 0 None (member (bytes "a") (word 3 (bytes "-P5y040m0005dT040h1M0005s")) no_more))
     ∷ accepts (bytes "( PymwdThms ) < x9Z_ = < -10 > at0001 = < -2147483647 > b = < \" \" > >") (datum 14 (Some (bytes "PymwdThms")) (member (bytes "x9Z_") (word 23 (bytes "-10")) (member (bytes "at0001") (word 40 (bytes "-2147483647")) (member (bytes "b") (string 60 (bytes " ")) no_more))))
@@ -37,7 +37,7 @@ cases =
     ∷ accepts (bytes "(C)<matche=<23:30+00>>") (datum 3 (Some (bytes "C")) (member (bytes "matche") (word 11 (bytes "23:30+00")) no_more))
     ∷ accepts (bytes "<at0001=<\"{|},*\">>") (datum 0 None (member (bytes "at0001") (string 8 (bytes "{|},*")) no_more))
     ∷ accepts (bytes "<a=<2147483647>>") (datum 0 None (member (bytes "a") (word 3 (bytes "2147483647")) no_more))
-    ∷ accepts (bytes "\r( \rPdX) \r\n<--\rmatche=<08+00:00 --}\n>c --5|{{\n=<\t  P0005D>\r>\t ") (datum 11 (some (bytes "PdX")) (member (bytes "matche") (word 22 (bytes "08+00:00")) (member (bytes "c") (word 47 (bytes "P0005D")) no_more)))
+    ∷ accepts (bytes "\r( \rPdX) \r\n<--\rmatche=<08+00:00 --}\n>c --5|{{\n=<\t  P0005D>\r>\t ") (datum 11 (Some (bytes "PdX")) (member (bytes "matche") (word 22 (bytes "08+00:00")) (member (bytes "c") (word 47 (bytes "P0005D")) no_more)))
     ∷ refuses (bytes "( Pd ) < yyyy = ( PTm ) < matchesx = < a = < > > > yyyy = < \"<>\" > >") 9 51
     ∷ accepts (bytes "(Pwd)<abc=<a=<08Z>b=<2004-12-31>>c=<\"\">ab=(ABC)<>>") (datum 5 (Some (bytes "Pwd")) (member (bytes "abc") (block (datum 10 None (member (bytes "a") (word 13 (bytes "08Z")) (member (bytes "b") (word 20 (bytes "2004-12-31")) no_more)))) (member (bytes "c") (string 35 []) (member (bytes "ab") (block (datum 47 (Some (bytes "ABC")) no_more)) no_more))))
     ∷ accepts (bytes "<at0001=<>>") (datum 0 None (member (bytes "at0001") (block (datum 8 None no_more)) no_more))
@@ -47,17 +47,17 @@ cases =
     ∷ accepts (bytes "<c=<0654-12-23>mm=<5744-10-24>true=<True>>") (datum 0 None (member (bytes "c") (word 3 (bytes "0654-12-23")) (member (bytes "mm") (word 18 (bytes "5744-10-24")) (member (bytes "true") (word 35 (bytes "True")) no_more))))
     ∷ accepts (bytes "(True1)<existenc=<\"ab\">>") (datum 7 (Some (bytes "True1")) (member (bytes "existenc") (string 17 (bytes "ab")) no_more))
     ∷ refuses (bytes "<mm=<08>c=<\"<>\">yyyy=(PT)<aa=P040M>>true=<>>") 2 29
-    ∷ accepts (bytes "(  Other   )<\t> --Ì|rµ¿") (datum 12 (some (bytes "Other")) no_more)
+    ∷ accepts (bytes "(  Other   )<\t> --Ì|rµ¿") (datum 12 (Some (bytes "Other")) no_more)
     ∷ accepts (bytes "<aa=<>matche=<23:59:59>>") (datum 0 None (member (bytes "aa") (block (datum 4 None no_more)) (member (bytes "matche") (word 13 (bytes "23:59:59")) no_more)))
     ∷ accepts (bytes "<>\r\t") (datum 0 None no_more)
     ∷ accepts (bytes "<a=<5>>") (datum 0 None (member (bytes "a") (word 3 (bytes "5")) no_more))
     ∷ accepts (bytes "( C_C ) < >") (datum 8 (Some (bytes "C_C")) no_more)
-    ∷ accepts (bytes "\n \t<--|ä1\rtrue\r  =(Pd\t)<> \r>") (datum 3 none (member (bytes "true") (block (datum 23 (some (bytes "Pd")) no_more)) no_more))
+    ∷ accepts (bytes "\n \t<--|ä1\rtrue\r  =(Pd\t)<> \r>") (datum 3 None (member (bytes "true") (block (datum 23 (Some (bytes "Pd")) no_more)) no_more))
     ∷ accepts (bytes "<value=<-2147483648>ab=(Other)<>>") (datum 0 None (member (bytes "value") (word 7 (bytes "-2147483648")) (member (bytes "ab") (block (datum 30 (Some (bytes "Other")) no_more)) no_more)))
     ∷ refuses (bytes "(>") 2 1
     ∷ refuses (bytes "<a=<2004-5>>") 5 4
-    ∷ accepts (bytes "(TRUE)  <true\t \n= \r\t(X)\t <>  \ra1=<1002>existence1=(Falsey --(\r) \t\t<>matche=< 08Z \n>\t>") (datum 8 (some (bytes "TRUE")) (member (bytes "true") (block (datum 25 (some (bytes "X")) no_more)) (member (bytes "a1") (word 33 (bytes "1002")) (member (bytes "existence1") (block (datum 66 (some (bytes "Falsey")) no_more)) (member (bytes "matche") (word 75 (bytes "08Z")) no_more)))))
-    ∷ accepts (bytes "<b=< \n>>--vª vëa\n") (datum 0 none (member (bytes "b") (block (datum 3 none no_more)) no_more))
+    ∷ accepts (bytes "(TRUE)  <true\t \n= \r\t(X)\t <>  \ra1=<1002>existence1=(Falsey --(\r) \t\t<>matche=< 08Z \n>\t>") (datum 8 (Some (bytes "TRUE")) (member (bytes "true") (block (datum 25 (Some (bytes "X")) no_more)) (member (bytes "a1") (word 33 (bytes "1002")) (member (bytes "existence1") (block (datum 66 (Some (bytes "Falsey")) no_more)) (member (bytes "matche") (word 75 (bytes "08Z")) no_more)))))
+    ∷ accepts (bytes "<b=< \n>>--vª vëa\n") (datum 0 None (member (bytes "b") (block (datum 3 None no_more)) no_more))
     ∷ accepts (bytes "(Other)<existenc=<>existence1=<>>") (datum 7 (Some (bytes "Other")) (member (bytes "existenc") (block (datum 17 None no_more)) (member (bytes "existence1") (block (datum 30 None no_more)) no_more)))
     ∷ accepts (bytes "< a_ = < P0y040m00w12dT0005M > >") (datum 0 None (member (bytes "a_") (word 7 (bytes "P0y040m00w12dT0005M")) no_more))
     ∷ refuses (bytes "< existence = < False > >") 2 2
@@ -65,20 +65,20 @@ cases =
     ∷ accepts (bytes "<a=<PT5m>>") (datum 0 None (member (bytes "a") (word 3 (bytes "PT5m")) no_more))
     ∷ accepts (bytes "< c = ( FALSE ) < a = < \" \" > > existence1 = < -2147483647 > value = < \"A\" > >") (datum 0 None (member (bytes "c") (block (datum 16 (Some (bytes "FALSE")) (member (bytes "a") (string 22 (bytes " ")) no_more))) (member (bytes "existence1") (word 45 (bytes "-2147483647")) (member (bytes "value") (string 69 (bytes "A")) no_more))))
     ∷ refuses (bytes "<a_=<-0>b=<P040m>>") 5 5
-    ∷ accepts (bytes "(--}\u{1c}\rCA)\t  <--- >r<Î1\n> --*1{¦") (datum 12 (some (bytes "CA")) no_more)
+    ∷ accepts (bytes "(--}\u{1c}\rCA)\t  <--- >r<Î1\n> --*1{¦") (datum 12 (Some (bytes "CA")) no_more)
     ∷ accepts (bytes "<matche=<\"0123456789\">aa=<P0005d>existence1=<\"ab\">>") (datum 0 None (member (bytes "matche") (string 8 (bytes "0123456789")) (member (bytes "aa") (word 25 (bytes "P0005d")) (member (bytes "existence1") (string 44 (bytes "ab")) no_more))))
     ∷ accepts (bytes "<aa=\r<0064>>") (datum 0 None (member (bytes "aa") (word 5 (bytes "0064")) no_more))
     ∷ refuses (bytes "<a=<08:30:60>>") 5 4
     ∷ accepts (bytes "(Other)<aa=<PT0M>ab=(ABC)<a=<a=<\"\">b=<08+01>>b=<a=<2147483647>b=<12:00:00+05:30>>>matchesx=<3965>>") (datum 7 (Some (bytes "Other")) (member (bytes "aa") (word 11 (bytes "PT0M")) (member (bytes "ab") (block (datum 25 (Some (bytes "ABC")) (member (bytes "a") (block (datum 28 None (member (bytes "a") (string 31 []) (member (bytes "b") (word 37 (bytes "08+01")) no_more)))) (member (bytes "b") (block (datum 47 None (member (bytes "a") (word 50 (bytes "2147483647")) (member (bytes "b") (word 64 (bytes "12:00:00+05:30")) no_more)))) no_more)))) (member (bytes "matchesx") (word 91 (bytes "3965")) no_more))))
-    ∷ accepts (bytes "<aa\r--x\n=(Falsey)<>value=<1916910938>mm=<\"ab\">>") (datum 0 none (member (bytes "aa") (block (datum 17 (some (bytes "Falsey")) no_more)) (member (bytes "value") (word 25 (bytes "1916910938")) (member (bytes "mm") (string 40 (bytes "ab")) no_more))))
+    ∷ accepts (bytes "<aa\r--x\n=(Falsey)<>value=<1916910938>mm=<\"ab\">>") (datum 0 None (member (bytes "aa") (block (datum 17 (Some (bytes "Falsey")) no_more)) (member (bytes "value") (word 25 (bytes "1916910938")) (member (bytes "mm") (string 40 (bytes "ab")) no_more))))
     ∷ accepts (bytes "< matche = < P1y1m00WT5H0m12s > >") (datum 0 None (member (bytes "matche") (word 11 (bytes "P1y1m00WT5H0m12s")) no_more))
-    ∷ accepts (bytes "<matche \n =<--qT¸- -<\nmatche=<\n 2004>mm=<b --Î\"-\r=\n< >>existenc=\n\n <   >>  \r>\r\r ---\u{95}ï*ç*") (datum 0 none (member (bytes "matche") (block (datum 11 none (member (bytes "matche") (word 29 (bytes "2004")) (member (bytes "mm") (block (datum 40 none (member (bytes "b") (block (datum 51 none no_more)) no_more))) (member (bytes "existenc") (block (datum 67 none no_more)) no_more))))) no_more))
+    ∷ accepts (bytes "<matche \n =<--qT¸- -<\nmatche=<\n 2004>mm=<b --Î\"-\r=\n< >>existenc=\n\n <   >>  \r>\r\r ---\u{95}ï*ç*") (datum 0 None (member (bytes "matche") (block (datum 11 None (member (bytes "matche") (word 29 (bytes "2004")) (member (bytes "mm") (block (datum 40 None (member (bytes "b") (block (datum 51 None no_more)) no_more))) (member (bytes "existenc") (block (datum 67 None no_more)) no_more))))) no_more))
     ∷ accepts (bytes "( Other ) < aa = < 2941-09-09 > yyyy = < 9999-12-31 > matche = < True > >") (datum 10 (Some (bytes "Other")) (member (bytes "aa") (word 17 (bytes "2941-09-09")) (member (bytes "yyyy") (word 39 (bytes "9999-12-31")) (member (bytes "matche") (word 63 (bytes "True")) no_more))))
     ∷ accepts (bytes "(Ca)<>") (datum 4 (Some (bytes "Ca")) no_more)
     ∷ accepts (bytes "< existence1 = < P0005d > x9Z_ = < > c = < \" \" > b = < 3073-09-10 > n1 = < 8992-08-16 > >") (datum 0 None (member (bytes "existence1") (word 15 (bytes "P0005d")) (member (bytes "x9Z_") (block (datum 33 None no_more)) (member (bytes "c") (string 41 (bytes " ")) (member (bytes "b") (word 53 (bytes "3073-09-10")) (member (bytes "n1") (word 73 (bytes "8992-08-16")) no_more))))))
     ∷ accepts (bytes "(L)<>") (datum 3 (Some (bytes "L")) no_more)
-    ∷ accepts (bytes "(--þÃcAia\nOther)\t  <\t  >-->ø%<\n") (datum 19 (some (bytes "Other")) no_more)
-    ∷ accepts (bytes "\r< \tabc=<--\rmatchesx --a{\" >\n=\n\n<>--\u{84}-\u{11}@ô\r>yyyy --\n=<>value --\u{86}}-*@x\n=--{*Yì\n<--Ô*\r1812444772>\r>") (datum 1 none (member (bytes "abc") (block (datum 8 none (member (bytes "matchesx") (block (datum 32 none no_more)) no_more))) (member (bytes "yyyy") (block (datum 52 none no_more)) (member (bytes "value") (word 77 (bytes "1812444772")) no_more))))
+    ∷ accepts (bytes "(--þÃcAia\nOther)\t  <\t  >-->ø%<\n") (datum 19 (Some (bytes "Other")) no_more)
+    ∷ accepts (bytes "\r< \tabc=<--\rmatchesx --a{\" >\n=\n\n<>--\u{84}-\u{11}@ô\r>yyyy --\n=<>value --\u{86}}-*@x\n=--{*Yì\n<--Ô*\r1812444772>\r>") (datum 1 None (member (bytes "abc") (block (datum 8 None (member (bytes "matchesx") (block (datum 32 None no_more)) no_more))) (member (bytes "yyyy") (block (datum 52 None no_more)) (member (bytes "value") (word 77 (bytes "1812444772")) no_more))))
     ∷ accepts (bytes " (A_b) <existenc=<\n 2147483647>existence1\t\n\t=  <PT5M3S\n\n> >") (datum 7 (Some (bytes "A_b")) (member (bytes "existenc") (word 17 (bytes "2147483647")) (member (bytes "existence1") (word 47 (bytes "PT5M3S")) no_more)))
     ∷ accepts (bytes "( P ) < value = < False > >") (datum 6 (Some (bytes "P")) (member (bytes "value") (word 16 (bytes "False")) no_more))
     ∷ refuses (bytes "(A1<>") 2 3

@@ -69,27 +69,27 @@ cases =
     ∷ accepts (bytes "<true=<True>>") (datum 0 None (member (bytes "true") (word 6 (bytes "True")) no_more))
     ∷ accepts (bytes "<yyyy=<2004>>") (datum 0 None (member (bytes "yyyy") (word 6 (bytes "2004")) no_more))
     -- blanks and comments: a comment starts only where a token may
-    ∷ accepts (bytes "--\n<>") (datum 3 none no_more)
-    ∷ accepts (bytes "--\r<>") (datum 3 none no_more)
+    ∷ accepts (bytes "--\n<>") (datum 3 None no_more)
+    ∷ accepts (bytes "--\r<>") (datum 3 None no_more)
     ∷ refuses (bytes "--<>") 2 4
-    ∷ accepts (bytes "<--\n>") (datum 0 none no_more)
+    ∷ accepts (bytes "<--\n>") (datum 0 None no_more)
     ∷ refuses (bytes "<-- >") 2 5
     ∷ refuses (bytes "<a--\n=<5>>") 2 1
     ∷ refuses (bytes "<a--c=<5>>") 2 1
-    ∷ accepts (bytes "<a=--ÿ\0\r<5>>") (datum 0 none (member (bytes "a") (word 8 (bytes "5")) no_more))
-    ∷ accepts (bytes "<a=<--\n5>>") (datum 0 none (member (bytes "a") (word 3 (bytes "5")) no_more))
-    ∷ accepts (bytes "<a=<5 --c\n>>") (datum 0 none (member (bytes "a") (word 3 (bytes "5")) no_more))
+    ∷ accepts (bytes "<a=--ÿ\0\r<5>>") (datum 0 None (member (bytes "a") (word 8 (bytes "5")) no_more))
+    ∷ accepts (bytes "<a=<--\n5>>") (datum 0 None (member (bytes "a") (word 3 (bytes "5")) no_more))
+    ∷ accepts (bytes "<a=<5 --c\n>>") (datum 0 None (member (bytes "a") (word 3 (bytes "5")) no_more))
     ∷ refuses (bytes "<a=<5--c\n>>") 5 4
     ∷ refuses (bytes "<a=<5--c>>") 5 4
     ∷ refuses (bytes "<a=<--5>>") 2 9
     ∷ refuses (bytes "<a=<-5--c\n>>") 5 4
-    ∷ accepts (bytes "<>--") (datum 0 none no_more)
-    ∷ accepts (bytes "<>-- x") (datum 0 none no_more)
+    ∷ accepts (bytes "<>--") (datum 0 None no_more)
+    ∷ accepts (bytes "<>-- x") (datum 0 None no_more)
     ∷ refuses (bytes "<>-") 2 2
     ∷ refuses (bytes "(T--x\n)<>") 2 1
-    ∷ accepts (bytes "(--\nT)<>") (datum 6 (some (bytes "T")) no_more)
-    ∷ accepts (bytes "(T --x\n)<>") (datum 8 (some (bytes "T")) no_more)
-    ∷ accepts (bytes "<a=<\"--\">>") (datum 0 none (member (bytes "a") (string 3 (bytes "--")) no_more))
+    ∷ accepts (bytes "(--\nT)<>") (datum 6 (Some (bytes "T")) no_more)
+    ∷ accepts (bytes "(T --x\n)<>") (datum 8 (Some (bytes "T")) no_more)
+    ∷ accepts (bytes "<a=<\"--\">>") (datum 0 None (member (bytes "a") (string 3 (bytes "--")) no_more))
     ∷ accepts (bytes "\t<\r>\n") (datum 1 None no_more)
     ∷ refuses (bytes "<a=<5>\u{b}>") 2 6
     ∷ refuses (bytes "<a\0=<5>>") 2 2

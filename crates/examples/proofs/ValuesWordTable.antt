@@ -58,7 +58,7 @@ cases =
     ∷ reads (bytes "-05") None None None None None false
     ∷ reads (bytes "+5") None None None None None false
     ∷ reads (bytes "+0") None None None None None false
-    ∷ reads (bytes "--5") none none none none none false
+    ∷ reads (bytes "--5") None None None None None false
     ∷ reads (bytes "-") None None None None None false
     ∷ reads (bytes "+") None None None None None false
     ∷ reads (bytes "5-") None None None None None false
@@ -388,7 +388,7 @@ cases =
     ∷ reads (bytes "P.5d") None None None None None false
     ∷ reads (bytes "P5.d") None None None None None false
     ∷ reads (bytes "+P5d") None None None None None false
-    ∷ reads (bytes "--P5d") none none none none none false
+    ∷ reads (bytes "--P5d") None None None None None false
     ∷ reads (bytes "P-5d") None None None None None false
     ∷ reads (bytes "P+5d") None None None None None false
     ∷ reads (bytes "P1y-5d") None None None None None false
