@@ -1,7 +1,7 @@
 -- An interval's faults come in order and lie in the text; it ends in the text, and one without a fault is a closed pair of its kind. Assumes nothing.
 use mathlib.Core.Path.{◌≡◌, refl, sym, ◌∙◌}
 use mathlib.Core.Bool.{Bool, true, false, cond, ◌&&◌, false≢true}
-use mathlib.Core.Option.{Option, none, some}
+use Rattle.std.specs.Prelude.{Option, None, Some}
 use mathlib.Core.List.{List}
 use Prim.Native.Nat.{ℕ, ◌+◌, ◌≤◌, ◌<◌}
 use native.Mathlib.Omega.{arith}
@@ -60,14 +60,14 @@ pub record Shut (s : List ℕ) (asked first : ℕ) (sound : Bool) (l : ℕ) (i :
   pub proper : sound ≡ true → ProperPair i.kind i.pair
 
 module _ (s : List ℕ) where
-  possible-ordered : (kind at : ℕ) (sound : Bool) (low : ℕ) (o : Option ℕ) → ((v : ℕ) → o ≡ some v → Value kind v)
+  possible-ordered : (kind at : ℕ) (sound : Bool) (low : ℕ) (o : Option ℕ) → ((v : ℕ) → o ≡ Some v → Value kind v)
       → low ≤ rank at 0 → Found s at (token_at s at)
       → (token_at s at).start < (token_at s at).end → Ordered s (Literal s kind at) sound low (possible (token_at s at) o)
   unfolding number_of
-  possible-ordered kind at sound low none g l f h =
+  possible-ordered kind at sound low None g l f h =
       ordered-noting s (Literal s kind at) sound low true Impossible (token_at s at).start _ 5 refl (lit≤ tt) (lit< tt) (omega (arith, f.start)) (omega (arith, f.inside)) (λ o k m c.
       ordered_parsed s (Literal s kind at) o k 0 _ (record { bound = m; start = f.start; order = h; most = f.inside; value = λ z. absurd (false≢true (sym (c z).0)) }))
-  possible-ordered kind at sound low (some v) g l f h =
+  possible-ordered kind at sound low (Some v) g l f h =
       ordered_parsed s (Literal s kind at) sound low v _ (record { bound = omega (arith, f.start); start = f.start; order = h; most = f.inside; value = λ z. g v refl })
 
   pub literal-ordered : (kind at : ℕ) (sound : Bool) (low : ℕ) → 1 < kind → low ≤ rank at 0 → at ≤ length s

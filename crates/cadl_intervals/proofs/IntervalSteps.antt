@@ -1,7 +1,7 @@
 -- What a step of the readers of literals and intervals shows: a law for each way out. Assumes nothing.
 use mathlib.Core.Path.{◌≡◌, refl, sym, ap, ◌∙◌}
 use mathlib.Core.Bool.{Bool, true, false, cond, not, ◌||◌}
-use mathlib.Core.Option.{none, some}
+use Rattle.std.specs.Prelude.{None, Some}
 use mathlib.Core.List.{List}
 use Prim.Native.Nat.{ℕ, ◌+◌, ◌-◌, ◌≤◌}
 use native.Mathlib.Omega.{arith}
@@ -54,10 +54,10 @@ module _ (kind : ℕ) (w : List ℕ) where
 
   module _ (k : kind ≡ date) (d : Day) (e : date_answer d ≡ date_of w) where
     pub value_day : (parts n : ℕ) → d ≡ day.Value parts n → integer_answer (number.Value n) ≡ literal_value kind w
-    value_day parts n g = let h : date_of w ≡ some (record { parts = parts; day = n }) = sym e ∙ ap date_answer g in rw (eq-eqb kind date k, h)
+    value_day parts n g = let h : date_of w ≡ Some (record { parts = parts; day = n }) = sym e ∙ ap date_answer g in rw (eq-eqb kind date k, h)
 
     pub value_none : d ≡ day.Nothing → integer_answer number.Nothing ≡ literal_value kind w
-    value_none g = let h : date_of w ≡ none = sym e ∙ ap date_answer g in rw (eq-eqb kind date k, h)
+    value_none g = let h : date_of w ≡ None = sym e ∙ ap date_answer g in rw (eq-eqb kind date k, h)
 
 -- a literal
 module _ (s : List ℕ) (kind at : ℕ) (r : Expected) (e : ExpectIs s kind at (expect s kind at) r) where
@@ -74,13 +74,13 @@ module _ (s : List ℕ) (kind at : ℕ) (r : Expected) (e : ExpectIs s kind at (
     module _ (n : Number) (v : integer_answer n ≡ literal_value kind (part s t.start t.end)) where
       pub literal_none : n ≡ number.Nothing → LiteralIs s kind at (literal_read.Faulty (refusal Impossible t.start))
       literal_none h =
-          let o : literal_value kind (part s t.start t.end) ≡ none = sym v ∙ ap integer_answer h in
+          let o : literal_value kind (part s t.start t.end) ≡ None = sym v ∙ ap integer_answer h in
           record { is = rw (literal_is s kind at, expected_token e t g, o); past = tt }
 
       pub literal_there : (value : ℕ) → n ≡ number.Value value
           → LiteralIs s kind at (literal_read.Literal value t.end)
       literal_there value h =
-          let o : literal_value kind (part s t.start t.end) ≡ some value = sym v ∙ ap integer_answer h in
+          let o : literal_value kind (part s t.start t.end) ≡ Some value = sym v ∙ ap integer_answer h in
           record {
             is = rw (literal_is s kind at, expected_token e t g, o);
             past = (λ k. real_last value ((value_read kind (part s t.start t.end) value o).day k), literal-inside);

@@ -1,7 +1,8 @@
 -- Values, ends and closed pairs of a kind: integers as distances up to the greatest, days of the calendar. Assumes nothing.
-use mathlib.Core.Path.{◌≡◌, refl}
+use mathlib.Core.Path.{◌≡◌, refl, ap}
 use mathlib.Core.Bool.{Bool, true, false, cond}
-use mathlib.Core.Option.{Option, none, some, map, some-injective, none-ne-some}
+use Rattle.std.specs.Prelude.{Option, None, Some, option_map as map, unwrap_or}
+use Rattle.std.proofs.lemmas.Option.{none-some}
 use mathlib.Core.Logic.{◌≢◌}
 use mathlib.Core.List.{List}
 use Prim.Native.Nat.{ℕ, ◌-◌, ◌≤◌, ◌<◌}
@@ -47,14 +48,14 @@ pub record ProperPair (kind : ℕ) (p : Pair) : Type 0 where
   pub high : Value kind p.high
 
 -- what a literal spells is a value of its kind
-pub value_read : (kind : ℕ) (w : List ℕ) (v : ℕ) → literal_value kind w ≡ some v → Value kind v
-value_read kind w = by_cond (λ (o : Option ℕ). (v : ℕ) → o ≡ some v → Value kind v) (eqb kind date)
+pub value_read : (kind : ℕ) (w : List ℕ) (v : ℕ) → literal_value kind w ≡ Some v → Value kind v
+value_read kind w = by_cond (λ (o : Option ℕ). (v : ℕ) → o ≡ Some v → Value kind v) (eqb kind date)
     (λ d v e. record { day = λ k. day_read (date_of w) refl v e; number = λ k. absurd (k (eqb-true kind date d)) })
     (λ d v e. record { day = λ k. absurd (eqb-false kind date d k); number = λ k. integer_in_range w v e })
   where
-    day_read : (o : Option Date) → date_of w ≡ o → (v : ℕ) → map (λ (d : Date). d.day) o ≡ some v → real v ≡ true
-    day_read none h v e = absurd (none-ne-some v e)
-    day_read (some d) h v e = let k = some-injective d.day v e in rw k at (date-good w d h).is_real
+    day_read : (o : Option Date) → date_of w ≡ o → (v : ℕ) → map (λ (d : Date). d.day) o ≡ Some v → real v ≡ true
+    day_read None h v e = absurd (none-some v e)
+    day_read (Some d) h v e = let k : d.day ≡ v = ap (λ o. unwrap_or o 0) e in rw k at (date-good w d h).is_real
 
 pub least-good : (kind : ℕ) → kind ≡ date → least kind ≤ last_day → real (least kind) ≡ true
 unfolding real month_days leap

@@ -2,7 +2,7 @@
 -- are intervals only, the same without `+/-`"; "Intervals become closed pairs; an open end moves by one (one calendar day for dates); a missing end is the
 -- range's end"; 'Numbers of refusal', 5 at the literal (d for `+/-`) and 6 at the closing bar. Nothing is told of what an impossible literal would make. Assumes nothing.
 use Rattle.std.specs.Prelude.{Bool, true, false, cond, ◌&&◌, List, ℕ, ◌+◌, ◌-◌, eqb, leb, ltb}
-use Rattle.std.proofs.Math.Option.{Option, none, some, map}
+use Rattle.std.specs.Prelude.{Option, None, Some, option_map as map}
 use Rattle.lexis.specs.Spelling.{bar, dots, less, greater, at_most, at_least, plus_minus}
 use Rattle.lexis.specs.Tokens.{token_at, integer, date, spelling}
 use Rattle.lexis.specs.declared.Token.{Token}
@@ -40,8 +40,8 @@ literal_value kind w = cond (eqb kind date) (map (λ (d : Date). d.day) (date_of
 
 -- its value; 0 stands for that of an impossible one
 abbrev pub possible : Token → Option ℕ → Parse ℕ
-possible t none = flawed (refusal Impossible t.start) (parsed 0 t.end)
-possible t (some v) = parsed v t.end
+possible t None = flawed (refusal Impossible t.start) (parsed 0 t.end)
+possible t (Some v) = parsed v t.end
 
 -- a literal of that kind
 unfoldable pub literal : List ℕ → ℕ → ℕ → Parse ℕ

@@ -1,7 +1,7 @@
 -- What a step of the readers of leaves and contents shows: a law for each way out. Assumes nothing.
 use mathlib.Core.Path.{◌≡◌, refl, sym, ap, ◌∙◌}
 use mathlib.Core.Bool.{Bool, true, false, not}
-use mathlib.Core.Option.{none}
+use Rattle.std.specs.Prelude.{None}
 use mathlib.Core.List.{List}
 use Prim.Native.Nat.{ℕ, ◌+◌, ◌-◌, ◌≤◌, ◌<◌}
 use native.Mathlib.Omega.{arith}
@@ -141,7 +141,7 @@ module _ (s : List ℕ) (place from : ℕ) (t : Token) (tok : TokenIs s from (da
 
     pub less_block : (t.sort ≡ 26 → ⊥) → ContentIs s place (less_from s place from) (content.Block place 0 0 from)
     unfolding less_from
-    less_block k = record { is = λ down. rw (← tok.is, ne_eqb t.sort 11 n, ne_eqb t.sort 26 k) (sym (first_then (down place none from) _)); past = (omega arith, h.order, h.inside, omega arith, omega arith) }
+    less_block k = record { is = λ down. rw (← tok.is, ne_eqb t.sort 11 n, ne_eqb t.sort 26 k) (sym (first_then (down place None from) _)); past = (omega arith, h.order, h.inside, omega arith, omega arith) }
 
 -- a block of a type
 module _ (s : List ℕ) (from : ℕ) (o : Opening) (d : OpeningIs s from (typed_from s from) o) where

@@ -1,6 +1,6 @@
 -- Why a data text is refused: each fault that parsing it finds is 1 to 5 or 9. Assumes nothing.
 use mathlib.Core.Bool.{not}
-use mathlib.Core.Option.{Option, none, some}
+use Rattle.std.specs.Prelude.{Option, None, Some}
 use mathlib.Core.List.{List, [], ◌∷◌}
 use Prim.Native.Nat.{ℕ, zero, suc, ◌+◌}
 use lib.Dec.{eqb, ltb}
@@ -61,7 +61,7 @@ module _ (s : List ℕ) where
     unfolding typed
     typed_of from =
         faults_then OfDataText (type_from s from) _ (type_of_lem from) (λ w p.
-        faults_then OfDataText (expect_data s less p) _ (expect_of less p) (λ t q. h t.start (some w) q))
+        faults_then OfDataText (expect_data s less p) _ (expect_of less p) (λ t q. h t.start (Some w) q))
 
     -- a block is what a member holds
     inside_of : (w : Parse Block) → FaultsOf OfDataText w → FaultsOf OfDataText (and_then w (λ d q. parsed (inside d) q))
@@ -76,7 +76,7 @@ module _ (s : List ℕ) where
         (faults_cond OfDataText (eqb t.sort less) _ _
         (faults_cond OfDataText (eqb u.sort Tokens.string) _ _ (leaf_of_lem t.start u)
         (faults_cond OfDataText (eqb u.sort word_run) _ _ (leaf_of_lem t.start u)
-        (inside_of (down t.start none t.end) (h t.start none t.end))))
+        (inside_of (down t.start None t.end) (h t.start None t.end))))
         (syntax_of_data t))
 
     members_of_lem : (fuel : ℕ) (seen : List (List ℕ)) (from : ℕ) → FaultsOf OfDataText (members s down fuel seen from)
@@ -110,7 +110,7 @@ module _ (s : List ℕ) where
       let t = data_token_at s 0 in
       faults_cond OfDataText (eqb t.sort open_round) _ _
       (typed_of (block_from s levels) (blocks_of levels) t.end)
-      (faults_then OfDataText (expect_data s less 0) _ (expect_of less 0) (λ u p. blocks_of levels u.start none p))
+      (faults_then OfDataText (expect_data s less 0) _ (expect_of less 0) (λ u p. blocks_of levels u.start None p))
 
   -- each fault of a data text
   pub text_of : (levels : ℕ) → FaultsOf OfDataText (data_text levels s)

@@ -1,6 +1,6 @@
 -- Tapes that a judge may walk: a walker's step on a good tape; the tape of members that lie in a text is good, and its numbers are small. Assumes nothing.
 use mathlib.Core.Path.{◌≡◌}
-use mathlib.Core.Option.{Option, none, some}
+use Rattle.std.specs.Prelude.{Option, None, Some}
 use mathlib.Core.List.{List, [], ◌∷◌, ◌++◌}
 use Prim.Native.Nat.{ℕ, suc, ◌+◌, ◌≤◌, ◌<◌}
 use native.Mathlib.Omega.{arith}
@@ -18,8 +18,8 @@ good_step s size count tape n g h = members_step s count tape n h (λ k. ((g.row
 
 -- a type, a block's `<` and type, a member's content and a member lie in a text of a size
 abbrev pub TypeLies : ℕ → Option Span → Type 0
-TypeLies size none = Unit {0}
-TypeLies size (some x) = (x.start < x.end) × (x.end ≤ size)
+TypeLies size None = Unit {0}
+TypeLies size (Some x) = (x.start < x.end) × (x.end ≤ size)
 
 abbrev pub BlockLies : ℕ → Block → Type 0
 BlockLies size (block p t ms) = (p < size) × TypeLies size t
@@ -34,8 +34,8 @@ Lies size w c = (w.start < w.end) × (w.end ≤ size) × ContentLies size c
 
 -- a type that lies in a text ends behind place 0
 type_ended : (size : ℕ) (t : Option Span) → TypeLies size t → TypeEnded t
-type_ended size none h = tt
-type_ended size (some x) h = omega arith
+type_ended size None h = tt
+type_ended size (Some x) h = omega arith
 
 -- the type of a member that lies in it does
 lies_ended : (size : ℕ) (w : Span) (c : PlacedContent) → Lies size w c → Ended w c
@@ -49,8 +49,8 @@ each_ended size ms h = each_entry ms (Lies size) Ended (lies_ended size) h
 
 -- a row's numbers for a type that lies in the text are in order and in the text
 type_order : (size : ℕ) (t : Option Span) → TypeLies size t → (type_start t ≤ type_end t) × (type_end t ≤ size)
-type_order size none h = (omega arith, omega arith)
-type_order size (some x) h = (omega arith, omega arith)
+type_order size None h = (omega arith, omega arith)
+type_order size (Some x) h = (omega arith, omega arith)
 
 -- the row of a string or a word that lies in the text is good
 leaf-good : (size count n kind : ℕ) (w x : Span) (p next : ℕ) → 0 < kind → kind ≤ is_word

@@ -1,7 +1,7 @@
 -- The tape of a tree's members: its length, how a walker meets its rows, and that the members are read back from it. Assumes nothing.
 use mathlib.Core.Path.{◌≡◌, refl, ap, ◌∙◌}
 use mathlib.Core.Bool.{Bool, true, false, cond}
-use mathlib.Core.Option.{Option, none, some, map}
+use Rattle.std.specs.Prelude.{Option, None, Some, option_map as map}
 use mathlib.Core.List.{List, ◌++◌, append_assoc}
 use Prim.Native.Nat.{ℕ, zero, suc, ◌+◌, ◌*◌, ◌-◌, ◌≤◌, ◌<◌}
 use native.Mathlib.Omega.{arith}
@@ -51,8 +51,8 @@ mutual
 
 -- a type, where there is one, ends behind place 0
 abbrev pub TypeEnded : Option Span → Type 0
-TypeEnded none = Unit {0}
-TypeEnded (some x) = 0 < x.end
+TypeEnded None = Unit {0}
+TypeEnded (Some x) = 0 < x.end
 
 -- the type of a member's block does
 abbrev pub Ended : Span → PlacedContent → Type 0
@@ -189,9 +189,9 @@ next_within (entry w c more) n m count h l k = (h, omega arith)
 
 -- a type is read back
 type_back : (s : List ℕ) (t : Option Span) → TypeEnded t
-    → cond (eqb (type_end t) 0) none (some (part s (type_start t) (type_end t))) ≡ map (spelled_span s) t
-type_back s none h = refl
-type_back s (some x) h = rw (ne_eqb x.end 0 (λ e. omega arith))
+    → cond (eqb (type_end t) 0) None (Some (part s (type_start t) (type_end t))) ≡ map (spelled_span s) t
+type_back s None h = refl
+type_back s (Some x) h = rw (ne_eqb x.end 0 (λ e. omega arith))
 
 module _ (s : List ℕ) (count : ℕ) (tape : List ℕ) where
   -- the row that is told as the next is the one where the next members stand

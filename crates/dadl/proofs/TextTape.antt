@@ -1,6 +1,6 @@
 -- The tape of an accepted data text: a judge may walk it, its numbers are small, there are few, and the text's datum is read back from it. Assumes nothing.
 use mathlib.Core.Path.{◌≡◌, refl}
-use mathlib.Core.Option.{Option, map}
+use Rattle.std.specs.Prelude.{Option, option_map as map}
 use mathlib.Core.List.{List, ◌++◌}
 use Prim.Native.Nat.{ℕ, ◌*◌, ◌≤◌}
 use native.Mathlib.Omega.{arith}

@@ -1,6 +1,6 @@
 -- What a step of the readers of tokens, types and openings shows: a law for each way out. Assumes nothing.
 use mathlib.Core.Path.{◌≡◌, sym, ap, ◌∙◌}
-use mathlib.Core.Option.{some}
+use Rattle.std.specs.Prelude.{Some}
 use mathlib.Core.List.{List}
 use Prim.Native.Nat.{ℕ, ◌-◌, ◌≤◌, ◌<◌}
 use native.Mathlib.Omega.{arith}
@@ -76,7 +76,7 @@ module _ (s : List ℕ) (from : ℕ) (t : Token) (tok : TokenIs s from (type_tok
           record { is = rw (expected_token e u g) at short; past = (tok.start, a, omega arith, omega arith) }
 
 -- a type by its places
-pub type_span_lem : (start end : ℕ) → start < end → type_span start end ≡ some (span start end)
+pub type_span_lem : (start end : ℕ) → start < end → type_span start end ≡ Some (span start end)
 type_span_lem start end h = rw (ne_eqb end 0 (λ e. omega arith))
 
 -- the `<` of a block with a type

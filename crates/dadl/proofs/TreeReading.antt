@@ -3,7 +3,7 @@
 use mathlib.Core.Path.{◌≡◌, refl}
 use mathlib.Core.Bool.{Bool, true, not}
 use mathlib.Core.Logic.{◌≢◌}
-use mathlib.Core.Option.{Option, none, some}
+use Rattle.std.specs.Prelude.{Option, None, Some}
 use mathlib.Core.List.{List, [], ◌∷◌}
 use Prim.Native.Nat.{ℕ, zero, suc, ◌+◌, ◌*◌, ◌≤◌, ◌<◌}
 use native.Mathlib.Omega.{arith}
@@ -187,7 +187,7 @@ module _ (s : List ℕ) (low : ℕ) (down : Down)
   unfolding typed
   typed_order least from i l h =
       then_order s (BlockRead s least) (SpanRead s from) (rank from 0) _ _ (type_order s from h) (λ w p q.
-      less_order (some w) least p (omega (arith, q.least)) (omega (arith, q.least)) q.most (q.order, q.inside))
+      less_order (Some w) least p (omega (arith, q.least)) (omega (arith, q.least)) q.most (q.order, q.inside))
 
   -- a block that was read is a content, with its `<`
   inside_order : (bound from least : ℕ) (w : Parse Block) → from + 1 ≤ least → InOrder s bound (BlockRead s least) w
@@ -216,7 +216,7 @@ module _ (s : List ℕ) (low : ℕ) (down : Down)
       let leaf : u.start < u.end → InOrder s k P (leaf_from s t.start u) = λ z. order_lower s P (rank t.end 0) k _ (omega (arith, f.start)) (leaf_order s from t.start t.end f.start m f.inside z) in
       by_cond (InOrder s k P) (eqb u.sort Tokens.string) (λ x. leaf (strict_of Tokens.string (lit< tt) u s t.end v (eqb-true _ _ x))) (λ x.
       by_cond (InOrder s k P) (eqb u.sort word_run) (λ y. leaf (strict_of word_run (lit< tt) u s t.end v (eqb-true _ _ y))) (λ y.
-      inside_order k from t.end _ (omega (arith, f.start)) (order_lower s (BlockRead s t.end) (rank t.start 0) k _ (omega (arith, f.start)) (below t.start none t.end (omega (arith, f.start)) m f.inside tt)))))
+      inside_order k from t.end _ (omega (arith, f.start)) (order_lower s (BlockRead s t.end) (rank t.start 0) k _ (omega (arith, f.start)) (below t.start None t.end (omega (arith, f.start)) m f.inside tt)))))
       (λ g. syntax_order s P k from t (omega arith) f))
 
   -- members take a byte for `>` and four for each member
@@ -281,7 +281,7 @@ outermost_order levels s =
     = λ p t q a b c d. block_order s levels p t q b c d in
     by_cond (InOrder s 0 P) (eqb t.sort open_round)
     (λ e. order_lower s P (rank t.end 0) 0 _ (omega arith) (typed_order s 0 (block_from s levels) below 0 t.end (omega arith) (omega arith) f.inside))
-    (λ e. less_order s 0 (block_from s levels) below none 0 0 (omega arith) (omega arith) (omega arith) tt)
+    (λ e. less_order s 0 (block_from s levels) below None 0 0 (omega arith) (omega arith) (omega arith) tt)
 
 -- a text's outermost block: its members lie in the text, which has room for four bytes each
 pub record Accepted (s : List ℕ) (b : Block) (p : ℕ) : Type 0 where

@@ -5,7 +5,7 @@
 -- named twice", at the "later name". Parsing goes on past a type, a name or a string that is too long, past a bad word, past a name that stood before (which is kept
 -- among the names) and into a block of a level that is not allowed and any below it. Assumes nothing.
 use Rattle.std.specs.Prelude.{cond, not, List, [], ◌∷◌, ℕ, zero, suc, ◌+◌, ◌-◌, eqb, ltb, length}
-use Rattle.std.proofs.Math.Option.{Option, none, some}
+use Rattle.std.specs.Prelude.{Option, None, Some}
 use Rattle.lexis.specs.Runs.{listed}
 use Rattle.lexis.specs.Spelling.{less, greater}
 use Rattle.lexis.specs.Tokens.{text_end, type_name, name, spelling, inner}
@@ -58,7 +58,7 @@ Down = ℕ → Option Span → ℕ → Parse Block
 
 -- behind `(`: a TYPE, `)`, `<` and a block
 unfoldable pub typed : List ℕ → Down → ℕ → Parse Block
-typed s down from = and_then (type_from s from) (λ w p. and_then (expect_data s less p) (λ t q. down t.start (some w) q))
+typed s down from = and_then (type_from s from) (λ w p. and_then (expect_data s less p) (λ t q. down t.start (Some w) q))
 
 -- what stands behind a member's `=`
 unfoldable pub content_from : List ℕ → Down → ℕ → Parse PlacedContent
@@ -70,7 +70,7 @@ content_from s down from =
     (cond (eqb t.sort less)
     (cond (eqb u.sort Tokens.string) (leaf_from s t.start u)
     (cond (eqb u.sort word_run) (leaf_from s t.start u)
-    (and_then (down t.start none t.end) (λ d q. parsed (inside d) q))))
+    (and_then (down t.start None t.end) (λ d q. parsed (inside d) q))))
     (syntax t))
 
 -- a member's NAME and `=`; `seen` are the names before it in its block
@@ -114,7 +114,7 @@ outermost levels s =
     let t = data_token_at s 0 in
     cond (eqb t.sort open_round)
     (typed s (block_from s levels) t.end)
-    (and_then (expect_data s less 0) (λ u p. block_from s levels u.start none p))
+    (and_then (expect_data s less 0) (λ u p. block_from s levels u.start None p))
 
 -- the outermost datum and the text's end
 unfoldable pub datum_alone : ℕ → List ℕ → Parse Block

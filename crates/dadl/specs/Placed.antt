@@ -1,6 +1,6 @@
 -- A data text's tree with places for its names, types and values: where they stand in the text. Spelled out, it is the datum tree. Assumes nothing.
 use Rattle.std.specs.Prelude.{List, ℕ}
-use Rattle.std.proofs.Math.Option.{Option, map}
+use Rattle.std.specs.Prelude.{Option, option_map as map}
 use Rattle.lexis.specs.Runs.{part}
 use Rattle.meaning.specs.Data.{Datum, datum, Members, member}
 use Rattle.meaning.specs.Data

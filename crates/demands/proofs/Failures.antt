@@ -1,6 +1,6 @@
 -- Demand 1, 20 to 24: a failure names a record of the table, of the kind that its row says, and a `<` of the data text. Assumes nothing.
 use mathlib.Core.Path.{◌≡◌, refl, sym, subst}
-use mathlib.Core.Option.{Option, none, some}
+use Rattle.std.specs.Prelude.{Option, None, Some}
 use mathlib.Core.List.{List}
 use Prim.Native.Nat.{ℕ, ◌<◌}
 use lib.Dec.{lit<}
@@ -134,11 +134,11 @@ failure_told table root form reason number place h = by (table_fault table) refl
           opening = failure_opening level_limit form b o reason number place d f;
         }
 
-    under : table_fault table ≡ none → (o : Option Object) → object_at (image_of table) root ≡ o
+    under : table_fault table ≡ None → (o : Option Object) → object_at (image_of table) root ≡ o
         → FailureTold table form reason number place
-    under e none f = absurd (not_gave (rw (e, f) at h))
-    under e (some o) f = told o (says_there table root o e f)
+    under e None f = absurd (not_gave (rw (e, f) at h))
+    under e (Some o) f = told o (says_there table root o e f)
 
     by : (x : Option Refusal) → table_fault table ≡ x → FailureTold table form reason number place
-    by none e = under e (object_at (image_of table) root) refl
-    by (some x) e = absurd (not_gave (rw e at h))
+    by None e = under e (object_at (image_of table) root) refl
+    by (Some x) e = absurd (not_gave (rw e at h))

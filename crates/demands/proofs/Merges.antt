@@ -2,7 +2,7 @@
 use mathlib.Core.Path.{◌≡◌, refl, sym, ap, ◌∙◌, subst}
 use mathlib.Core.Logic.{◌↔◌}
 use mathlib.Core.Bool.{Bool, true, false, cond}
-use mathlib.Core.Option.{none}
+use Rattle.std.specs.Prelude.{None}
 use mathlib.Core.List.{List, [], ◌∷◌}
 use Prim.Native.Nat.{ℕ, ◌+◌, ◌^◌, ◌<◌}
 use native.Mathlib.Omega.{arith}
@@ -62,7 +62,7 @@ use Rattle.demands.proofs.JudgedTexts.{text_verdict, text_unread}
 
 -- what is carried along: a table that passes the check, with the text's tree, moved by the sum, at record 1 + sum
 pub record Carries (o : Object) (c : Carried) : Type 0 where
-  pub passes : table_fault c.table ≡ none
+  pub passes : table_fault c.table ≡ None
   pub inside : 1 + c.sum < count (image_of c.table)
   pub tree : tree_at (image_of c.table) (1 + c.sum) ≡ of_object (moved_object o c.sum)
 

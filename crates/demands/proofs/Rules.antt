@@ -2,7 +2,7 @@
 use mathlib.Core.Path.{◌≡◌, refl, sym, ap, ◌∙◌, subst}
 use mathlib.Core.Logic.{◌↔◌, ◌⊎◌, inl, inr, ◌≢◌}
 use mathlib.Core.Bool.{Bool, false}
-use mathlib.Core.Option.{Option, none, some}
+use Rattle.std.specs.Prelude.{Option, None, Some}
 use mathlib.Core.List.{List, [], ◌++◌}
 use Prim.Native.Nat.{ℕ, ◌≤◌, ◌<◌}
 use lib.Dec.{ltb}
@@ -181,9 +181,9 @@ module _ (table : List ℕ) (root : ℕ) (form : List ℕ) where
   unfolding judge_answer number_of
   missing_object h = by (table_fault table) refl
     where
-      under : table_fault table ≡ none → (o : Option Object) → object_at (image_of table) root ≡ o → NoObject table root
-      under e none f = (SaysLaws.no_object table root).0 (e, f)
-      under e (some o) f =
+      under : table_fault table ≡ None → (o : Option Object) → object_at (image_of table) root ≡ o → NoObject table root
+      under e None f = (SaysLaws.no_object table root).0 (e, f)
+      under e (Some o) f =
           let l = unread_least table root form o (SaysLaws.says_there table root o e f) (refusal NotAnObject root) h in
           absurd (few (Scanned.fault_lies level_limit form (refusal NotAnObject root) l.one))
         where
@@ -192,8 +192,8 @@ module _ (table : List ℕ) (root : ℕ) (form : List ℕ) where
           few (inr x) = let n = x.most in omega arith
 
       by : (x : Option Refusal) → table_fault table ≡ x → NoObject table root
-      by none e = under e (object_at (image_of table) root) refl
-      by (some x) e =
+      by None e = under e (object_at (image_of table) root) refl
+      by (Some x) e =
           let k : x ≡ refusal NotAnObject root = same_refusal (rw e at h) in
           absurd (never ((TableRuleLaws.no_table table (refusal NotAnObject root)).0 (rw k at e)))
         where

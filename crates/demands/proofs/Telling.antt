@@ -2,7 +2,7 @@
 use mathlib.Core.Path.{◌≡◌, refl, sym, subst}
 use mathlib.Core.Logic.{◌⊎◌, inl, inr}
 use mathlib.Core.Bool.{Bool}
-use mathlib.Core.Option.{Option, none, some}
+use Rattle.std.specs.Prelude.{Option, None, Some}
 use mathlib.Core.List.{List}
 use Prim.Native.Nat.{ℕ}
 use lib.ListN.{length}
@@ -81,18 +81,18 @@ judge_told_lem : (table : List ℕ) (root : ℕ) (form : List ℕ) (r : Refusal)
 unfolding number_of judge_answer
 judge_told_lem table root form r h = by (table_fault table) refl
   where
-    under : table_fault table ≡ none → (o : Option Object) → object_at (image_of table) root ≡ o
+    under : table_fault table ≡ None → (o : Option Object) → object_at (image_of table) root ≡ o
         → Told (InTable table) r ⊎ Told (AsAsked root) r ⊎ DataTold form r
-    under e none f =
+    under e None f =
         let k : refusal NotAnObject root ≡ r = same_refusal (rw (e, f) at h) in
         inr (inl (subst (Told (AsAsked root)) k (record { sort = Numbers.asked; row = Numbers.not_an_object; place = as_asked })))
-    under e (some o) f =
+    under e (Some o) f =
         let l = unread_least table root form o (SaysLaws.says_there table root o e f) r h in
         inr (inr (record { told = text_told form r (Scanned.fault_lies level_limit form r l.one); cause = Scanned.fault_of_lem level_limit form r l.one }))
 
     by : (t : Option Refusal) → table_fault table ≡ t → Told (InTable table) r ⊎ Told (AsAsked root) r ⊎ DataTold form r
-    by none e = under e (object_at (image_of table) root) refl
-    by (some x) e = inl (table_told table r ((TableRuleLaws.no_table table r).0 (let k : x ≡ r = same_refusal (rw e at h) in rw k at e)))
+    by None e = under e (object_at (image_of table) root) refl
+    by (Some x) e = inl (table_told table r ((TableRuleLaws.no_table table r).0 (let k : x ≡ r = same_refusal (rw e at h) in rw k at e)))
 
 pub demand1 : Demand1
 unfolding compile_answer merge_answer

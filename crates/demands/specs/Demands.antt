@@ -12,7 +12,7 @@
 -- `tests/contracts check` sees that these functions promise these definitions. The rules are document 01's, as relations of the layers that they speak of; no relation is defined by the
 -- definition that it is proved one with, which `tests/contracts check` sees to as well. Assumes nothing.
 use Rattle.std.specs.Prelude.{◌≡◌, ◌↔◌, ◌⊎◌, ◌≢◌, Bool, true, List, [], ◌∷◌, ◌++◌, ℕ, ◌+◌, ◌^◌, ◌≤◌, ◌<◌, length, take, drop}
-use Rattle.std.proofs.Math.Option.{none, some}
+use Rattle.std.specs.Prelude.{None, Some}
 use Rattle.lexis.specs.Blanks.{token_start}
 use Rattle.lexis.specs.Tokens.{token_at}
 use Rattle.lexis.specs.DataTokens.{data_token_at, type_token_at}
@@ -66,7 +66,7 @@ pub record Demand1 : Type 0 where
   pub numbered : (c : Cause) → (p : PlaceSort) × NumberRow c (number_of c) p
   pub compile_told_lem : (text : List ℕ) (little : Bool) (out : List ℕ) (r : Refusal)
       → (compile_answer text little out).answer ≡ Outcomes.refused r → Told (InText text) r ⊎ Told (AtEnd text) r
-  pub check_told_lem : (table : List ℕ) (r : Refusal) → table_fault table ≡ some r → Told (InTable table) r
+  pub check_told_lem : (table : List ℕ) (r : Refusal) → table_fault table ≡ Some r → Told (InTable table) r
   pub merge_told_lem : (q : MergeRequest) (out : List ℕ) (r : MergeRefusal) → (merge_answer q out).answer ≡ Outcomes.refused r
       → MergeTold q r
   pub judge_told_lem : (table : List ℕ) (root : ℕ) (form : List ℕ) (r : Refusal)
@@ -101,11 +101,11 @@ pub record Demand2 : Type 0 where
   pub data_tokens : (s : List ℕ) (from : ℕ) (t : Token) → (data_token_at s from ≡ t) ↔ NextDataIs Classed s from t
   pub type_tokens : (s : List ℕ) (from : ℕ) (t : Token) → (type_token_at s from ≡ t) ↔ NextDataIs ClassedBehind s from t
   -- 'Data text': "it is good if it reads as at least one of: True or False; an integer; a date ..; a time .. with optional zone"
-  pub booleans : (w : List ℕ) (b : ℕ) → (boolean_of w ≡ some b) ↔ IsBoolean w b
-  pub integers : (w : List ℕ) (v : ℕ) → (integer_of w ≡ some v) ↔ IsInteger w v
-  pub dates : (w : List ℕ) (d : Date) → (date_of w ≡ some d) ↔ IsDate w d
+  pub booleans : (w : List ℕ) (b : ℕ) → (boolean_of w ≡ Some b) ↔ IsBoolean w b
+  pub integers : (w : List ℕ) (v : ℕ) → (integer_of w ≡ Some v) ↔ IsInteger w v
+  pub dates : (w : List ℕ) (d : Date) → (date_of w ≡ Some d) ↔ IsDate w d
   pub zones : (w : List ℕ) → (zone w ≡ true) ↔ IsZone w
-  pub times : (w : List ℕ) (parts : ℕ) → (time_of w ≡ some parts) ↔ IsTime w parts
+  pub times : (w : List ℕ) (parts : ℕ) → (time_of w ≡ Some parts) ↔ IsTime w parts
   pub words : (w : List ℕ) → (good w ≡ true) ↔ IsGood w
   -- 'Constraint text': "object: TYPE, optional [code], `matches {`, then `*` or one or more attributes, `}`. The text is one object". Accepted exactly where the productions derive a tree whose
   -- table the output has room for; they derive at most one.
@@ -141,8 +141,8 @@ pub record Demand2 : Type 0 where
       → (compile_answer text little out).answer ≡ Outcomes.refused r → number_of r.cause ≢ 10
   -- 'Table', and 12 and 13 of 'Numbers of refusal': the check passes exactly where the bytes are a table, and tells why they are none
   pub passes : (bs : List ℕ)
-      → (table_fault bs ≡ none) ↔ ((count : ℕ) × (pool : ℕ) × (root : ℕ) × IsTable bs count pool root)
-  pub broken : (bs : List ℕ) (r : Refusal) → (table_fault bs ≡ some r) ↔ NoTable bs r
+      → (table_fault bs ≡ None) ↔ ((count : ℕ) × (pool : ℕ) × (root : ℕ) × IsTable bs count pool root)
+  pub broken : (bs : List ℕ) (r : Refusal) → (table_fault bs ≡ Some r) ↔ NoTable bs r
   -- An object of a table is there exactly where the record asked has the kind 1, and says one tree.
   pub object_there : (bs : List ℕ) (n count pool root : ℕ) → IsTable bs count pool root → n < count → KindAt bs n 1
       → (o : Object) × Says bs n o

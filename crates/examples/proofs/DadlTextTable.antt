@@ -1,7 +1,7 @@
 -- Blocks, members, leaves, words and limits. The expectations are the second implementation's.
 -- This file is written by `example_tables write` of second/. Assumes nothing.
 use mathlib.Core.Path.{◌≡◌, refl}
-use mathlib.Core.Option.{none, some}
+use Rattle.std.specs.Prelude.{None, Some}
 use mathlib.Core.List.{List, [], ◌∷◌}
 use lib.ListN.{replicate}
 use Rattle.lexis.specs.Text.{bytes}
@@ -14,13 +14,13 @@ use Rattle.dadl.proofs.Examples.{Case, accepts, refuses, right}
 pub cases : List Case
 cases =
     -- the smallest texts, cut off at each token, and with a token too many
-    accepts (bytes "<>") (datum 0 none no_more)
-    ∷ accepts (bytes "(T)<>") (datum 3 (some (bytes "T")) no_more)
-    ∷ accepts (bytes "( T ) < >") (datum 6 (some (bytes "T")) no_more)
-    ∷ accepts (bytes "<a=<>>") (datum 0 none (member (bytes "a") (block (datum 3 none no_more)) no_more))
-    ∷ accepts (bytes "<a=<5>>") (datum 0 none (member (bytes "a") (word 3 (bytes "5")) no_more))
-    ∷ accepts (bytes "<a=(T)<>>") (datum 0 none (member (bytes "a") (block (datum 6 (some (bytes "T")) no_more)) no_more))
-    ∷ accepts (bytes "(T)<a=(U)<b=<5>>>") (datum 3 (some (bytes "T")) (member (bytes "a") (block (datum 9 (some (bytes "U")) (member (bytes "b") (word 12 (bytes "5")) no_more))) no_more))
+    accepts (bytes "<>") (datum 0 None no_more)
+    ∷ accepts (bytes "(T)<>") (datum 3 (Some (bytes "T")) no_more)
+    ∷ accepts (bytes "( T ) < >") (datum 6 (Some (bytes "T")) no_more)
+    ∷ accepts (bytes "<a=<>>") (datum 0 None (member (bytes "a") (block (datum 3 None no_more)) no_more))
+    ∷ accepts (bytes "<a=<5>>") (datum 0 None (member (bytes "a") (word 3 (bytes "5")) no_more))
+    ∷ accepts (bytes "<a=(T)<>>") (datum 0 None (member (bytes "a") (block (datum 6 (Some (bytes "T")) no_more)) no_more))
+    ∷ accepts (bytes "(T)<a=(U)<b=<5>>>") (datum 3 (Some (bytes "T")) (member (bytes "a") (block (datum 9 (Some (bytes "U")) (member (bytes "b") (word 12 (bytes "5")) no_more))) no_more))
     ∷ refuses [] 2 0
     ∷ refuses (bytes " \r\n") 2 3
     ∷ refuses (bytes "<") 2 1
@@ -60,37 +60,37 @@ cases =
     ∷ refuses (bytes "<a=<5>,b=<6>>") 2 6
     ∷ refuses (bytes "<a=<5>;b=<6>>") 2 6
     -- members and blocks inside them, in text order
-    ∷ accepts (bytes "<a=<5>b=<\"x\">c=<>d=<e=<True>>>") (datum 0 none (member (bytes "a") (word 3 (bytes "5")) (member (bytes "b") (string 8 (bytes "x")) (member (bytes "c") (block (datum 15 none no_more)) (member (bytes "d") (block (datum 19 none (member (bytes "e") (word 22 (bytes "True")) no_more))) no_more)))))
-    ∷ accepts (bytes "< a = < 5 > b = (B) < c = < \"\" > > >") (datum 0 none (member (bytes "a") (word 6 (bytes "5")) (member (bytes "b") (block (datum 20 (some (bytes "B")) (member (bytes "c") (string 26 []) no_more))) no_more)))
-    ∷ accepts (bytes "<a=<b=<c=<5>>>>") (datum 0 none (member (bytes "a") (block (datum 3 none (member (bytes "b") (block (datum 6 none (member (bytes "c") (word 9 (bytes "5")) no_more))) no_more))) no_more))
-    ∷ accepts (bytes "<a=<b=<5>>b=<6>>") (datum 0 none (member (bytes "a") (block (datum 3 none (member (bytes "b") (word 6 (bytes "5")) no_more))) (member (bytes "b") (word 12 (bytes "6")) no_more)))
-    ∷ accepts (bytes "<a_B1=<5>>") (datum 0 none (member (bytes "a_B1") (word 6 (bytes "5")) no_more))
-    ∷ accepts (bytes "<a=(T)<a=(T)<>>>") (datum 0 none (member (bytes "a") (block (datum 6 (some (bytes "T")) (member (bytes "a") (block (datum 12 (some (bytes "T")) no_more)) no_more))) no_more))
-    ∷ accepts (bytes "<true=<True>>") (datum 0 none (member (bytes "true") (word 6 (bytes "True")) no_more))
-    ∷ accepts (bytes "<yyyy=<2004>>") (datum 0 none (member (bytes "yyyy") (word 6 (bytes "2004")) no_more))
+    ∷ accepts (bytes "<a=<5>b=<\"x\">c=<>d=<e=<True>>>") (datum 0 None (member (bytes "a") (word 3 (bytes "5")) (member (bytes "b") (string 8 (bytes "x")) (member (bytes "c") (block (datum 15 None no_more)) (member (bytes "d") (block (datum 19 None (member (bytes "e") (word 22 (bytes "True")) no_more))) no_more)))))
+    ∷ accepts (bytes "< a = < 5 > b = (B) < c = < \"\" > > >") (datum 0 None (member (bytes "a") (word 6 (bytes "5")) (member (bytes "b") (block (datum 20 (Some (bytes "B")) (member (bytes "c") (string 26 []) no_more))) no_more)))
+    ∷ accepts (bytes "<a=<b=<c=<5>>>>") (datum 0 None (member (bytes "a") (block (datum 3 None (member (bytes "b") (block (datum 6 None (member (bytes "c") (word 9 (bytes "5")) no_more))) no_more))) no_more))
+    ∷ accepts (bytes "<a=<b=<5>>b=<6>>") (datum 0 None (member (bytes "a") (block (datum 3 None (member (bytes "b") (word 6 (bytes "5")) no_more))) (member (bytes "b") (word 12 (bytes "6")) no_more)))
+    ∷ accepts (bytes "<a_B1=<5>>") (datum 0 None (member (bytes "a_B1") (word 6 (bytes "5")) no_more))
+    ∷ accepts (bytes "<a=(T)<a=(T)<>>>") (datum 0 None (member (bytes "a") (block (datum 6 (Some (bytes "T")) (member (bytes "a") (block (datum 12 (Some (bytes "T")) no_more)) no_more))) no_more))
+    ∷ accepts (bytes "<true=<True>>") (datum 0 None (member (bytes "true") (word 6 (bytes "True")) no_more))
+    ∷ accepts (bytes "<yyyy=<2004>>") (datum 0 None (member (bytes "yyyy") (word 6 (bytes "2004")) no_more))
     -- blanks and comments: a comment starts only where a token may
-    ∷ accepts (bytes "--\n<>") (datum 3 none no_more)
-    ∷ accepts (bytes "--\r<>") (datum 3 none no_more)
+    ∷ accepts (bytes "--\n<>") (datum 3 None no_more)
+    ∷ accepts (bytes "--\r<>") (datum 3 None no_more)
     ∷ refuses (bytes "--<>") 2 4
-    ∷ accepts (bytes "<--\n>") (datum 0 none no_more)
+    ∷ accepts (bytes "<--\n>") (datum 0 None no_more)
     ∷ refuses (bytes "<-- >") 2 5
     ∷ refuses (bytes "<a--\n=<5>>") 2 1
     ∷ refuses (bytes "<a--c=<5>>") 2 1
-    ∷ accepts (bytes "<a=--ÿ\0\r<5>>") (datum 0 none (member (bytes "a") (word 8 (bytes "5")) no_more))
-    ∷ accepts (bytes "<a=<--\n5>>") (datum 0 none (member (bytes "a") (word 3 (bytes "5")) no_more))
-    ∷ accepts (bytes "<a=<5 --c\n>>") (datum 0 none (member (bytes "a") (word 3 (bytes "5")) no_more))
+    ∷ accepts (bytes "<a=--ÿ\0\r<5>>") (datum 0 None (member (bytes "a") (word 8 (bytes "5")) no_more))
+    ∷ accepts (bytes "<a=<--\n5>>") (datum 0 None (member (bytes "a") (word 3 (bytes "5")) no_more))
+    ∷ accepts (bytes "<a=<5 --c\n>>") (datum 0 None (member (bytes "a") (word 3 (bytes "5")) no_more))
     ∷ refuses (bytes "<a=<5--c\n>>") 5 4
     ∷ refuses (bytes "<a=<5--c>>") 5 4
     ∷ refuses (bytes "<a=<--5>>") 2 9
     ∷ refuses (bytes "<a=<-5--c\n>>") 5 4
-    ∷ accepts (bytes "<>--") (datum 0 none no_more)
-    ∷ accepts (bytes "<>-- x") (datum 0 none no_more)
+    ∷ accepts (bytes "<>--") (datum 0 None no_more)
+    ∷ accepts (bytes "<>-- x") (datum 0 None no_more)
     ∷ refuses (bytes "<>-") 2 2
     ∷ refuses (bytes "(T--x\n)<>") 2 1
-    ∷ accepts (bytes "(--\nT)<>") (datum 6 (some (bytes "T")) no_more)
-    ∷ accepts (bytes "(T --x\n)<>") (datum 8 (some (bytes "T")) no_more)
-    ∷ accepts (bytes "<a=<\"--\">>") (datum 0 none (member (bytes "a") (string 3 (bytes "--")) no_more))
-    ∷ accepts (bytes "\t<\r>\n") (datum 1 none no_more)
+    ∷ accepts (bytes "(--\nT)<>") (datum 6 (Some (bytes "T")) no_more)
+    ∷ accepts (bytes "(T --x\n)<>") (datum 8 (Some (bytes "T")) no_more)
+    ∷ accepts (bytes "<a=<\"--\">>") (datum 0 None (member (bytes "a") (string 3 (bytes "--")) no_more))
+    ∷ accepts (bytes "\t<\r>\n") (datum 1 None no_more)
     ∷ refuses (bytes "<a=<5>\u{b}>") 2 6
     ∷ refuses (bytes "<a\0=<5>>") 2 2
     ∷ refuses (bytes "\u{c}<>") 2 0
@@ -99,8 +99,8 @@ cases =
     -- TYPEs: behind `(` a run is a TYPE or unreadable
     ∷ refuses (bytes "(True)<>") 2 1
     ∷ refuses (bytes "(False)<>") 2 1
-    ∷ accepts (bytes "(TRUE)<>") (datum 6 (some (bytes "TRUE")) no_more)
-    ∷ accepts (bytes "(T_1b)<>") (datum 6 (some (bytes "T_1b")) no_more)
+    ∷ accepts (bytes "(TRUE)<>") (datum 6 (Some (bytes "TRUE")) no_more)
+    ∷ accepts (bytes "(T_1b)<>") (datum 6 (Some (bytes "T_1b")) no_more)
     ∷ refuses (bytes "(t)<>") 2 1
     ∷ refuses (bytes "(T-U)<>") 2 1
     ∷ refuses (bytes "(T.U)<>") 2 1
@@ -116,16 +116,16 @@ cases =
     ∷ refuses (bytes "<a=(t)<>>") 2 4
     ∷ refuses (bytes "<a=(T-U)<>>") 2 4
     ∷ refuses (bytes "<a=(matches)<>>") 2 4
-    ∷ accepts (bytes "(Matches)<>") (datum 9 (some (bytes "Matches")) no_more)
-    ∷ accepts (bytes "(Pd)<>") (datum 4 (some (bytes "Pd")) no_more)
-    ∷ accepts (bytes "(P5d)<>") (datum 5 (some (bytes "P5d")) no_more)
+    ∷ accepts (bytes "(Matches)<>") (datum 9 (Some (bytes "Matches")) no_more)
+    ∷ accepts (bytes "(Pd)<>") (datum 4 (Some (bytes "Pd")) no_more)
+    ∷ accepts (bytes "(P5d)<>") (datum 5 (Some (bytes "P5d")) no_more)
     ∷ refuses (bytes "(-P5d)<>") 2 1
     ∷ refuses (bytes "<Pd = <5>>") 2 1
     ∷ refuses (bytes "<P5d=<5>>") 2 1
     -- NAMEs: a run that opens with a small letter is a NAME or unreadable, and a keyword is none
     ∷ refuses (bytes "<matches=<5>>") 2 1
     ∷ refuses (bytes "<existence=<5>>") 2 1
-    ∷ accepts (bytes "<matchesx=<5>>") (datum 0 none (member (bytes "matchesx") (word 10 (bytes "5")) no_more))
+    ∷ accepts (bytes "<matchesx=<5>>") (datum 0 None (member (bytes "matchesx") (word 10 (bytes "5")) no_more))
     ∷ refuses (bytes "<a-b=<5>>") 2 1
     ∷ refuses (bytes "<a.b=<5>>") 2 1
     ∷ refuses (bytes "<a:b=<5>>") 2 1
@@ -137,7 +137,7 @@ cases =
     ∷ refuses (bytes "<a=<matches>>") 2 4
     ∷ refuses (bytes "<a=<b.c>>") 2 4
     ∷ refuses (bytes "<a=<true>>") 2 8
-    ∷ accepts (bytes "<a=<b=<5>>>") (datum 0 none (member (bytes "a") (block (datum 3 none (member (bytes "b") (word 6 (bytes "5")) no_more))) no_more))
+    ∷ accepts (bytes "<a=<b=<5>>>") (datum 0 None (member (bytes "a") (block (datum 3 None (member (bytes "b") (word 6 (bytes "5")) no_more))) no_more))
     ∷ refuses (bytes "<a=<b-c>>") 2 4
     ∷ refuses (bytes "<a=(T)<b-c=<5>>>") 2 7
     ∷ refuses (bytes "<\"a\"=<5>>") 2 1
@@ -166,11 +166,11 @@ cases =
     ∷ refuses (bytes "<a=<=>>") 2 4
     ∷ refuses (bytes "<a=<*>>") 2 4
     -- strings
-    ∷ accepts (bytes "<a=<\"\">>") (datum 0 none (member (bytes "a") (string 3 []) no_more))
-    ∷ accepts (bytes "<a=<\"a b\">>") (datum 0 none (member (bytes "a") (string 3 (bytes "a b")) no_more))
-    ∷ accepts (bytes "<a=<\" ~\">>") (datum 0 none (member (bytes "a") (string 3 (bytes " ~")) no_more))
-    ∷ accepts (bytes "<a=<\"<>=()\">>") (datum 0 none (member (bytes "a") (string 3 (bytes "<>=()")) no_more))
-    ∷ accepts (bytes "<a=<\"5\">>") (datum 0 none (member (bytes "a") (string 3 (bytes "5")) no_more))
+    ∷ accepts (bytes "<a=<\"\">>") (datum 0 None (member (bytes "a") (string 3 []) no_more))
+    ∷ accepts (bytes "<a=<\"a b\">>") (datum 0 None (member (bytes "a") (string 3 (bytes "a b")) no_more))
+    ∷ accepts (bytes "<a=<\" ~\">>") (datum 0 None (member (bytes "a") (string 3 (bytes " ~")) no_more))
+    ∷ accepts (bytes "<a=<\"<>=()\">>") (datum 0 None (member (bytes "a") (string 3 (bytes "<>=()")) no_more))
+    ∷ accepts (bytes "<a=<\"5\">>") (datum 0 None (member (bytes "a") (string 3 (bytes "5")) no_more))
     ∷ refuses (bytes "<a=<\"a>>") 2 4
     ∷ refuses (bytes "<a=<\"a\\\"b\">>") 2 4
     ∷ refuses (bytes "<a=<\"\\\">>") 2 4
@@ -181,60 +181,60 @@ cases =
     ∷ refuses (bytes "<a=<\"\n\">>") 2 4
     ∷ refuses (bytes "<a=<\"\0\">>") 2 4
     -- words that are good
-    ∷ accepts (bytes "<a=<True>>") (datum 0 none (member (bytes "a") (word 3 (bytes "True")) no_more))
-    ∷ accepts (bytes "<a=<False>>") (datum 0 none (member (bytes "a") (word 3 (bytes "False")) no_more))
-    ∷ accepts (bytes "<a=<0>>") (datum 0 none (member (bytes "a") (word 3 (bytes "0")) no_more))
-    ∷ accepts (bytes "<a=<5>>") (datum 0 none (member (bytes "a") (word 3 (bytes "5")) no_more))
-    ∷ accepts (bytes "<a=<-5>>") (datum 0 none (member (bytes "a") (word 3 (bytes "-5")) no_more))
-    ∷ accepts (bytes "<a=<24>>") (datum 0 none (member (bytes "a") (word 3 (bytes "24")) no_more))
-    ∷ accepts (bytes "<a=<99>>") (datum 0 none (member (bytes "a") (word 3 (bytes "99")) no_more))
-    ∷ accepts (bytes "<a=<2147483647>>") (datum 0 none (member (bytes "a") (word 3 (bytes "2147483647")) no_more))
-    ∷ accepts (bytes "<a=<-2147483648>>") (datum 0 none (member (bytes "a") (word 3 (bytes "-2147483648")) no_more))
-    ∷ accepts (bytes "<a=<08>>") (datum 0 none (member (bytes "a") (word 3 (bytes "08")) no_more))
-    ∷ accepts (bytes "<a=<00>>") (datum 0 none (member (bytes "a") (word 3 (bytes "00")) no_more))
-    ∷ accepts (bytes "<a=<23>>") (datum 0 none (member (bytes "a") (word 3 (bytes "23")) no_more))
-    ∷ accepts (bytes "<a=<0000>>") (datum 0 none (member (bytes "a") (word 3 (bytes "0000")) no_more))
-    ∷ accepts (bytes "<a=<2004>>") (datum 0 none (member (bytes "a") (word 3 (bytes "2004")) no_more))
-    ∷ accepts (bytes "<a=<9999>>") (datum 0 none (member (bytes "a") (word 3 (bytes "9999")) no_more))
-    ∷ accepts (bytes "<a=<20040520>>") (datum 0 none (member (bytes "a") (word 3 (bytes "20040520")) no_more))
-    ∷ accepts (bytes "<a=<2004-05>>") (datum 0 none (member (bytes "a") (word 3 (bytes "2004-05")) no_more))
-    ∷ accepts (bytes "<a=<2004-12>>") (datum 0 none (member (bytes "a") (word 3 (bytes "2004-12")) no_more))
-    ∷ accepts (bytes "<a=<2004-05-20>>") (datum 0 none (member (bytes "a") (word 3 (bytes "2004-05-20")) no_more))
-    ∷ accepts (bytes "<a=<2000-02-29>>") (datum 0 none (member (bytes "a") (word 3 (bytes "2000-02-29")) no_more))
-    ∷ accepts (bytes "<a=<0000-01-01>>") (datum 0 none (member (bytes "a") (word 3 (bytes "0000-01-01")) no_more))
-    ∷ accepts (bytes "<a=<9999-12-31>>") (datum 0 none (member (bytes "a") (word 3 (bytes "9999-12-31")) no_more))
-    ∷ accepts (bytes "<a=<10:30>>") (datum 0 none (member (bytes "a") (word 3 (bytes "10:30")) no_more))
-    ∷ accepts (bytes "<a=<10:30:59>>") (datum 0 none (member (bytes "a") (word 3 (bytes "10:30:59")) no_more))
-    ∷ accepts (bytes "<a=<23:59:59>>") (datum 0 none (member (bytes "a") (word 3 (bytes "23:59:59")) no_more))
-    ∷ accepts (bytes "<a=<00:00:00>>") (datum 0 none (member (bytes "a") (word 3 (bytes "00:00:00")) no_more))
-    ∷ accepts (bytes "<a=<08Z>>") (datum 0 none (member (bytes "a") (word 3 (bytes "08Z")) no_more))
-    ∷ accepts (bytes "<a=<08:30Z>>") (datum 0 none (member (bytes "a") (word 3 (bytes "08:30Z")) no_more))
-    ∷ accepts (bytes "<a=<08:30:00Z>>") (datum 0 none (member (bytes "a") (word 3 (bytes "08:30:00Z")) no_more))
-    ∷ accepts (bytes "<a=<08+05>>") (datum 0 none (member (bytes "a") (word 3 (bytes "08+05")) no_more))
-    ∷ accepts (bytes "<a=<08+05:30>>") (datum 0 none (member (bytes "a") (word 3 (bytes "08+05:30")) no_more))
-    ∷ accepts (bytes "<a=<08:30+05>>") (datum 0 none (member (bytes "a") (word 3 (bytes "08:30+05")) no_more))
-    ∷ accepts (bytes "<a=<08:30:00+05:30>>") (datum 0 none (member (bytes "a") (word 3 (bytes "08:30:00+05:30")) no_more))
-    ∷ accepts (bytes "<a=<08+13>>") (datum 0 none (member (bytes "a") (word 3 (bytes "08+13")) no_more))
-    ∷ accepts (bytes "<a=<08+13:59>>") (datum 0 none (member (bytes "a") (word 3 (bytes "08+13:59")) no_more))
-    ∷ accepts (bytes "<a=<08-12>>") (datum 0 none (member (bytes "a") (word 3 (bytes "08-12")) no_more))
-    ∷ accepts (bytes "<a=<08-12:59>>") (datum 0 none (member (bytes "a") (word 3 (bytes "08-12:59")) no_more))
-    ∷ accepts (bytes "<a=<08-00:30>>") (datum 0 none (member (bytes "a") (word 3 (bytes "08-00:30")) no_more))
-    ∷ accepts (bytes "<a=<08-00:01>>") (datum 0 none (member (bytes "a") (word 3 (bytes "08-00:01")) no_more))
-    ∷ accepts (bytes "<a=<08-01>>") (datum 0 none (member (bytes "a") (word 3 (bytes "08-01")) no_more))
-    ∷ accepts (bytes "<a=<08-01:00>>") (datum 0 none (member (bytes "a") (word 3 (bytes "08-01:00")) no_more))
-    ∷ accepts (bytes "<a=<08+00>>") (datum 0 none (member (bytes "a") (word 3 (bytes "08+00")) no_more))
-    ∷ accepts (bytes "<a=<08+00:00>>") (datum 0 none (member (bytes "a") (word 3 (bytes "08+00:00")) no_more))
-    ∷ accepts (bytes "<a=<12-12>>") (datum 0 none (member (bytes "a") (word 3 (bytes "12-12")) no_more))
+    ∷ accepts (bytes "<a=<True>>") (datum 0 None (member (bytes "a") (word 3 (bytes "True")) no_more))
+    ∷ accepts (bytes "<a=<False>>") (datum 0 None (member (bytes "a") (word 3 (bytes "False")) no_more))
+    ∷ accepts (bytes "<a=<0>>") (datum 0 None (member (bytes "a") (word 3 (bytes "0")) no_more))
+    ∷ accepts (bytes "<a=<5>>") (datum 0 None (member (bytes "a") (word 3 (bytes "5")) no_more))
+    ∷ accepts (bytes "<a=<-5>>") (datum 0 None (member (bytes "a") (word 3 (bytes "-5")) no_more))
+    ∷ accepts (bytes "<a=<24>>") (datum 0 None (member (bytes "a") (word 3 (bytes "24")) no_more))
+    ∷ accepts (bytes "<a=<99>>") (datum 0 None (member (bytes "a") (word 3 (bytes "99")) no_more))
+    ∷ accepts (bytes "<a=<2147483647>>") (datum 0 None (member (bytes "a") (word 3 (bytes "2147483647")) no_more))
+    ∷ accepts (bytes "<a=<-2147483648>>") (datum 0 None (member (bytes "a") (word 3 (bytes "-2147483648")) no_more))
+    ∷ accepts (bytes "<a=<08>>") (datum 0 None (member (bytes "a") (word 3 (bytes "08")) no_more))
+    ∷ accepts (bytes "<a=<00>>") (datum 0 None (member (bytes "a") (word 3 (bytes "00")) no_more))
+    ∷ accepts (bytes "<a=<23>>") (datum 0 None (member (bytes "a") (word 3 (bytes "23")) no_more))
+    ∷ accepts (bytes "<a=<0000>>") (datum 0 None (member (bytes "a") (word 3 (bytes "0000")) no_more))
+    ∷ accepts (bytes "<a=<2004>>") (datum 0 None (member (bytes "a") (word 3 (bytes "2004")) no_more))
+    ∷ accepts (bytes "<a=<9999>>") (datum 0 None (member (bytes "a") (word 3 (bytes "9999")) no_more))
+    ∷ accepts (bytes "<a=<20040520>>") (datum 0 None (member (bytes "a") (word 3 (bytes "20040520")) no_more))
+    ∷ accepts (bytes "<a=<2004-05>>") (datum 0 None (member (bytes "a") (word 3 (bytes "2004-05")) no_more))
+    ∷ accepts (bytes "<a=<2004-12>>") (datum 0 None (member (bytes "a") (word 3 (bytes "2004-12")) no_more))
+    ∷ accepts (bytes "<a=<2004-05-20>>") (datum 0 None (member (bytes "a") (word 3 (bytes "2004-05-20")) no_more))
+    ∷ accepts (bytes "<a=<2000-02-29>>") (datum 0 None (member (bytes "a") (word 3 (bytes "2000-02-29")) no_more))
+    ∷ accepts (bytes "<a=<0000-01-01>>") (datum 0 None (member (bytes "a") (word 3 (bytes "0000-01-01")) no_more))
+    ∷ accepts (bytes "<a=<9999-12-31>>") (datum 0 None (member (bytes "a") (word 3 (bytes "9999-12-31")) no_more))
+    ∷ accepts (bytes "<a=<10:30>>") (datum 0 None (member (bytes "a") (word 3 (bytes "10:30")) no_more))
+    ∷ accepts (bytes "<a=<10:30:59>>") (datum 0 None (member (bytes "a") (word 3 (bytes "10:30:59")) no_more))
+    ∷ accepts (bytes "<a=<23:59:59>>") (datum 0 None (member (bytes "a") (word 3 (bytes "23:59:59")) no_more))
+    ∷ accepts (bytes "<a=<00:00:00>>") (datum 0 None (member (bytes "a") (word 3 (bytes "00:00:00")) no_more))
+    ∷ accepts (bytes "<a=<08Z>>") (datum 0 None (member (bytes "a") (word 3 (bytes "08Z")) no_more))
+    ∷ accepts (bytes "<a=<08:30Z>>") (datum 0 None (member (bytes "a") (word 3 (bytes "08:30Z")) no_more))
+    ∷ accepts (bytes "<a=<08:30:00Z>>") (datum 0 None (member (bytes "a") (word 3 (bytes "08:30:00Z")) no_more))
+    ∷ accepts (bytes "<a=<08+05>>") (datum 0 None (member (bytes "a") (word 3 (bytes "08+05")) no_more))
+    ∷ accepts (bytes "<a=<08+05:30>>") (datum 0 None (member (bytes "a") (word 3 (bytes "08+05:30")) no_more))
+    ∷ accepts (bytes "<a=<08:30+05>>") (datum 0 None (member (bytes "a") (word 3 (bytes "08:30+05")) no_more))
+    ∷ accepts (bytes "<a=<08:30:00+05:30>>") (datum 0 None (member (bytes "a") (word 3 (bytes "08:30:00+05:30")) no_more))
+    ∷ accepts (bytes "<a=<08+13>>") (datum 0 None (member (bytes "a") (word 3 (bytes "08+13")) no_more))
+    ∷ accepts (bytes "<a=<08+13:59>>") (datum 0 None (member (bytes "a") (word 3 (bytes "08+13:59")) no_more))
+    ∷ accepts (bytes "<a=<08-12>>") (datum 0 None (member (bytes "a") (word 3 (bytes "08-12")) no_more))
+    ∷ accepts (bytes "<a=<08-12:59>>") (datum 0 None (member (bytes "a") (word 3 (bytes "08-12:59")) no_more))
+    ∷ accepts (bytes "<a=<08-00:30>>") (datum 0 None (member (bytes "a") (word 3 (bytes "08-00:30")) no_more))
+    ∷ accepts (bytes "<a=<08-00:01>>") (datum 0 None (member (bytes "a") (word 3 (bytes "08-00:01")) no_more))
+    ∷ accepts (bytes "<a=<08-01>>") (datum 0 None (member (bytes "a") (word 3 (bytes "08-01")) no_more))
+    ∷ accepts (bytes "<a=<08-01:00>>") (datum 0 None (member (bytes "a") (word 3 (bytes "08-01:00")) no_more))
+    ∷ accepts (bytes "<a=<08+00>>") (datum 0 None (member (bytes "a") (word 3 (bytes "08+00")) no_more))
+    ∷ accepts (bytes "<a=<08+00:00>>") (datum 0 None (member (bytes "a") (word 3 (bytes "08+00:00")) no_more))
+    ∷ accepts (bytes "<a=<12-12>>") (datum 0 None (member (bytes "a") (word 3 (bytes "12-12")) no_more))
     -- words that are durations
-    ∷ accepts (bytes "<a=<P12w3d>>") (datum 0 none (member (bytes "a") (word 3 (bytes "P12w3d")) no_more))
-    ∷ accepts (bytes "<a=<P12W3D>>") (datum 0 none (member (bytes "a") (word 3 (bytes "P12W3D")) no_more))
-    ∷ accepts (bytes "<a=<-P5d>>") (datum 0 none (member (bytes "a") (word 3 (bytes "-P5d")) no_more))
-    ∷ accepts (bytes "<a=<P0d>>") (datum 0 none (member (bytes "a") (word 3 (bytes "P0d")) no_more))
-    ∷ accepts (bytes "<a=<P0005d>>") (datum 0 none (member (bytes "a") (word 3 (bytes "P0005d")) no_more))
-    ∷ accepts (bytes "<a=<PT5M3S>>") (datum 0 none (member (bytes "a") (word 3 (bytes "PT5M3S")) no_more))
-    ∷ accepts (bytes "<a=<P1y2m3w4dT5h6m7s>>") (datum 0 none (member (bytes "a") (word 3 (bytes "P1y2m3w4dT5h6m7s")) no_more))
-    ∷ accepts (bytes "<a=<P9999y9999m9999w9999dT9999h9999m9999s>>") (datum 0 none (member (bytes "a") (word 3 (bytes "P9999y9999m9999w9999dT9999h9999m9999s")) no_more))
-    ∷ accepts (bytes "<a=<-P9999Y9999M9999W9999DT9999H9999M9999S>>") (datum 0 none (member (bytes "a") (word 3 (bytes "-P9999Y9999M9999W9999DT9999H9999M9999S")) no_more))
+    ∷ accepts (bytes "<a=<P12w3d>>") (datum 0 None (member (bytes "a") (word 3 (bytes "P12w3d")) no_more))
+    ∷ accepts (bytes "<a=<P12W3D>>") (datum 0 None (member (bytes "a") (word 3 (bytes "P12W3D")) no_more))
+    ∷ accepts (bytes "<a=<-P5d>>") (datum 0 None (member (bytes "a") (word 3 (bytes "-P5d")) no_more))
+    ∷ accepts (bytes "<a=<P0d>>") (datum 0 None (member (bytes "a") (word 3 (bytes "P0d")) no_more))
+    ∷ accepts (bytes "<a=<P0005d>>") (datum 0 None (member (bytes "a") (word 3 (bytes "P0005d")) no_more))
+    ∷ accepts (bytes "<a=<PT5M3S>>") (datum 0 None (member (bytes "a") (word 3 (bytes "PT5M3S")) no_more))
+    ∷ accepts (bytes "<a=<P1y2m3w4dT5h6m7s>>") (datum 0 None (member (bytes "a") (word 3 (bytes "P1y2m3w4dT5h6m7s")) no_more))
+    ∷ accepts (bytes "<a=<P9999y9999m9999w9999dT9999h9999m9999s>>") (datum 0 None (member (bytes "a") (word 3 (bytes "P9999y9999m9999w9999dT9999h9999m9999s")) no_more))
+    ∷ accepts (bytes "<a=<-P9999Y9999M9999W9999DT9999H9999M9999S>>") (datum 0 None (member (bytes "a") (word 3 (bytes "-P9999Y9999M9999W9999DT9999H9999M9999S")) no_more))
     -- words that are nearly durations
     ∷ refuses (bytes "<a=<P>>") 5 4
     ∷ refuses (bytes "<a=<PT>>") 5 4
@@ -334,10 +334,10 @@ cases =
     ∷ refuses (bytes "<a=<2004-02-30>>") 5 4
     ∷ refuses (bytes "<a=<2004-00-10>>") 5 4
     ∷ refuses (bytes "<a=<2004-05-00>>") 5 4
-    ∷ accepts (bytes "<a=<200>>") (datum 0 none (member (bytes "a") (word 3 (bytes "200")) no_more))
+    ∷ accepts (bytes "<a=<200>>") (datum 0 None (member (bytes "a") (word 3 (bytes "200")) no_more))
     ∷ refuses (bytes "<a=<02004>>") 5 4
     ∷ refuses (bytes "<a=<12004-05-20>>") 5 4
-    ∷ accepts (bytes "<a=<-2004>>") (datum 0 none (member (bytes "a") (word 3 (bytes "-2004")) no_more))
+    ∷ accepts (bytes "<a=<-2004>>") (datum 0 None (member (bytes "a") (word 3 (bytes "-2004")) no_more))
     ∷ refuses (bytes "<a=<-2004-05-20>>") 5 4
     ∷ refuses (bytes "<a=<2004-05-20Z>>") 5 4
     ∷ refuses (bytes "<a=<2004-05-20T10:00:00>>") 5 4
@@ -364,36 +364,36 @@ cases =
     ∷ refuses (bytes "(true)<a=<5x>>") 2 1
     ∷ refuses (bytes "<a=<24:00:00>a=<>>") 5 4
     -- names: one that begins like another is another; a repeated one is told where it first comes again
-    ∷ accepts (bytes "<a=<5>ab=<5>>") (datum 0 none (member (bytes "a") (word 3 (bytes "5")) (member (bytes "ab") (word 9 (bytes "5")) no_more)))
-    ∷ accepts (bytes "<ab=<5>a=<5>>") (datum 0 none (member (bytes "ab") (word 4 (bytes "5")) (member (bytes "a") (word 9 (bytes "5")) no_more)))
-    ∷ accepts (bytes "<a=<5>aB=<5>ab=<5>>") (datum 0 none (member (bytes "a") (word 3 (bytes "5")) (member (bytes "aB") (word 9 (bytes "5")) (member (bytes "ab") (word 15 (bytes "5")) no_more))))
+    ∷ accepts (bytes "<a=<5>ab=<5>>") (datum 0 None (member (bytes "a") (word 3 (bytes "5")) (member (bytes "ab") (word 9 (bytes "5")) no_more)))
+    ∷ accepts (bytes "<ab=<5>a=<5>>") (datum 0 None (member (bytes "ab") (word 4 (bytes "5")) (member (bytes "a") (word 9 (bytes "5")) no_more)))
+    ∷ accepts (bytes "<a=<5>aB=<5>ab=<5>>") (datum 0 None (member (bytes "a") (word 3 (bytes "5")) (member (bytes "aB") (word 9 (bytes "5")) (member (bytes "ab") (word 15 (bytes "5")) no_more))))
     ∷ refuses (bytes "<a=<>b=<>b=<>a=<>>") 9 9
-    ∷ accepts (bytes "<a=<a=<5>>>") (datum 0 none (member (bytes "a") (block (datum 3 none (member (bytes "a") (word 6 (bytes "5")) no_more))) no_more))
+    ∷ accepts (bytes "<a=<a=<5>>>") (datum 0 None (member (bytes "a") (block (datum 3 None (member (bytes "a") (word 6 (bytes "5")) no_more))) no_more))
     ∷ refuses (bytes "<a=<a=<5>a=<5>>>") 9 9
     ∷ refuses (bytes "<a=<b=<5>>b=<5>c=<>a=<>>") 9 19
     ∷ refuses (bytes "<a=<>a=<>a=<>>") 9 5
     -- types and names of 63 bytes and of 64
-    ∷ accepts (bytes "(Abcdefghijklmnopqrstuvwxyz_0123456789_ABCDEFGHIJKLMNOPQRSTUVWXY)<>") (datum 65 (some (bytes "Abcdefghijklmnopqrstuvwxyz_0123456789_ABCDEFGHIJKLMNOPQRSTUVWXY")) no_more)
+    ∷ accepts (bytes "(Abcdefghijklmnopqrstuvwxyz_0123456789_ABCDEFGHIJKLMNOPQRSTUVWXY)<>") (datum 65 (Some (bytes "Abcdefghijklmnopqrstuvwxyz_0123456789_ABCDEFGHIJKLMNOPQRSTUVWXY")) no_more)
     ∷ refuses (bytes "(Abcdefghijklmnopqrstuvwxyz_0123456789_ABCDEFGHIJKLMNOPQRSTUVWXYZ)<>") 4 1
     ∷ refuses (bytes "(Abcdefghijklmnopqrstuvwxyz_0123456789_ABCDEFGHIJKLMNOPQRSTUVWXYZ") 4 1
     ∷ refuses (bytes "(Abcdefghijklmnopqrstuvwxyz_0123456789_ABCDEFGHIJKLMNOPQRSTUVWXY-)<>") 2 1
-    ∷ accepts (bytes "<a=(Abcdefghijklmnopqrstuvwxyz_0123456789_ABCDEFGHIJKLMNOPQRSTUVWXY)<>>") (datum 0 none (member (bytes "a") (block (datum 68 (some (bytes "Abcdefghijklmnopqrstuvwxyz_0123456789_ABCDEFGHIJKLMNOPQRSTUVWXY")) no_more)) no_more))
+    ∷ accepts (bytes "<a=(Abcdefghijklmnopqrstuvwxyz_0123456789_ABCDEFGHIJKLMNOPQRSTUVWXY)<>>") (datum 0 None (member (bytes "a") (block (datum 68 (Some (bytes "Abcdefghijklmnopqrstuvwxyz_0123456789_ABCDEFGHIJKLMNOPQRSTUVWXY")) no_more)) no_more))
     ∷ refuses (bytes "<a=(Abcdefghijklmnopqrstuvwxyz_0123456789_ABCDEFGHIJKLMNOPQRSTUVWXYZ)<>>") 4 4
-    ∷ accepts (bytes "<abcdefghijklmnopqrstuvwxyz_0123456789_ABCDEFGHIJKLMNOPQRSTUVWXY=<5>>") (datum 0 none (member (bytes "abcdefghijklmnopqrstuvwxyz_0123456789_ABCDEFGHIJKLMNOPQRSTUVWXY") (word 65 (bytes "5")) no_more))
+    ∷ accepts (bytes "<abcdefghijklmnopqrstuvwxyz_0123456789_ABCDEFGHIJKLMNOPQRSTUVWXY=<5>>") (datum 0 None (member (bytes "abcdefghijklmnopqrstuvwxyz_0123456789_ABCDEFGHIJKLMNOPQRSTUVWXY") (word 65 (bytes "5")) no_more))
     ∷ refuses (bytes "<abcdefghijklmnopqrstuvwxyz_0123456789_ABCDEFGHIJKLMNOPQRSTUVWXYZ=<5>>") 4 1
     ∷ refuses (bytes "<abcdefghijklmnopqrstuvwxyz_0123456789_ABCDEFGHIJKLMNOPQRSTUVWXYZ") 4 1
     ∷ refuses (bytes "<abcdefghijklmnopqrstuvwxyz_0123456789_ABCDEFGHIJKLMNOPQRSTUVWXY-=<5>>") 2 1
     ∷ refuses (bytes "<abcdefghijklmnopqrstuvwxyz_0123456789_ABCDEFGHIJKLMNOPQRSTUVWXY=<5>abcdefghijklmnopqrstuvwxyz_0123456789_ABCDEFGHIJKLMNOPQRSTUVWXY=<5>>") 9 68
     ∷ refuses (bytes "<abcdefghijklmnopqrstuvwxyz_0123456789_ABCDEFGHIJKLMNOPQRSTUVWXYZ=<5>abcdefghijklmnopqrstuvwxyz_0123456789_ABCDEFGHIJKLMNOPQRSTUVWXYZ=<5>>") 4 1
     -- strings of 255 bytes and of 256; a word has no limit
-    ∷ accepts (bytes "<a=<\"xxxxxxxxxxxxxxxxxxxxxxxxxxxxxxxxxxxxxxxxxxxxxxxxxxxxxxxxxxxxxxxxxxxxxxxxxxxxxxxxxxxxxxxxxxxxxxxxxxxxxxxxxxxxxxxxxxxxxxxxxxxxxxxxxxxxxxxxxxxxxxxxxxxxxxxxxxxxxxxxxxxxxxxxxxxxxxxxxxxxxxxxxxxxxxxxxxxxxxxxxxxxxxxxxxxxxxxxxxxxxxxxxxxxxxxxxxxxxxxxxxxxxxxxxxxxxxx\">>") (datum 0 none (member (bytes "a") (string 3 (bytes "xxxxxxxxxxxxxxxxxxxxxxxxxxxxxxxxxxxxxxxxxxxxxxxxxxxxxxxxxxxxxxxxxxxxxxxxxxxxxxxxxxxxxxxxxxxxxxxxxxxxxxxxxxxxxxxxxxxxxxxxxxxxxxxxxxxxxxxxxxxxxxxxxxxxxxxxxxxxxxxxxxxxxxxxxxxxxxxxxxxxxxxxxxxxxxxxxxxxxxxxxxxxxxxxxxxxxxxxxxxxxxxxxxxxxxxxxxxxxxxxxxxxxxxxxxxxxxx")) no_more))
+    ∷ accepts (bytes "<a=<\"xxxxxxxxxxxxxxxxxxxxxxxxxxxxxxxxxxxxxxxxxxxxxxxxxxxxxxxxxxxxxxxxxxxxxxxxxxxxxxxxxxxxxxxxxxxxxxxxxxxxxxxxxxxxxxxxxxxxxxxxxxxxxxxxxxxxxxxxxxxxxxxxxxxxxxxxxxxxxxxxxxxxxxxxxxxxxxxxxxxxxxxxxxxxxxxxxxxxxxxxxxxxxxxxxxxxxxxxxxxxxxxxxxxxxxxxxxxxxxxxxxxxxxxxxxxxxxx\">>") (datum 0 None (member (bytes "a") (string 3 (bytes "xxxxxxxxxxxxxxxxxxxxxxxxxxxxxxxxxxxxxxxxxxxxxxxxxxxxxxxxxxxxxxxxxxxxxxxxxxxxxxxxxxxxxxxxxxxxxxxxxxxxxxxxxxxxxxxxxxxxxxxxxxxxxxxxxxxxxxxxxxxxxxxxxxxxxxxxxxxxxxxxxxxxxxxxxxxxxxxxxxxxxxxxxxxxxxxxxxxxxxxxxxxxxxxxxxxxxxxxxxxxxxxxxxxxxxxxxxxxxxxxxxxxxxxxxxxxxxx")) no_more))
     ∷ refuses (bytes "<a=<\"xxxxxxxxxxxxxxxxxxxxxxxxxxxxxxxxxxxxxxxxxxxxxxxxxxxxxxxxxxxxxxxxxxxxxxxxxxxxxxxxxxxxxxxxxxxxxxxxxxxxxxxxxxxxxxxxxxxxxxxxxxxxxxxxxxxxxxxxxxxxxxxxxxxxxxxxxxxxxxxxxxxxxxxxxxxxxxxxxxxxxxxxxxxxxxxxxxxxxxxxxxxxxxxxxxxxxxxxxxxxxxxxxxxxxxxxxxxxxxxxxxxxxxxxxxxxxxxx\">>") 4 4
     ∷ refuses (bytes "<a=<\"xxxxxxxxxxxxxxxxxxxxxxxxxxxxxxxxxxxxxxxxxxxxxxxxxxxxxxxxxxxxxxxxxxxxxxxxxxxxxxxxxxxxxxxxxxxxxxxxxxxxxxxxxxxxxxxxxxxxxxxxxxxxxxxxxxxxxxxxxxxxxxxxxxxxxxxxxxxxxxxxxxxxxxxxxxxxxxxxxxxxxxxxxxxxxxxxxxxxxxxxxxxxxxxxxxxxxxxxxxxxxxxxxxxxxxxxxxxxxxxxxxxxxxxxxxxxxxxx\"") 4 4
     ∷ refuses (bytes "<a=<1111111111111111111111111111111111111111111111111111111111111111111111111111111111111111111111111111111111111111111111111111111111111111111111111111111111111111111111111111111111111111111111111111111111111111111111111111111111111111111111111111111111111111>>") 5 4
     -- 16 levels and the 17th, told at its `<`; a leaf has no level
-    ∷ accepts (bytes "<a=<a=<a=<a=<a=<a=<a=<a=<a=<a=<a=<a=<a=<a=<a=<>>>>>>>>>>>>>>>>") (datum 0 none (member (bytes "a") (block (datum 3 none (member (bytes "a") (block (datum 6 none (member (bytes "a") (block (datum 9 none (member (bytes "a") (block (datum 12 none (member (bytes "a") (block (datum 15 none (member (bytes "a") (block (datum 18 none (member (bytes "a") (block (datum 21 none (member (bytes "a") (block (datum 24 none (member (bytes "a") (block (datum 27 none (member (bytes "a") (block (datum 30 none (member (bytes "a") (block (datum 33 none (member (bytes "a") (block (datum 36 none (member (bytes "a") (block (datum 39 none (member (bytes "a") (block (datum 42 none (member (bytes "a") (block (datum 45 none no_more)) no_more))) no_more))) no_more))) no_more))) no_more))) no_more))) no_more))) no_more))) no_more))) no_more))) no_more))) no_more))) no_more))) no_more))) no_more))
-    ∷ accepts (bytes "<a=<a=<a=<a=<a=<a=<a=<a=<a=<a=<a=<a=<a=<a=<a=<a=<5>>>>>>>>>>>>>>>>>") (datum 0 none (member (bytes "a") (block (datum 3 none (member (bytes "a") (block (datum 6 none (member (bytes "a") (block (datum 9 none (member (bytes "a") (block (datum 12 none (member (bytes "a") (block (datum 15 none (member (bytes "a") (block (datum 18 none (member (bytes "a") (block (datum 21 none (member (bytes "a") (block (datum 24 none (member (bytes "a") (block (datum 27 none (member (bytes "a") (block (datum 30 none (member (bytes "a") (block (datum 33 none (member (bytes "a") (block (datum 36 none (member (bytes "a") (block (datum 39 none (member (bytes "a") (block (datum 42 none (member (bytes "a") (block (datum 45 none (member (bytes "a") (word 48 (bytes "5")) no_more))) no_more))) no_more))) no_more))) no_more))) no_more))) no_more))) no_more))) no_more))) no_more))) no_more))) no_more))) no_more))) no_more))) no_more))) no_more))
-    ∷ accepts (bytes "<a=<a=<a=<a=<a=<a=<a=<a=<a=<a=<a=<a=<a=<a=<a=<a=<\"x\">>>>>>>>>>>>>>>>>") (datum 0 none (member (bytes "a") (block (datum 3 none (member (bytes "a") (block (datum 6 none (member (bytes "a") (block (datum 9 none (member (bytes "a") (block (datum 12 none (member (bytes "a") (block (datum 15 none (member (bytes "a") (block (datum 18 none (member (bytes "a") (block (datum 21 none (member (bytes "a") (block (datum 24 none (member (bytes "a") (block (datum 27 none (member (bytes "a") (block (datum 30 none (member (bytes "a") (block (datum 33 none (member (bytes "a") (block (datum 36 none (member (bytes "a") (block (datum 39 none (member (bytes "a") (block (datum 42 none (member (bytes "a") (block (datum 45 none (member (bytes "a") (string 48 (bytes "x")) no_more))) no_more))) no_more))) no_more))) no_more))) no_more))) no_more))) no_more))) no_more))) no_more))) no_more))) no_more))) no_more))) no_more))) no_more))) no_more))
+    ∷ accepts (bytes "<a=<a=<a=<a=<a=<a=<a=<a=<a=<a=<a=<a=<a=<a=<a=<>>>>>>>>>>>>>>>>") (datum 0 None (member (bytes "a") (block (datum 3 None (member (bytes "a") (block (datum 6 None (member (bytes "a") (block (datum 9 None (member (bytes "a") (block (datum 12 None (member (bytes "a") (block (datum 15 None (member (bytes "a") (block (datum 18 None (member (bytes "a") (block (datum 21 None (member (bytes "a") (block (datum 24 None (member (bytes "a") (block (datum 27 None (member (bytes "a") (block (datum 30 None (member (bytes "a") (block (datum 33 None (member (bytes "a") (block (datum 36 None (member (bytes "a") (block (datum 39 None (member (bytes "a") (block (datum 42 None (member (bytes "a") (block (datum 45 None no_more)) no_more))) no_more))) no_more))) no_more))) no_more))) no_more))) no_more))) no_more))) no_more))) no_more))) no_more))) no_more))) no_more))) no_more))) no_more))
+    ∷ accepts (bytes "<a=<a=<a=<a=<a=<a=<a=<a=<a=<a=<a=<a=<a=<a=<a=<a=<5>>>>>>>>>>>>>>>>>") (datum 0 None (member (bytes "a") (block (datum 3 None (member (bytes "a") (block (datum 6 None (member (bytes "a") (block (datum 9 None (member (bytes "a") (block (datum 12 None (member (bytes "a") (block (datum 15 None (member (bytes "a") (block (datum 18 None (member (bytes "a") (block (datum 21 None (member (bytes "a") (block (datum 24 None (member (bytes "a") (block (datum 27 None (member (bytes "a") (block (datum 30 None (member (bytes "a") (block (datum 33 None (member (bytes "a") (block (datum 36 None (member (bytes "a") (block (datum 39 None (member (bytes "a") (block (datum 42 None (member (bytes "a") (block (datum 45 None (member (bytes "a") (word 48 (bytes "5")) no_more))) no_more))) no_more))) no_more))) no_more))) no_more))) no_more))) no_more))) no_more))) no_more))) no_more))) no_more))) no_more))) no_more))) no_more))) no_more))
+    ∷ accepts (bytes "<a=<a=<a=<a=<a=<a=<a=<a=<a=<a=<a=<a=<a=<a=<a=<a=<\"x\">>>>>>>>>>>>>>>>>") (datum 0 None (member (bytes "a") (block (datum 3 None (member (bytes "a") (block (datum 6 None (member (bytes "a") (block (datum 9 None (member (bytes "a") (block (datum 12 None (member (bytes "a") (block (datum 15 None (member (bytes "a") (block (datum 18 None (member (bytes "a") (block (datum 21 None (member (bytes "a") (block (datum 24 None (member (bytes "a") (block (datum 27 None (member (bytes "a") (block (datum 30 None (member (bytes "a") (block (datum 33 None (member (bytes "a") (block (datum 36 None (member (bytes "a") (block (datum 39 None (member (bytes "a") (block (datum 42 None (member (bytes "a") (block (datum 45 None (member (bytes "a") (string 48 (bytes "x")) no_more))) no_more))) no_more))) no_more))) no_more))) no_more))) no_more))) no_more))) no_more))) no_more))) no_more))) no_more))) no_more))) no_more))) no_more))) no_more))
     ∷ refuses (bytes "<a=<a=<a=<a=<a=<a=<a=<a=<a=<a=<a=<a=<a=<a=<a=<a=<>>>>>>>>>>>>>>>>>") 3 48
     ∷ refuses (bytes "<a=<a=<a=<a=<a=<a=<a=<a=<a=<a=<a=<a=<a=<a=<a=<a=<a=<5>>>>>>>>>>>>>>>>>>") 3 48
     ∷ refuses (bytes "<a=<a=<a=<a=<a=<a=<a=<a=<a=<a=<a=<a=<a=<a=<a=<a=<") 3 48
@@ -410,7 +410,7 @@ cases =
     ∷ refuses (bytes "<a=<a=<a=<a=<a=<a=<a=<a=<a=<a=<a=<a=<a=<a=<a=<a=(T") 2 50
     ∷ refuses (bytes "<a=<a=<a=<a=<a=<a=<a=<a=<a=<a=<a=<a=<a=<a=<a=<a=(t)<>") 2 49
     ∷ refuses (bytes "<a=<a=<a=<a=<a=<a=<a=<a=<a=<a=<a=<a=<a=<a=<a=<a=(Abcdefghijklmnopqrstuvwxyz_0123456789_ABCDEFGHIJKLMNOPQRSTUVWXYZ)<") 4 49
-    ∷ accepts (bytes "(T)<a=(T)<a=(T)<a=(T)<a=(T)<a=(T)<a=(T)<a=(T)<a=(T)<a=(T)<a=(T)<a=(T)<a=(T)<a=(T)<a=(T)<a=(T)<>>>>>>>>>>>>>>>>") (datum 3 (some (bytes "T")) (member (bytes "a") (block (datum 9 (some (bytes "T")) (member (bytes "a") (block (datum 15 (some (bytes "T")) (member (bytes "a") (block (datum 21 (some (bytes "T")) (member (bytes "a") (block (datum 27 (some (bytes "T")) (member (bytes "a") (block (datum 33 (some (bytes "T")) (member (bytes "a") (block (datum 39 (some (bytes "T")) (member (bytes "a") (block (datum 45 (some (bytes "T")) (member (bytes "a") (block (datum 51 (some (bytes "T")) (member (bytes "a") (block (datum 57 (some (bytes "T")) (member (bytes "a") (block (datum 63 (some (bytes "T")) (member (bytes "a") (block (datum 69 (some (bytes "T")) (member (bytes "a") (block (datum 75 (some (bytes "T")) (member (bytes "a") (block (datum 81 (some (bytes "T")) (member (bytes "a") (block (datum 87 (some (bytes "T")) (member (bytes "a") (block (datum 93 (some (bytes "T")) no_more)) no_more))) no_more))) no_more))) no_more))) no_more))) no_more))) no_more))) no_more))) no_more))) no_more))) no_more))) no_more))) no_more))) no_more))) no_more))
+    ∷ accepts (bytes "(T)<a=(T)<a=(T)<a=(T)<a=(T)<a=(T)<a=(T)<a=(T)<a=(T)<a=(T)<a=(T)<a=(T)<a=(T)<a=(T)<a=(T)<a=(T)<>>>>>>>>>>>>>>>>") (datum 3 (Some (bytes "T")) (member (bytes "a") (block (datum 9 (Some (bytes "T")) (member (bytes "a") (block (datum 15 (Some (bytes "T")) (member (bytes "a") (block (datum 21 (Some (bytes "T")) (member (bytes "a") (block (datum 27 (Some (bytes "T")) (member (bytes "a") (block (datum 33 (Some (bytes "T")) (member (bytes "a") (block (datum 39 (Some (bytes "T")) (member (bytes "a") (block (datum 45 (Some (bytes "T")) (member (bytes "a") (block (datum 51 (Some (bytes "T")) (member (bytes "a") (block (datum 57 (Some (bytes "T")) (member (bytes "a") (block (datum 63 (Some (bytes "T")) (member (bytes "a") (block (datum 69 (Some (bytes "T")) (member (bytes "a") (block (datum 75 (Some (bytes "T")) (member (bytes "a") (block (datum 81 (Some (bytes "T")) (member (bytes "a") (block (datum 87 (Some (bytes "T")) (member (bytes "a") (block (datum 93 (Some (bytes "T")) no_more)) no_more))) no_more))) no_more))) no_more))) no_more))) no_more))) no_more))) no_more))) no_more))) no_more))) no_more))) no_more))) no_more))) no_more))) no_more))
     ∷ refuses (bytes "(T)<a=(T)<a=(T)<a=(T)<a=(T)<a=(T)<a=(T)<a=(T)<a=(T)<a=(T)<a=(T)<a=(T)<a=(T)<a=(T)<a=(T)<a=(T)<a=(T)<>>>>>>>>>>>>>>>>>") 3 99
     -- texts over 16,384 bytes, and of that length
     ∷ refuses (replicate 16_385 32) 1 16_384

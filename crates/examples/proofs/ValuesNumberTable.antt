@@ -2,7 +2,7 @@
 -- This file is written by `example_tables write` of second/. Assumes nothing.
 use mathlib.Core.Path.{◌≡◌, refl}
 use mathlib.Core.Bool.{true, false}
-use mathlib.Core.Option.{none, some}
+use Rattle.std.specs.Prelude.{None, Some}
 use mathlib.Core.List.{List, [], ◌∷◌}
 use Rattle.values.specs.Integers.{pair, nought, greatest}
 use Rattle.values.specs.Calendar.{first_day, last_day}
@@ -221,38 +221,38 @@ cases =
     ∷ follows 99_981_231 99_990_101
     ∷ precedes 99_981_231 99_981_230
     -- a - d and a + d, where both lie in the range
-    ∷ spreads 2_147_483_748 2_147_483_653 (some (pair 2_147_483_743 2_147_483_753))
-    ∷ spreads 2_147_483_748 2_147_483_648 (some (pair 2_147_483_748 2_147_483_748))
-    ∷ spreads 2_147_483_748 2_147_483_643 (some (pair 2_147_483_753 2_147_483_743))
-    ∷ spreads 2_147_483_648 2_147_483_648 (some (pair 2_147_483_648 2_147_483_648))
-    ∷ spreads 2_147_483_648 2_147_483_649 (some (pair 2_147_483_647 2_147_483_649))
-    ∷ spreads 2_147_483_648 2_147_483_647 (some (pair 2_147_483_649 2_147_483_647))
-    ∷ spreads 2_147_483_548 2_147_483_653 (some (pair 2_147_483_543 2_147_483_553))
-    ∷ spreads 2_147_483_653 2_147_483_748 (some (pair 2_147_483_553 2_147_483_753))
-    ∷ spreads 4_294_967_295 2_147_483_648 (some (pair 4_294_967_295 4_294_967_295))
-    ∷ spreads 4_294_967_295 2_147_483_649 none
-    ∷ spreads 4_294_967_295 2_147_483_647 none
-    ∷ spreads 4_294_967_294 2_147_483_649 (some (pair 4_294_967_293 4_294_967_295))
-    ∷ spreads 4_294_967_290 2_147_483_653 (some (pair 4_294_967_285 4_294_967_295))
-    ∷ spreads 4_294_967_291 2_147_483_653 none
-    ∷ spreads 0 2_147_483_648 (some (pair 0 0))
-    ∷ spreads 0 2_147_483_649 none
-    ∷ spreads 0 2_147_483_647 none
-    ∷ spreads 1 2_147_483_649 (some (pair 0 2))
-    ∷ spreads 5 2_147_483_653 (some (pair 0 10))
-    ∷ spreads 4 2_147_483_653 none
-    ∷ spreads 2_147_483_648 4_294_967_295 (some (pair 1 4_294_967_295))
-    ∷ spreads 2_147_483_647 4_294_967_295 (some (pair 0 4_294_967_294))
-    ∷ spreads 2_147_483_649 4_294_967_295 none
-    ∷ spreads 2_147_483_646 4_294_967_295 none
-    ∷ spreads 2_147_483_648 0 none
-    ∷ spreads 2_147_483_647 0 none
-    ∷ spreads 2_147_483_649 0 none
-    ∷ spreads 2_147_483_648 1 (some (pair 4_294_967_295 1))
-    ∷ spreads 2_147_483_647 1 (some (pair 4_294_967_294 0))
-    ∷ spreads 2_147_483_649 1 none
-    ∷ spreads 4_294_967_295 4_294_967_295 none
-    ∷ spreads 0 0 none
+    ∷ spreads 2_147_483_748 2_147_483_653 (Some (pair 2_147_483_743 2_147_483_753))
+    ∷ spreads 2_147_483_748 2_147_483_648 (Some (pair 2_147_483_748 2_147_483_748))
+    ∷ spreads 2_147_483_748 2_147_483_643 (Some (pair 2_147_483_753 2_147_483_743))
+    ∷ spreads 2_147_483_648 2_147_483_648 (Some (pair 2_147_483_648 2_147_483_648))
+    ∷ spreads 2_147_483_648 2_147_483_649 (Some (pair 2_147_483_647 2_147_483_649))
+    ∷ spreads 2_147_483_648 2_147_483_647 (Some (pair 2_147_483_649 2_147_483_647))
+    ∷ spreads 2_147_483_548 2_147_483_653 (Some (pair 2_147_483_543 2_147_483_553))
+    ∷ spreads 2_147_483_653 2_147_483_748 (Some (pair 2_147_483_553 2_147_483_753))
+    ∷ spreads 4_294_967_295 2_147_483_648 (Some (pair 4_294_967_295 4_294_967_295))
+    ∷ spreads 4_294_967_295 2_147_483_649 None
+    ∷ spreads 4_294_967_295 2_147_483_647 None
+    ∷ spreads 4_294_967_294 2_147_483_649 (Some (pair 4_294_967_293 4_294_967_295))
+    ∷ spreads 4_294_967_290 2_147_483_653 (Some (pair 4_294_967_285 4_294_967_295))
+    ∷ spreads 4_294_967_291 2_147_483_653 None
+    ∷ spreads 0 2_147_483_648 (Some (pair 0 0))
+    ∷ spreads 0 2_147_483_649 None
+    ∷ spreads 0 2_147_483_647 None
+    ∷ spreads 1 2_147_483_649 (Some (pair 0 2))
+    ∷ spreads 5 2_147_483_653 (Some (pair 0 10))
+    ∷ spreads 4 2_147_483_653 None
+    ∷ spreads 2_147_483_648 4_294_967_295 (Some (pair 1 4_294_967_295))
+    ∷ spreads 2_147_483_647 4_294_967_295 (Some (pair 0 4_294_967_294))
+    ∷ spreads 2_147_483_649 4_294_967_295 None
+    ∷ spreads 2_147_483_646 4_294_967_295 None
+    ∷ spreads 2_147_483_648 0 None
+    ∷ spreads 2_147_483_647 0 None
+    ∷ spreads 2_147_483_649 0 None
+    ∷ spreads 2_147_483_648 1 (Some (pair 4_294_967_295 1))
+    ∷ spreads 2_147_483_647 1 (Some (pair 4_294_967_294 0))
+    ∷ spreads 2_147_483_649 1 None
+    ∷ spreads 4_294_967_295 4_294_967_295 None
+    ∷ spreads 0 0 None
     -- the ends of the ranges, and 0
     ∷ end_is first_day 101
     ∷ end_is last_day 99_991_231

@@ -2,7 +2,7 @@
 -- outcome is 0. Document 01, 'What form to use where': "Where an answer is an enum, a definition gives this paper's number and values for each of the enum's cases. The promises use that
 -- definition". Assumes nothing.
 use Rattle.std.specs.Prelude.{◌≡◌, List, ℕ}
-use Rattle.std.proofs.Math.Option.{Option, none, some}
+use Rattle.std.specs.Prelude.{Option, None, Some}
 use Rattle.refusals.specs.Refusals.{number_of}
 use Rattle.refusals.specs.Outcomes.{Outcome, refused, gave, Answered}
 use Rattle.refusals.specs.declared.Refusal.{Refusal}
@@ -44,8 +44,8 @@ compile_told (gave length) = placed 0 length
 
 -- the check: 0 and 0, or a refusal
 abbrev pub check_told : Option Refusal → Placed
-check_told none = placed 0 0
-check_told (some r) = refusal_told r
+check_told None = placed 0 0
+check_told (Some r) = refusal_told r
 
 -- merging: on 0 the place is the table's length; the table named for 12 and 13 is 1 or 2
 pub record MergeSaid : Type 0 where

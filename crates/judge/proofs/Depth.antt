@@ -1,7 +1,7 @@
 -- A data text's datum has at most the levels of blocks that are allowed: the levels left fall from block to block where it is read. Assumes nothing.
 use mathlib.Core.Path.{◌≡◌}
 use mathlib.Core.Bool.{not}
-use mathlib.Core.Option.{Option, none, some}
+use Rattle.std.specs.Prelude.{Option, None, Some}
 use mathlib.Core.List.{List, [], ◌∷◌}
 use Prim.Native.Nat.{ℕ, zero, suc, ◌+◌}
 use lib.Dec.{eqb, ltb}
@@ -44,7 +44,7 @@ module _ (s : List ℕ) (levels : ℕ) where
       (below : (place : ℕ) (type : Option Span) (from : ℕ) → Yields BlockIn (down place type from)) where
     typed_in : (from : ℕ) → Yields BlockIn (typed s down from)
     unfolding typed
-    typed_in from = any_yields BlockIn (type_from s from) _ (λ w p. any_yields BlockIn (expect_data s less p) _ (λ t q. below t.start (some w) q))
+    typed_in from = any_yields BlockIn (type_from s from) _ (λ w p. any_yields BlockIn (expect_data s less p) _ (λ t q. below t.start (Some w) q))
 
     inside_in : (r : Parse Block) → Yields BlockIn r → Yields ContentIn (and_then r (λ d q. parsed (inside d) q))
     unfolding Yields ContentWithin spelled_content
@@ -60,7 +60,7 @@ module _ (s : List ℕ) (levels : ℕ) where
         (either (Yields ContentIn) (eqb t.sort less)
         (either (Yields ContentIn) (eqb u.sort Tokens.string) (leaf_in t.start u)
         (either (Yields ContentIn) (eqb u.sort word_run) (leaf_in t.start u)
-        (inside_in (down t.start none t.end) (below t.start none t.end))))
+        (inside_in (down t.start None t.end) (below t.start None t.end))))
         tt)
 
     members_in : (fuel : ℕ) (seen : List (List ℕ)) (from : ℕ) → Yields EntriesIn (members s down fuel seen from)
@@ -92,7 +92,7 @@ outermost_in levels s =
     let t = data_token_at s 0 in
     either (Yields P) (eqb t.sort open_round)
     (typed_in s levels (block_from s levels) (block_in s levels) t.end)
-    (any_yields P (expect_data s less 0) _ (λ u p. block_in s levels u.start none p))
+    (any_yields P (expect_data s less 0) _ (λ u p. block_in s levels u.start None p))
 
 text_in : (levels : ℕ) (s : List ℕ) → Yields (BlockIn s levels) (data_text levels s)
 unfolding data_text datum_alone Yields

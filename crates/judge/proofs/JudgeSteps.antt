@@ -1,7 +1,7 @@
 -- Steps of the functions that check the table, find the root and read the text, and of the answer that they give. Assumes nothing.
 use mathlib.Core.Path.{◌≡◌, refl, sym, ap, ◌∙◌, subst}
 use mathlib.Core.Bool.{true}
-use mathlib.Core.Option.{Option, none, some, map}
+use Rattle.std.specs.Prelude.{Option, None, Some, option_map as map}
 use mathlib.Core.List.{List, ◌∷◌, ◌++◌}
 use Prim.Native.Nat.{ℕ, zero, suc, ◌*◌, ◌-◌, ◌≤◌}
 use native.Mathlib.Nat.{zero-add}
@@ -66,12 +66,12 @@ answer_by v x a h e = rw h e
 -- a type that lies in the text is read back from its places
 type_back : (s : List ℕ) (t : Option Span) → TypeLies (length s) t
     → type_on s (type_start t) (type_end t) ≡ map (spelled_span s) t
-type_back s none h = refl
-type_back s (some x) h = rw (ne_eqb x.end 0 (λ e. omega arith))
+type_back s None h = refl
+type_back s (Some x) h = rw (ne_eqb x.end 0 (λ e. omega arith))
 
 type_order : (size : ℕ) (t : Option Span) → TypeLies size t → (type_start t ≤ type_end t) × (type_end t ≤ size)
-type_order size none h = (omega arith, omega arith)
-type_order size (some x) h = (omega arith, omega arith)
+type_order size None h = (omega arith, omega arith)
+type_order size (Some x) h = (omega arith, omega arith)
 
 -- what a text that is read leaves to judge
 abbrev outermost : ℕ → ℕ → ℕ → ℕ → members.Block
@@ -161,10 +161,10 @@ module _ (records pool s : List ℕ) (root : RecordNumber) (t : TableGood record
           ea ∙ ap gave (rw o at f) ∙ rw (o, e)
 
 -- what is no object of a checked table
-no_object : (m : Image) (n : ℕ) (r : Record) → (r.kind ≡ 1 → ⊥) → object_in (node_of m n r) ≡ none
+no_object : (m : Image) (n : ℕ) (r : Record) → (r.kind ≡ 1 → ⊥) → object_in (node_of m n r) ≡ None
 no_object m n r h = by (shape_of r.kind) (kind_shape r.kind)
   where
-    by : (s : Shape) → (is_known s ≡ true → r.kind ≡ kind_of s) → object_in (node_by s m n r) ≡ none
+    by : (s : Shape) → (is_known s ≡ true → r.kind ≡ kind_of s) → object_in (node_by s m n r) ≡ None
     by table_header e = refl
     by object e = absurd (h (e refl))
     by attribute e = refl
@@ -172,8 +172,8 @@ no_object m n r h = by (shape_of r.kind) (kind_shape r.kind)
     by (single sort) e = refl
     by (range sort) e = refl
 
-none_there : (bs : List ℕ) → table_fault bs ≡ none → (n : ℕ) → (kind_at (image_of bs) n ≡ 1 → ⊥)
-    → object_at (image_of bs) n ≡ none
+none_there : (bs : List ℕ) → table_fault bs ≡ None → (n : ℕ) → (kind_at (image_of bs) n ≡ 1 → ⊥)
+    → object_at (image_of bs) n ≡ None
 unfolding tree_at
 none_there bs t zero h = refl
 none_there bs t (suc n) h =
@@ -183,7 +183,7 @@ none_there bs t (suc n) h =
     ∙ no_object (image_of bs) (suc n) (record_at (image_of bs) (suc n)) (λ e. h (kind_record (image_of bs) (suc n) ∙ e)))
 
 -- a checked table in two parts: its records and its pool
-module _ (bs text : List ℕ) (root : RecordNumber) (t : table_fault bs ≡ none) (f : Frame)
+module _ (bs text : List ℕ) (root : RecordNumber) (t : table_fault bs ≡ None) (f : Frame)
     (ef : (f.count ≡ field (header bs) 0) × (f.pool ≡ field (header bs) 1)) (k : ℕ)
     (ek : k ≡ kind_at (image_of bs) root.0) where
   pub root_none : (k ≡ 1 → ⊥)

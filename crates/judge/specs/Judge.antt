@@ -1,6 +1,6 @@
 -- What judging answers. Document 01, 'Numbers of refusal': "Judge: table, 14, then the whole data text (1 to 5, 9), then 20 to 24"; 14 at that number: "root asked isn't an
 -- object of the table". Assumes nothing.
-use Rattle.std.proofs.Math.Option.{Option, none, some}
+use Rattle.std.specs.Prelude.{Option, None, Some}
 use Rattle.std.specs.Prelude.{List, ℕ}
 use Rattle.refusals.specs.Limits.{level_limit}
 use Rattle.refusals.specs.Refusals.{refusal}
@@ -26,8 +26,8 @@ abbrev pub judge_text : Object → List ℕ → Outcome Refusal Verdict
 judge_text o text = judge_datum o (datum_of level_limit text)
 
 abbrev pub under_root : ℕ → List ℕ → Option Object → Outcome Refusal Verdict
-under_root root text none = refused (refusal NotAnObject root)
-under_root root text (some o) = judge_text o text
+under_root root text None = refused (refusal NotAnObject root)
+under_root root text (Some o) = judge_text o text
 
 unfoldable pub judge_answer : List ℕ → ℕ → List ℕ → Outcome Refusal Verdict
 judge_answer table root text = or_fault (table_fault table) (under_root root text (object_at (image_of table) root))

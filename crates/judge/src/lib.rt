@@ -4,7 +4,7 @@
 mod walk;
 
 ghost use Rattle.std.specs.Prelude.{◌≡◌, ◌≤◌, length};
-ghost use Rattle.std.proofs.Math.Option.{none};
+ghost use Rattle.std.specs.Prelude.{None};
 ghost use Rattle.dadl.specs.Clauses.Answers.{TapeRoom};
 ghost use Rattle.table.specs.Records.{image_of};
 ghost use Rattle.table.specs.Check.{kind_at, table_fault};
@@ -148,7 +148,7 @@ fn judge_long(records: &[u8], pool: &[u8], root: RecordNumber, text: &[u8]) -> J
 
 // A data text by the object with a number, in a table that passes the check.
 fn judge_checked(table: &[u8], root: RecordNumber, text: &[u8]) -> JudgeResult
-    requires { table_fault table.now ≡ none }
+    requires { table_fault table.now ≡ None }
     ensures { answer_of result
         ≡ under_root root.0 text.now (object_at (image_of table.now) root.0) }
 {

@@ -1,7 +1,7 @@
 -- Steps of the functions that try a value: the walk over items, and a value of each kind. Assumes nothing.
 use mathlib.Core.Path.{◌≡◌, refl, sym, ap, ap₂, ◌∙◌}
 use mathlib.Core.Bool.{Bool, true, false, cond, ◌||◌, or-true, or-false}
-use mathlib.Core.Option.{Option, none, some}
+use Rattle.std.specs.Prelude.{Option, None, Some}
 use mathlib.Core.List.{List, [], ◌∷◌, map}
 use Prim.Native.Nat.{ℕ, zero, suc, ◌+◌, ◌*◌, ◌-◌, ◌≤◌, ◌<◌}
 use native.Mathlib.Nat.{add-sub_cancel_left}
@@ -205,10 +205,10 @@ name-part pool e = rw add-sub_cancel_left
 
 -- a value that reads as nothing of its kind, and one that is tried
 module _ {A E : Type 0} (answer : E → Option A) (a : E) (o : Option A) (test : A → Bool) (q : answer a ≡ o) where
-  try_none : (e : E) → a ≡ e → answer e ≡ none → unsuited ≡ try o test
+  try_none : (e : E) → a ≡ e → answer e ≡ None → unsuited ≡ try o test
   try_none e h n = ap (λ x. try x test) (sym n ∙ ap answer (sym h) ∙ q)
 
-  try_some : (e : E) (v : A) (f : Finding) → a ≡ e → answer e ≡ some v → f ≡ found (test v) → f ≡ try o test
+  try_some : (e : E) (v : A) (f : Finding) → a ≡ e → answer e ≡ Some v → f ≡ found (test v) → f ≡ try o test
   try_some e v f h n g = g ∙ ap (λ x. try x test) (sym n ∙ ap answer (sym h) ∙ q)
 
 -- a word under Booleans

@@ -1,7 +1,7 @@
 -- Records and a pool that make up a checked table: where each record lies, what its links lead to, and the tree of each kind, as a walker of the bytes meets it. Assumes nothing.
 use mathlib.Core.Path.{◌≡◌, refl, sym, ap, ◌∙◌}
 use mathlib.Core.Bool.{true, false≢true}
-use mathlib.Core.Option.{some}
+use Rattle.std.specs.Prelude.{Some}
 use mathlib.Core.List.{List, [], ◌∷◌, ◌++◌, map}
 use Prim.Native.Nat.{ℕ, zero, suc, ◌+◌, ◌*◌, ◌≤◌, ◌<◌}
 use native.Mathlib.Omega.{arith}
@@ -186,7 +186,7 @@ module _ (records pool : List ℕ) (t : TableGood records pool) where
 
   -- a list of items, by what each record stands for
   module _ {A : Type 0} (list : Tree → List A) (make : ℕ → A) (k : ℕ) (z : is_listed (shape_of k) ≡ true)
-      (none : list nothing ≡ [])
+      (None : list nothing ≡ [])
       (one : (n : ℕ) → kind_at (image_from records pool) n ≡ k
       → list (tree_at (image_from records pool) n)
       ≡ make n ∷ list (tree_at (image_from records pool) (field (record_in records n) 4))) where
@@ -196,11 +196,11 @@ module _ (records pool : List ℕ) (t : TableGood records pool) where
     unfolding tree_at record_items
     list_there zero n f g =
         by_order n 0
-        (λ h. let e : n ≡ 0 = omega arith in rw e none)
+        (λ h. let e : n ≡ 0 = omega arith in rw e None)
         (λ h. absurd (let b = number-most n k (f h) (list_some k z) in let c = g h in omega arith))
     list_there (suc fuel) n f g =
         by_order n 0
-        (λ h. let e : n ≡ 0 = omega arith in rw e none)
+        (λ h. let e : n ≡ 0 = omega arith in rw e None)
         (λ h.
         let e = f h in
         let c = g h in
@@ -221,25 +221,25 @@ module _ (records pool : List ℕ) (t : TableGood records pool) where
     -- a leaf of such a list, by its tree: the first item, and those behind it
     module _ (leaf : List A → Leaf)
         (whole : (n : ℕ)
-        → leaf_of_shape records pool n (shape_of k) ≡ some (leaf (map make (record_items records (length records) n))))
+        → leaf_of_shape records pool n (shape_of k) ≡ Some (leaf (map make (record_items records (length records) n))))
         (n : ℕ) (e : kind_at (image_from records pool) n ≡ k) where
       pub list_leaf : record_leaf records pool n
-          ≡ some (leaf (make n ∷ list (tree_at (image_from records pool) (field (record_in records n) 4))))
-      list_leaf = ap (λ j. leaf_of_shape records pool n (shape_of j)) (kind_there n k e (list_some k z)) ∙ whole n ∙ ap (λ l. some (leaf l)) (sym (list_first n e) ∙ one n e)
+          ≡ Some (leaf (make n ∷ list (tree_at (image_from records pool) (field (record_in records n) 4))))
+      list_leaf = ap (λ j. leaf_of_shape records pool n (shape_of j)) (kind_there n k e (list_some k z)) ∙ whole n ∙ ap (λ l. Some (leaf l)) (sym (list_first n e) ∙ one n e)
 
       pub list_rest : 0 < field (record_in records n) 4
           → record_leaf records pool (field (record_in records n) 4)
-          ≡ some (leaf (list (tree_at (image_from records pool) (field (record_in records n) 4))))
+          ≡ Some (leaf (list (tree_at (image_from records pool) (field (record_in records n) 4))))
       list_rest h =
           let x = field (record_in records n) 4 in
           let u : kind_at (image_from records pool) x ≡ k = by_kind (kind_at (image_from records pool) x) k [] (link_there n k e (list_some k z) 4 (k ∷ []) (lit< tt) (list_link k (record_in records n).fields z) h).kind (λ y. y) (λ y. absurd (false≢true y)) in
-          ap (λ j. leaf_of_shape records pool x (shape_of j)) (kind_there x k u (list_some k z)) ∙ whole x ∙ ap (λ l. some (leaf l)) (sym (list_first x u))
+          ap (λ j. leaf_of_shape records pool x (shape_of j)) (kind_there x k u (list_some k z)) ∙ whole x ∙ ap (λ l. Some (leaf l)) (sym (list_first x u))
 
   -- the leaf whose first item has a number
   pub record LeafIs (n : ℕ) : Type 0 where
     pub leaf : Leaf
     pub tree : tree_at (image_from records pool) n ≡ of_leaf leaf
-    pub there : record_leaf records pool n ≡ some leaf
+    pub there : record_leaf records pool n ≡ Some leaf
     pub number : leaf_number leaf ≡ n
 
   -- the trees of objects and attributes
@@ -285,13 +285,13 @@ module _ (records pool : List ℕ) (t : TableGood records pool) where
     abbrev pub ranges_here : List Range
     ranges_here = items_in ranges_of (tree_at (image_from records pool) (field (record_in records n) 4))
 
-    pub ranges-leaf : record_leaf records pool n ≡ some (ranges sort (range_in sort records n ∷ ranges_here))
+    pub ranges-leaf : record_leaf records pool n ≡ Some (ranges sort (range_in sort records n ∷ ranges_here))
     ranges-leaf =
         list_leaf (items_in ranges_of) (range_in sort records) (range_row sort).kind (range_listed sort) refl (λ i q. ap (items_in ranges_of) (ranges_tree_lem sort i q))
         (ranges sort) (λ i. ap (leaf_of_shape records pool i) (shape_kind (range sort))) n e
 
     pub ranges_rest : 0 < field (record_in records n) 4
-        → record_leaf records pool (field (record_in records n) 4) ≡ some (ranges sort ranges_here)
+        → record_leaf records pool (field (record_in records n) 4) ≡ Some (ranges sort ranges_here)
     ranges_rest =
         list_rest (items_in ranges_of) (range_in sort records) (range_row sort).kind (range_listed sort) refl (λ i q. ap (items_in ranges_of) (ranges_tree_lem sort i q))
         (ranges sort) (λ i. ap (leaf_of_shape records pool i) (shape_kind (range sort))) n e
@@ -300,13 +300,13 @@ module _ (records pool : List ℕ) (t : TableGood records pool) where
     abbrev pub texts_here : List Text
     texts_here = items_in texts_of (tree_at (image_from records pool) (field (record_in records n) 4))
 
-    pub texts_leaf : record_leaf records pool n ≡ some (texts (text_in records pool n ∷ texts_here))
+    pub texts_leaf : record_leaf records pool n ≡ Some (texts (text_in records pool n ∷ texts_here))
     texts_leaf =
         list_leaf (items_in texts_of) (text_in records pool) text_kind text_listed refl (λ i q. ap (items_in texts_of) (texts_tree_lem i q))
         texts (λ i. ap (leaf_of_shape records pool i) (shape_kind text)) n e
 
     pub texts_rest : 0 < field (record_in records n) 4
-        → record_leaf records pool (field (record_in records n) 4) ≡ some (texts texts_here)
+        → record_leaf records pool (field (record_in records n) 4) ≡ Some (texts texts_here)
     texts_rest =
         list_rest (items_in texts_of) (text_in records pool) text_kind text_listed refl (λ i q. ap (items_in texts_of) (texts_tree_lem i q))
         texts (λ i. ap (leaf_of_shape records pool i) (shape_kind text)) n e

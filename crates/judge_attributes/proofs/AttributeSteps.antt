@@ -1,7 +1,7 @@
 -- Steps of the functions that tell what an attribute says of a block. Assumes nothing.
 use mathlib.Core.Path.{◌≡◌, refl, sym, ap, ◌∙◌, subst}
 use mathlib.Core.Bool.{Bool, true, false, cond, false≢true}
-use mathlib.Core.Option.{some}
+use Rattle.std.specs.Prelude.{Some}
 use mathlib.Core.List.{List, ◌∷◌}
 use Prim.Native.Nat.{ℕ, zero, suc, ◌+◌, ◌-◌, ◌≤◌, ◌<◌}
 use native.Mathlib.Omega.{arith}
@@ -97,7 +97,7 @@ module _ (s : List ℕ) (rows : ℕ) (tape : List ℕ) (n : ℕ) where
 
   -- a leaf under items
   leaf_under_items : (records pool : List ℕ) (l : Leaf) (first : ℕ) → leaf_number l ≡ first
-      → record_leaf records pool first ≡ some l → (row_number (row_at tape n) 0 ≡ 0 → ⊥)
+      → record_leaf records pool first ≡ Some l → (row_number (row_at tape n) 0 ≡ 0 → ⊥)
       → judge_leaf l (content_on s rows tape n) ≡ leaf_verdict records pool s first (row_at tape n)
   leaf_under_items records pool l first el ef h =
       let row = row_at tape n in
@@ -110,7 +110,7 @@ module _ (s : List ℕ) (rows : ℕ) (tape : List ℕ) (n : ℕ) where
           (part s (row_number (row_at tape n) 6) (row_number (row_at tape n) 7)))
           (word (row_number (row_at tape n) 3) (part s (row_number (row_at tape n) 6) (row_number (row_at tape n) 7))))
           ≡ verdict_of (leaf_number l) (row_number (row_at tape n) 3)
-          (finding_under (some l) b (part s (row_number (row_at tape n) 6) (row_number (row_at tape n) 7)))
+          (finding_under (Some l) b (part s (row_number (row_at tape n) 6) (row_number (row_at tape n) 7)))
       by true = refl
       by false = refl
 
@@ -199,13 +199,13 @@ module _ (records pool s tape : List ℕ) (rows : ℕ) (value : RecordNumber) (r
               }
 
 -- a member that is found is no deeper than the members
-pub member_within : (w : List ℕ) (ms : Members) (c : Content) (levels : ℕ) → member_of w ms ≡ some c
+pub member_within : (w : List ℕ) (ms : Members) (c : Content) (levels : ℕ) → member_of w ms ≡ Some c
     → MembersWithin ms levels → ContentWithin c levels
 unfolding member_of MembersWithin
 member_within w Data.no_more c levels e h = absurd (let z : ◌≡◌ {A = ℕ} 0 1 = cc in omega arith)
 member_within w (member x d more) c levels e h = by (same w x) e (λ g. member_within w more c levels g h.1)
   where
-    by : (b : Bool) → cond b (some d) (member_of w more) ≡ some c → (member_of w more ≡ some c → ContentWithin c levels)
+    by : (b : Bool) → cond b (Some d) (member_of w more) ≡ Some c → (member_of w more ≡ Some c → ContentWithin c levels)
         → ContentWithin c levels
     by true g k = let f : d ≡ c = cc in subst (λ y. ContentWithin y levels) f h.0
     by false g k = k g
@@ -272,7 +272,7 @@ module _ (records pool s tape : List ℕ) (rows : ℕ) (n : RecordNumber) (e : E
       pub member_judged : (v : AttributeAnswer) → ValueIs (image_from records pool) s rows tape e.c row v
           → (e.flag ≡ 0 → ⊥) → AttributeAnswerIs (image_from records pool) s rows tape n.0 b v
       member_judged v i z =
-          let k : some (content_on s rows tape row) ≡ member_of name (members_on s rows tape b) = rw h at f.is in
+          let k : Some (content_on s rows tape row) ≡ member_of name (members_on s rows tape b) = rw h at f.is in
           record {
             is = i.is ∙ (rw (h, ne_eqb e.flag 0 z) at first_is);
             leads = leads_map (image_from records pool) s rows tape (λ levels. ContentWithin (content_on s rows tape row) levels) (λ levels. MembersWithin (members_on s rows tape b) levels)

@@ -1,7 +1,7 @@
 -- Steps of marking the items of a row: an item that admits a value, or leads to one that does, begins a list that admits it. Assumes nothing.
 use mathlib.Core.Path.{◌≡◌, refl, sym, ap, ◌∙◌, subst}
 use mathlib.Core.Bool.{Bool, true, false, not, cond, ◌&&◌, ◌||◌, or-true, false≢true}
-use mathlib.Core.Option.{Option, none, some}
+use Rattle.std.specs.Prelude.{Option, None, Some}
 use mathlib.Core.List.{List, [], ◌∷◌}
 use Prim.Native.Nat.{ℕ, zero, suc, ◌+◌, ◌*◌, ◌-◌, ◌^◌, ◌≤◌, ◌<◌}
 use native.Mathlib.Nat.{mul-le-mul}
@@ -103,8 +103,8 @@ found_of b h = ap found h
 -- one test is met where the other is
 try_grow : {A : Type 0} (o : Option A) (f g : A → Bool) → ((a : A) → f a ≡ true → g a ≡ true) → try o f ≡ admitted
     → try o g ≡ admitted
-try_grow none f g h e = e
-try_grow (some a) f g h e = found_of (g a) (h a (found_true (f a) e))
+try_grow None f g h e = e
+try_grow (Some a) f g h e = found_of (g a) (h a (found_true (f a) e))
 
 or_alone : (a b : Bool) → (a || false) ≡ true → (a || b) ≡ true
 or_alone true b h = refl
@@ -123,15 +123,15 @@ numbered n x = record { number = n; low = x.low; high = x.high }
 
 module _ (x : Range) (xs : List Range) (w : List ℕ) where
   ranges_alone : (sort : RangeSort) (n : ℕ) (t : Bool)
-      → finding_under (some (ranges sort (numbered n x ∷ []))) t w ≡ admitted
-      → finding_under (some (ranges sort (x ∷ xs))) t w ≡ admitted
+      → finding_under (Some (ranges sort (numbered n x ∷ []))) t w ≡ admitted
+      → finding_under (Some (ranges sort (x ∷ xs))) t w ≡ admitted
   unfolding word_under string_under in_some
   ranges_alone sort n true h = h
   ranges_alone integers n false h = try_grow (integer_of w) _ _ (λ v. or_alone (in_range v x) (in_some v xs)) h
   ranges_alone dates n false h = try_grow (date_of w) _ _ (λ d. and_grow (eqb d.parts 3) _ _ (or_alone (in_range d.day x) (in_some d.day xs))) h
 
-  ranges_more : (sort : RangeSort) (t : Bool) → finding_under (some (ranges sort xs)) t w ≡ admitted
-      → finding_under (some (ranges sort (x ∷ xs))) t w ≡ admitted
+  ranges_more : (sort : RangeSort) (t : Bool) → finding_under (Some (ranges sort xs)) t w ≡ admitted
+      → finding_under (Some (ranges sort (x ∷ xs))) t w ≡ admitted
   unfolding word_under string_under in_some
   ranges_more sort true h = h
   ranges_more integers false h = try_grow (integer_of w) _ _ (λ v. or_more (in_range v x) (in_some v xs)) h
@@ -139,14 +139,14 @@ module _ (x : Range) (xs : List Range) (w : List ℕ) where
 
 module _ (x : Text) (xs : List Text) (w : List ℕ) where
   texts_alone : (n : ℕ) (t : Bool)
-      → finding_under (some (texts (record { number = n; text = x.text } ∷ []))) t w ≡ admitted
-      → finding_under (some (texts (x ∷ xs))) t w ≡ admitted
+      → finding_under (Some (texts (record { number = n; text = x.text } ∷ []))) t w ≡ admitted
+      → finding_under (Some (texts (x ∷ xs))) t w ≡ admitted
   unfolding word_under string_under is_some
   texts_alone n true h = found_of (same w x.text || is_some w xs) (or_alone (same w x.text) (is_some w xs) (found_true (same w x.text || false) h))
   texts_alone n false h = h
 
-  texts_more : (t : Bool) → finding_under (some (texts xs)) t w ≡ admitted
-      → finding_under (some (texts (x ∷ xs))) t w ≡ admitted
+  texts_more : (t : Bool) → finding_under (Some (texts xs)) t w ≡ admitted
+      → finding_under (Some (texts (x ∷ xs))) t w ≡ admitted
   unfolding word_under string_under is_some
   texts_more true h = found_of (same w x.text || is_some w xs) (or_more (same w x.text) (is_some w xs) (found_true (is_some w xs) h))
   texts_more false h = h

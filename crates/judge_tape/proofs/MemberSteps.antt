@@ -1,7 +1,7 @@
 -- Steps of the functions that read the tape and seek a member. Assumes nothing.
 use mathlib.Core.Path.{◌≡◌, refl, sym, ap, ap₂, ◌∙◌}
 use mathlib.Core.Bool.{Bool, true, false, cond}
-use mathlib.Core.Option.{Option, none, some}
+use Rattle.std.specs.Prelude.{Option, None, Some}
 use mathlib.Core.List.{List}
 use Prim.Native.Nat.{ℕ, zero, suc, ◌+◌, ◌*◌, ◌-◌, ◌≤◌, ◌<◌}
 use native.Mathlib.Omega.{arith}
@@ -39,7 +39,7 @@ pub record InRows (s tape : List ℕ) (rows first inside : ℕ) (name : List ℕ
   pub is : row_from s tape name fuel n ≡ member_row s tape rows first inside name
 
 pub rows_none : (s tape : List ℕ) (rows first inside : ℕ) (name : List ℕ) → inside ≡ 0
-    → none ≡ member_row s tape rows first inside name
+    → None ≡ member_row s tape rows first inside name
 rows_none s tape rows first inside name h = rw h
 
 pub rows_start : (s tape : List ℕ) (rows first inside : ℕ) (name : List ℕ) → Begins rows first inside → (inside ≡ 0 → ⊥)
@@ -50,7 +50,7 @@ module _ (s tape : List ℕ) (rows first inside : ℕ) (name : List ℕ) (n : �
     (i : InRows s tape rows first inside name n) where
   -- the row at hand, or one behind it
   abbrev either : Bool → ℕ → ℕ → Option ℕ
-  either here fuel next = cond here (some n) (cond (eqb next 0) none (row_from s tape name fuel next))
+  either here fuel next = cond here (Some n) (cond (eqb next 0) None (row_from s tape name fuel next))
 
   now_or_later : (fuel : ℕ) × (rows ≤ suc n + fuel)
       × (either (same name (part s (row_number (row_at tape n) 1) (row_number (row_at tape n) 2))) fuel
@@ -80,7 +80,7 @@ module _ (s tape : List ℕ) (rows first inside : ℕ) (name : List ℕ) (n : �
     rows_found h = ap (λ b. either b now_or_later.0 (row_number (row_at tape n) 8)) (sym h ∙ er ∙ ap (same name) (ew ∙ name_at_lem)) ∙ now_or_later.2
 
     module _ (h : r ≡ false) (next : ℕ) (en : next ≡ row_number (row_at tape n) 8) where
-      later : cond (eqb next 0) none (row_from s tape name now_or_later.0 next)
+      later : cond (eqb next 0) None (row_from s tape name now_or_later.0 next)
           ≡ member_row s tape rows first inside name
       later = ap₂ (λ b k. either b now_or_later.0 k) (sym h ∙ er ∙ ap (same name) (ew ∙ name_at_lem)) en ∙ now_or_later.2
 
@@ -99,13 +99,13 @@ module _ (s tape : List ℕ) (rows first inside : ℕ) (name : List ℕ) (n : �
 
 -- what the row that was found holds
 abbrev pub found_on : List ℕ → ℕ → List ℕ → Option ℕ → Option Content
-found_on s rows tape none = none
-found_on s rows tape (some n) = some (content_on s rows tape n)
+found_on s rows tape None = None
+found_on s rows tape (Some n) = Some (content_on s rows tape n)
 
 -- a row that was found is on the tape
 abbrev pub FoundThere : ℕ → Option ℕ → Type 0
-FoundThere rows none = Unit {0}
-FoundThere rows (some n) = n < rows
+FoundThere rows None = Unit {0}
+FoundThere rows (Some n) = n < rows
 
 -- the row found is that of the member with the name
 pub record FoundIs (s : List ℕ) (rows : ℕ) (tape : List ℕ) (ms : Members) (name : List ℕ) (o : Option ℕ) : Type 0 where
@@ -138,7 +138,7 @@ module _ (s : List ℕ) (rows : ℕ) (tape name : List ℕ) (g : TapeGood (lengt
     where
       by : (z : Bool) → eqb inside 0 ≡ z
           → FoundIs s rows tape (cond z Data.no_more (members_at s rows tape first)) name
-          (cond z none (row_from s tape name rows first))
+          (cond z None (row_from s tape name rows first))
       by true e = record { is = refl; there = tt }
       by false e = row_holds rows first (b.there (let q = eqb-false inside 0 e in omega arith)) (omega arith)
 

@@ -1,6 +1,6 @@
 -- A table of examples is one statement: the list of the numbers of its wrong cases is empty. Assumes nothing.
 use mathlib.Core.Bool.{Bool, cond}
-use mathlib.Core.Option.{Option, none, some}
+use Rattle.std.specs.Prelude.{Option, None, Some}
 use mathlib.Core.List.{List, [], ◌∷◌}
 use Prim.Native.Nat.{ℕ, ◌+◌}
 
@@ -10,5 +10,5 @@ wrong right n (x ∷ xs) = let more = wrong right (n + 1) xs in cond (right x) m
 
 -- an answer that may be missing, as a list of numbers
 abbrev pub or_nothing : Option ℕ → List ℕ
-or_nothing none = []
-or_nothing (some n) = n ∷ []
+or_nothing None = []
+or_nothing (Some n) = n ∷ []

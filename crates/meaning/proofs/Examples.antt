@@ -1,7 +1,7 @@
 -- Examples of judging: a datum by an object, with the verdict expected. The cases stand in JudgeTable and MadeTable. Assumes nothing.
 use mathlib.Core.Path.{◌≡◌, refl}
 use mathlib.Core.Bool.{Bool, true, false, ◌&&◌}
-use mathlib.Core.Option.{none}
+use Rattle.std.specs.Prelude.{None}
 use mathlib.Core.List.{[], ◌∷◌}
 use lib.Dec.{eqb}
 use Rattle.lexis.specs.Text.{bytes}
@@ -31,7 +31,7 @@ holding l = object_with 1 (bytes "A") [] (attribute_with 2 required (bytes "a") 
 
 -- `<a=..>`
 abbrev pub given : Content → Datum
-given c = datum 0 none (member (bytes "a") c Data.no_more)
+given c = datum 0 None (member (bytes "a") c Data.no_more)
 
 unfoldable pub right : Case → Bool
 right (judges o d v) = is_verdict (judge o d) v

@@ -1,7 +1,7 @@
 -- Judging by a tree whose numbers are moved moves the record told, and nothing else. Assumes nothing.
 use mathlib.Core.Path.{◌≡◌, refl, sym, ap, ap₂, ◌∙◌}
 use mathlib.Core.Bool.{Bool, true, false, cond, ◌||◌}
-use mathlib.Core.Option.{Option, none, some}
+use Rattle.std.specs.Prelude.{Option, None, Some}
 use mathlib.Core.List.{List, [], ◌∷◌, map}
 use Prim.Native.Nat.{ℕ, ◌+◌}
 use native.Mathlib.Nat.{zero-add, add_assoc}
@@ -74,8 +74,8 @@ leaf-moved s l h (block (datum p t ms)) = rw (number-moved s l h)
 member_moved : (s : ℕ) (a : AttributeHead) (place : ℕ) (o : Option Content) (f g : Content → Verdict)
     → ((c : Content) → f c ≡ moved_verdict s (g c))
     → judge_member (moved_attribute_head s a) place o f ≡ moved_verdict s (judge_member a place o g)
-member_moved s a place none f g h = sym (move_cond s (eqb a.existence required) (fails 22 a.number place) valid)
-member_moved s a place (some c) f g h =
+member_moved s a place None f g h = sym (move_cond s (eqb a.existence required) (fails 22 a.number place) valid)
+member_moved s a place (Some c) f g h =
     let banned = eqb a.existence prohibited in
     ap (cond banned (fails 23 (s + a.number) (place_of c))) (h c) ∙ sym (move_cond s banned (fails 23 a.number (place_of c)) (g c))
 

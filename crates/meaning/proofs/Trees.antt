@@ -1,6 +1,6 @@
 -- Trees as lists of numbers, so that what was read can be compared with what is expected: each part stands behind its length or its sort, so that two
 -- trees with the same list are the same. Assumes nothing.
-use mathlib.Core.Option.{Option, none, some}
+use Rattle.std.specs.Prelude.{Option, None, Some}
 use mathlib.Core.List.{List, [], ◌∷◌, ◌++◌}
 use Prim.Native.Nat.{ℕ}
 use lib.ListN.{length}
@@ -53,8 +53,8 @@ unfoldable mutual
   value_list (leaf l) = 2 ∷ leaf_list l
 
 abbrev pub type_list : Option (List ℕ) → List ℕ
-type_list none = 0 ∷ []
-type_list (some w) = 1 ∷ sized w
+type_list None = 0 ∷ []
+type_list (Some w) = 1 ∷ sized w
 
 unfoldable mutual
   pub datum_list : Datum → List ℕ

@@ -1,7 +1,7 @@
 -- Datum trees: what a data text says. Document 01, 'Data text': "Datum: optional `(`TYPE`)`, `<`, members, `>`. Member: NAME `=` then a datum, or
 -- `<` leaf `>` with no type." The place is that of the `<`. Assumes nothing.
 use Rattle.std.specs.Prelude.{List, ℕ}
-use Rattle.std.proofs.Math.Option.{Option}
+use Rattle.std.specs.Prelude.{Option}
 
 mutual
   pub data Datum : Type 0 where

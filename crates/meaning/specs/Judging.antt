@@ -2,7 +2,7 @@
 -- attribute"; "Judging walks type first, then attributes in table order, each finished before the next; the first failure is told"; 'Numbers of refusal', 20 to
 -- 24. Assumes nothing.
 use Rattle.std.specs.Prelude.{Bool, true, cond, List, ℕ, eqb}
-use Rattle.std.proofs.Math.Option.{Option, none, some}
+use Rattle.std.specs.Prelude.{Option, None, Some}
 use Rattle.lexis.specs.Runs.{same}
 use Rattle.meaning.specs.Constraints.{ObjectHead, Object, object, AttributeHead, Attributes, attribute, Value, any, nested, leaf, Leaf, prohibited, required}
 use Rattle.meaning.specs.Constraints
@@ -25,13 +25,13 @@ place_of (block (datum p t ms)) = p
 
 -- the member of that name, all of its bytes
 unfoldable pub member_of : List ℕ → Members → Option Content
-member_of w Data.no_more = none
-member_of w (member n c more) = let rest = member_of w more in cond (same w n) (some c) rest
+member_of w Data.no_more = None
+member_of w (member n c more) = let rest = member_of w more in cond (same w n) (Some c) rest
 
 -- the type, if written, is the object's own
 abbrev pub type_suits : List ℕ → Option (List ℕ) → Bool
-type_suits t none = true
-type_suits t (some u) = same t u
+type_suits t None = true
+type_suits t (Some u) = same t u
 
 abbrev pub verdict_of : ℕ → ℕ → Finding → Verdict
 verdict_of number place unsuited = fails 20 number place
@@ -46,8 +46,8 @@ judge_leaf l (block (datum p t ms)) = fails 20 (leaf_number l) p
 
 -- an attribute's member, missing or present, given how its value judges
 abbrev pub judge_member : AttributeHead → (place : ℕ) → Option Content → (Content → Verdict) → Verdict
-judge_member h place none value = cond (eqb h.existence required) (fails 22 h.number place) valid
-judge_member h place (some c) value = cond (eqb h.existence prohibited) (fails 23 h.number (place_of c)) (value c)
+judge_member h place None value = cond (eqb h.existence required) (fails 22 h.number place) valid
+judge_member h place (Some c) value = cond (eqb h.existence prohibited) (fails 23 h.number (place_of c)) (value c)
 
 -- a block under an object, given how the object's attributes judge
 abbrev pub judge_block : ObjectHead → (ℕ → Members → Verdict) → Datum → Verdict

@@ -2,7 +2,7 @@
 use mathlib.Core.Path.{◌≡◌, refl, sym, ap}
 use mathlib.Core.Bool.{Bool, true, false}
 use mathlib.Core.Logic.{◌⊎◌, inl, inr}
-use mathlib.Core.Option.{Option, none, some}
+use Rattle.std.specs.Prelude.{Option, None, Some}
 use mathlib.Core.List.{List, ◌++◌}
 use Prim.Native.Nat.{ℕ, ◌+◌, ◌≤◌, ◌<◌}
 use native.Mathlib.Omega.{arith}
@@ -62,9 +62,9 @@ front_stored bs out h = let e : 0 + length bs ≡ length bs = omega arith in rw 
 
 -- where something was given, no test before found a fault
 module _ {E A : Type 0} (a : A) where
-  pub no_fault_lem : (f : Option E) (more : Outcome E A) → or_fault f more ≡ gave a → (f ≡ none) × (more ≡ gave a)
-  no_fault_lem none more h = (refl, h)
-  no_fault_lem (some e) more h = absurd (not_gave h)
+  pub no_fault_lem : (f : Option E) (more : Outcome E A) → or_fault f more ≡ gave a → (f ≡ None) × (more ≡ gave a)
+  no_fault_lem None more h = (refl, h)
+  no_fault_lem (Some e) more h = absurd (not_gave h)
 
   pub not_found : (fault : Bool) (e : E) (more : Outcome E A) → unless fault e more ≡ gave a
       → (fault ≡ false) × (more ≡ gave a)

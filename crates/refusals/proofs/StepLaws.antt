@@ -16,8 +16,8 @@ use Rattle.refusals.specs.Clauses.Answers.{cause_of, token_reading, expected_of,
 use Rattle.refusals.specs.declared.Cause.{Cause}
 use Rattle.refusals.specs.declared.Cause.TheVariants.{Unreadable, CannotFollow, EndsEarly}
 use Rattle.refusals.specs.declared.Refusal.{Refusal}
-use Rattle.refusals.specs.declared.steps.Expected.{Expected}
-use Rattle.refusals.specs.declared.steps.Expected.TheVariants.{Fault, Taken}
+use Rattle.std.specs.declared.result.Result.{Result}
+use Rattle.std.specs.declared.result.Result.TheVariants.{Ok, Err}
 
 -- the cause of a fault, by the token's sort
 module _ (sort : ℕ) where
@@ -37,40 +37,40 @@ fault_is t k e = ap (λ x. refusal x t.start) e
 
 -- a token of the sort asked for, and another
 module _ (t : Token) (sort : ℕ) where
-  pub taken_there : t.sort ≡ sort → Taken t ≡ expected_of t sort
+  pub taken_there : t.sort ≡ sort → Ok t ≡ expected_of t sort
   taken_there e = rw (eq-eqb t.sort sort e)
 
   pub taken_not : (t.sort ≡ sort → ⊥) → (x : Refusal) → x ≡ refusal (syntax_cause t) t.start
-      → Fault x ≡ expected_of t sort
+      → Err x ≡ expected_of t sort
   taken_not n x e = rw (ne_eqb t.sort sort n, e)
 
 -- the answer is the reading of the token u that stands from a place on
-pub taken_is : (s : List ℕ) (sort from : ℕ) (u t : Token) → TokenIs s from u t → (r : Expected) → r ≡ expected_of t sort
+pub taken_is : (s : List ℕ) (sort from : ℕ) (u t : Token) → TokenIs s from u t → (r : Result Token Refusal) → r ≡ expected_of t sort
     → ExpectIs s sort from (taken u sort) r
 taken_is s sort from u t tok r e = rw e (by (eqb t.sort sort) refl)
   where
     by : (b : Bool) → eqb t.sort sort ≡ b
-        → ExpectIs s sort from (taken u sort) (cond b (Taken t) (Fault (refusal (syntax_cause t) t.start)))
+        → ExpectIs s sort from (taken u sort) (cond b (Ok t) (Err (refusal (syntax_cause t) t.start)))
     by true h = record {
       is = rw (← tok.is, h);
       past = (tok.start, tok.order, tok.inside, λ k. let q = eqb-true t.sort sort h in tok.strict (omega arith));
     }
     by false h = record { is = rw (← tok.is, h); past = tt }
 
-pub expect_is : (s : List ℕ) (sort from : ℕ) (t : Token) → TokenIs s from (token_at s from) t → (r : Expected)
+pub expect_is : (s : List ℕ) (sort from : ℕ) (t : Token) → TokenIs s from (token_at s from) t → (r : Result Token Refusal)
     → r ≡ expected_of t sort
     → ExpectIs s sort from (expect s sort from) r
 unfolding expect
 expect_is s sort from t tok r e = taken_is s sort from (token_at s from) t tok r e
 
 -- what an answer says of the reading that it is
-module _ {s : List ℕ} {sort from : ℕ} {reading : Reading Token} {r : Expected}
+module _ {s : List ℕ} {sort from : ℕ} {reading : Reading Token} {r : Result Token Refusal}
     (e : ExpectIs s sort from reading r) where
-  pub expected_fault : (x : Refusal) → r ≡ Fault x → reading ≡ refused x
+  pub expected_fault : (x : Refusal) → r ≡ Err x → reading ≡ refused x
   expected_fault x g = sym e.is ∙ ap token_reading g
 
-  pub expected_token : (t : Token) → r ≡ Taken t → reading ≡ got t t.end
+  pub expected_token : (t : Token) → r ≡ Ok t → reading ≡ got t t.end
   expected_token t g = sym e.is ∙ ap token_reading g
 
-  pub expected_past : (t : Token) → r ≡ Taken t → TokenPast s sort from (Taken t)
+  pub expected_past : (t : Token) → r ≡ Ok t → TokenPast s sort from (Ok t)
   expected_past t g = rw g at e.past

@@ -1,7 +1,7 @@
 -- What a job answers, and the output buffer behind it. Document 01, 'Numbers of refusal', 11: "output too short"; "On refusal no byte of output changes; on success only bytes past the
 -- table's end stay". Assumes nothing.
 use Rattle.std.specs.Prelude.{Bool, cond, List, ◌++◌, ℕ, ltb, length, drop}
-use Rattle.std.proofs.Math.Option.{Option, none, some}
+use Rattle.std.specs.Prelude.{Option, None, Some}
 use Rattle.refusals.specs.declared.Cause.{Cause}
 use Rattle.refusals.specs.declared.Cause.TheVariants.{OutputTooShort}
 use Rattle.refusals.specs.declared.Refusal.{Refusal}
@@ -14,8 +14,8 @@ pub data Outcome (E A : Type 0) : Type 0 where
 
 -- a fault, if there is one, or else what follows
 abbrev pub or_fault : {E A : Type 0} → Option E → Outcome E A → Outcome E A
-or_fault none more = more
-or_fault (some e) more = refused e
+or_fault None more = more
+or_fault (Some e) more = refused e
 
 -- a fault, where the test finds one, or else what follows
 abbrev pub unless : {E A : Type 0} → Bool → E → Outcome E A → Outcome E A

@@ -1,6 +1,9 @@
 // What is refused and why; the limits and numbers of document 01; and the tokens of constraint text that must stand at a place.
 #![tactic(auto)]
 
+ghost use Rattle.std.specs.Prelude.{◌≡◌};
+ghost use Rattle.refusals.specs.Refusals.{refusal};
+
 pub mod limits;
 pub mod numbers;
 pub mod steps;
@@ -35,4 +38,13 @@ pub enum Cause {
 pub struct Refusal {
     pub cause: Cause,
     pub place: usize,
+}
+
+impl Cause {
+    // The refusal for this cause, at a place.
+    pub fn at(self, place: usize) -> Refusal
+        ensures { result ≡ refusal self place }
+    {
+        Refusal { cause: self, place }
+    }
 }

@@ -9,60 +9,46 @@ use crate::{Cause, Refusal};
 use lexis::tokens::token_at;
 use lexis::{TEXT_END, Token, UNREADABLE};
 
-// A token that must stand at a place, or the refusal where another does.
-#[derive(Clone, Copy)]
-pub enum Expected {
-    Fault(Refusal),
-    Taken(Token),
-}
-
 // Why a token is a syntax fault.
 fn syntax_cause(sort: u8) -> Cause
     ensures { result ≡ cause_of sort }
 {
-    if sort == TEXT_END {
-        return Cause::EndsEarly;
+    match sort {
+        TEXT_END => Cause::EndsEarly,
+        UNREADABLE => Cause::Unreadable,
+        _ => Cause::CannotFollow,
     }
-    if sort == UNREADABLE {
-        return Cause::Unreadable;
-    }
-    Cause::CannotFollow
 }
 
 // The refusal of a token that cannot follow.
 pub fn syntax_fault(t: Token) -> Refusal
     ensures { result ≡ refusal (syntax_cause t) t.start }
 {
-    let cause = syntax_cause(t.sort);
-    Refusal {
-        cause,
-        place: t.start,
-    }
+    syntax_cause(t.sort).at(t.start)
 }
 
 // The refusal of a type, a name, a code or a string that is too long.
 pub fn too_long(t: Token) -> Refusal
     ensures { result ≡ refusal TooLong t.start }
 {
-    Refusal {
-        cause: Cause::TooLong,
-        place: t.start,
-    }
+    Cause::TooLong.at(t.start)
 }
 
-// A token, where one of a sort is asked for.
-pub fn taken(t: Token, sort: u8) -> Expected
+// A token, where one of a sort is asked for; else its refusal.
+#[tactic(auto, using(crate::proofs::StepLaws::taken_there, crate::proofs::StepLaws::taken_not))]
+pub fn taken(t: Token, sort: u8) -> Result<Token, Refusal>
     ensures { result ≡ expected_of t sort }
 {
     if t.sort == sort {
-        return Expected::Taken(t);
+        Ok(t)
+    } else {
+        Err(syntax_fault(t))
     }
-    let fault = syntax_fault(t);
-    Expected::Fault(fault)
 }
 
-// A token of constraint text of the sort asked for.
-pub fn expect(s: &[u8], sort: u8, from: usize) -> Expected
+// A token of constraint text of the sort asked for, or the refusal of the one that stands there.
+#[tactic(auto, using(crate::proofs::StepLaws::expect_is))]
+pub fn expect(s: &[u8], sort: u8, from: usize) -> Result<Token, Refusal>
     requires { from ≤ length s.now }
     ensures { ExpectIs s.now sort from (expect s.now sort from) result }
 {

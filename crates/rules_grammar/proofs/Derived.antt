@@ -2,7 +2,7 @@
 use mathlib.Core.Path.{◌≡◌, refl, sym, ap, ◌∙◌}
 use mathlib.Core.Logic.{◌↔◌}
 use mathlib.Core.Bool.{true, false, not}
-use mathlib.Core.Option.{Option, none, some}
+use Rattle.std.specs.Prelude.{Option, None, Some}
 use mathlib.Core.List.{List, [], ◌∷◌, Memᴰ}
 use Prim.Native.Nat.{ℕ, zero, suc, ◌≤◌, ◌<◌, ◌+◌}
 use native.Mathlib.Omega.{arith}
@@ -149,13 +149,13 @@ datum_typed : {s : List ℕ} {levels from p q : ℕ} {o l : Token} {w : Span} {b
     → NextDataToken s from open_round o
     → TypeGiven s o.end w p
     → NextDataToken s p less l
-    → BlockGiven s levels l.start (some w) l.end b q
+    → BlockGiven s levels l.start (Some w) l.end b q
     → DatumGiven s levels from b q
 unfolding levels_of
 datum_typed h (type_given t k c) n (block_given m e d v) = datum_given (DataGrammar.typed h t k c n m e d) v
 
 datum_untyped : {s : List ℕ} {levels from q : ℕ} {l : Token} {b : Block} → NextDataToken s from less l
-    → BlockGiven s levels l.start none l.end b q → DatumGiven s levels from b q
+    → BlockGiven s levels l.start None l.end b q → DatumGiven s levels from b q
 unfolding levels_of
 datum_untyped n (block_given m e d v) = datum_given (DataGrammar.untyped n m e d) v
 
@@ -203,12 +203,12 @@ module _ (s : List ℕ) (levels : ℕ)
       then_yields P (Took s less p) (expect_data s less p) _ (expect_gives s less p) (λ l q x. opens g x))
     where
       opens : {w : Span} {l : Token} {p q : ℕ} → TypeGiven s (data_token_at s from).end w p → Took s less p l q
-          → Yields (DatumGiven s levels from) (block_from s levels l.start (some w) q)
-      opens {w} g (took {t = l} n) = yields_map _ (DatumGiven s levels from) _ (λ b r y. datum_typed h g n y) (below l.start (some w) l.end)
+          → Yields (DatumGiven s levels from) (block_from s levels l.start (Some w) q)
+      opens {w} g (took {t = l} n) = yields_map _ (DatumGiven s levels from) _ (λ b r y. datum_typed h g n y) (below l.start (Some w) l.end)
 
   less_gives : (from : ℕ) (l : Token) → NextDataToken s from less l
-      → Yields (DatumGiven s levels from) (block_from s levels l.start none l.end)
-  less_gives from l h = yields_map _ (DatumGiven s levels from) _ (λ b r y. datum_untyped h y) (below l.start none l.end)
+      → Yields (DatumGiven s levels from) (block_from s levels l.start None l.end)
+  less_gives from l h = yields_map _ (DatumGiven s levels from) _ (λ b r y. datum_untyped h y) (below l.start None l.end)
 
   inside_gives : (from : ℕ) (w : Parse Block) → Yields (DatumGiven s levels from) w
       → Yields (ContentGiven s levels from) (and_then w (λ d q. parsed (inside d) q))
@@ -270,7 +270,7 @@ outermost_gives levels s =
     (λ e. then_yields P (Took s less 0) (expect_data s less 0) _ (expect_gives s less 0) (λ l p x. opens x))
   where
     opens : {l : Token} {p : ℕ} → Took s less 0 l p
-        → Yields (DatumGiven s levels 0) (block_from s levels l.start none p)
+        → Yields (DatumGiven s levels 0) (block_from s levels l.start None p)
     opens (took {t = l} n) = less_gives s levels (block_gives s levels) 0 l n
 
 abbrev Derived : ℕ → List ℕ → Block → ℕ → Type 0
@@ -347,11 +347,11 @@ less_got : (s : List ℕ) (levels from p : ℕ) (ms : Entries) (l g : Token)
     → DerivesMembers s l.end ms p
     → NextDataToken s p greater g
     → members s (block_from s levels) (length s + 1) [] l.end ≡ parsed ms g.end
-    → content_from s (block_from s (suc levels)) from ≡ parsed (inside (block l.start none ms)) g.end
+    → content_from s (block_from s (suc levels)) from ≡ parsed (inside (block l.start None ms)) g.end
 unfolding content_from
 less_got s levels from p ms l g (next k e) m n h =
     let x = no_leaf m n in
-    let b = block_got s levels l.start none l.end ms g.end h in
+    let b = block_got s levels l.start None l.end ms g.end h in
     rw (data_read k, e, x.0, x.1, b)
 
 typed_got : (s : List ℕ) (levels from : ℕ) (ms : Entries) (t c l g : Token)
@@ -360,10 +360,10 @@ typed_got : (s : List ℕ) (levels from : ℕ) (ms : Entries) (t c l g : Token)
     → NextDataToken s t.end close_round c
     → NextDataToken s c.end less l
     → members s (block_from s levels) (length s + 1) [] l.end ≡ parsed ms g.end
-    → typed s (block_from s (suc levels)) from ≡ parsed (block l.start (some (span_of t)) ms) g.end
+    → typed s (block_from s (suc levels)) from ≡ parsed (block l.start (Some (span_of t)) ms) g.end
 unfolding typed
 typed_got s levels from ms t c l g x a y n h =
-    let b = block_got s levels l.start (some (span_of t)) l.end ms g.end h in
+    let b = block_got s levels l.start (Some (span_of t)) l.end ms g.end h in
     rw (type_got x a y, expect_got n, b)
 
 round_got : (s : List ℕ) (levels from : ℕ) (ms : Entries) (o t c l g : Token)
@@ -373,7 +373,7 @@ round_got : (s : List ℕ) (levels from : ℕ) (ms : Entries) (o t c l g : Token
     → NextDataToken s t.end close_round c
     → NextDataToken s c.end less l
     → members s (block_from s levels) (length s + 1) [] l.end ≡ parsed ms g.end
-    → content_from s (block_from s (suc levels)) from ≡ parsed (inside (block l.start (some (span_of t)) ms)) g.end
+    → content_from s (block_from s (suc levels)) from ≡ parsed (inside (block l.start (Some (span_of t)) ms)) g.end
 unfolding content_from
 round_got s levels from ms o t c l g (next k e) x a y n h = rw (data_read k, other e open_round, typed_got s levels o.end ms t c l g x a y n h)
 
@@ -454,7 +454,7 @@ mutual
 
 -- the outermost datum
 less-outermost : (levels : ℕ) (s : List ℕ) (b : Block) (p : ℕ) (l : Token) → NextDataToken s 0 less l
-    → block_from s levels l.start none l.end ≡ parsed b p → outermost levels s ≡ parsed b p
+    → block_from s levels l.start None l.end ≡ parsed b p → outermost levels s ≡ parsed b p
 unfolding outermost
 less-outermost levels s b p l (next n e) h = rw (expect_got {from = 0} (next n e), data_read n, other e open_round) h
 
@@ -469,11 +469,11 @@ unfolding levels_of
 outermost_got zero s (block q ty ms) p d k = absurd (omega arith)
 outermost_got (suc levels) s b p (DataGrammar.untyped {l = l} {g = t} {ms = ms} n m g d) k =
     let f = next_found n (omega arith) in
-    less-outermost (suc levels) s (block l.start none ms) t.end l n
-    (block_got s levels l.start none l.end ms t.end (members_got ms s l.end _ m levels (length s + 1) [] t g d (omega arith) f.inside (omega arith)))
+    less-outermost (suc levels) s (block l.start None ms) t.end l n
+    (block_got s levels l.start None l.end ms t.end (members_got ms s l.end _ m levels (length s + 1) [] t g d (omega arith) f.inside (omega arith)))
 outermost_got (suc levels) s b p (DataGrammar.typed {o = u} {t = w} {c = v} {l = l} {g = t} {ms = ms} o x a c n m g d) k =
     let f = next_found n (next_found c (type_found x (next_found o (omega arith)).inside).inside).inside in
-    round_outermost (suc levels) s (block l.start (some (span_of w)) ms) t.end u o
+    round_outermost (suc levels) s (block l.start (Some (span_of w)) ms) t.end u o
     (typed_got s levels u.end ms w v l t x a c n (members_got ms s l.end _ m levels (length s + 1) [] t g d (omega arith) f.inside (omega arith)))
 
 -- the text's end, as a token, ends where the text does: no other token has its sort

@@ -2,7 +2,7 @@
 use mathlib.Core.Path.{◌≡◌, refl, sym, ◌∙◌, subst}
 use mathlib.Core.Logic.{◌≢◌}
 use mathlib.Core.Bool.{Bool, true, false, cond, not, ◌||◌, ◌&&◌}
-use mathlib.Core.Option.{Option, none, some}
+use Rattle.std.specs.Prelude.{Option, None, Some}
 use mathlib.Core.List.{List, [], ◌∷◌, Memᴰ}
 use Prim.Native.Nat.{ℕ, zero, suc, ◌≤◌, ◌+◌, ◌-◌}
 use native.Mathlib.Nat.{le_of_lt}
@@ -65,7 +65,7 @@ decided (asked is_date) t = kept is_date
 
 -- a literal's value is what it says
 literal_says : {s : List ℕ} {kind from v : ℕ} {t : Token} → Kind kind → NextToken s from kind t
-    → literal_value kind (spelling s t) ≡ some v → IsLiteral kind (spelling s t) v
+    → literal_value kind (spelling s t) ≡ Some v → IsLiteral kind (spelling s t) v
 literal_says is_integer n e = (integer-literal _ _).0 e
 literal_says is_date n e = (date-literal _ _ (date_long n)).0 e
 
@@ -138,8 +138,8 @@ module _ (s : List ℕ) where
     where
       go : {t : Token} {p : ℕ} → Took s kind from t p → (o : Option ℕ) → literal_value kind (spelling s t) ≡ o
           → Gives (LiteralGiven s kind from) (first_in (possible t o))
-      go {t} x none e = refuse_gives (LiteralGiven s kind from) Impossible t.start
-      go {t} (took n) (some v) e = got_gives (LiteralGiven s kind from) v t.end (literal_given (literal n (literal_says k n e)))
+      go {t} x None e = refuse_gives (LiteralGiven s kind from) Impossible t.start
+      go {t} (took n) (Some v) e = got_gives (LiteralGiven s kind from) v t.end (literal_given (literal n (literal_says k n e)))
 
   up_gives : (kind low from : ℕ) → Kind kind → Gives (UpGiven s kind low from) (Told.up_to s kind low from)
   up_gives kind low from k =

@@ -2,7 +2,7 @@
 use mathlib.Core.Path.{◌≡◌, refl, sym, ap, ◌∙◌, subst, subst₂}
 use mathlib.Core.Logic.{◌≢◌, ◌↔◌}
 use mathlib.Core.Bool.{true, cond}
-use mathlib.Core.Option.{Option, none, some}
+use Rattle.std.specs.Prelude.{Option, None, Some}
 use mathlib.Core.List.{List}
 use Prim.Native.Nat.{ℕ}
 use lib.Dec.{eqb}
@@ -25,29 +25,29 @@ use Rattle.lexis.proofs.TestLaws.{none_some, same_eq, same_self, same_ne, ne_sam
 use Rattle.rules_grammar.proofs.Leaves.{Stands, word_stands, string_stands}
 
 -- the member of a name is the one that is looked up
-looked_up : (w : List ℕ) (ms : Members) (c : Content) → member_of w ms ≡ some c → MemberOf w c ms
+looked_up : (w : List ℕ) (ms : Members) (c : Content) → member_of w ms ≡ Some c → MemberOf w c ms
 unfolding member_of
 looked_up w Data.no_more c e = absurd (none_some e)
 looked_up w (Data.member u x more) c e =
-    by_cond (λ (o : Option Content). o ≡ some c → MemberOf w c (Data.member u x more)) (same w u)
+    by_cond (λ (o : Option Content). o ≡ Some c → MemberOf w c (Data.member u x more)) (same w u)
     (λ h g. let p : x ≡ c = cc in let q = same_eq w u h in subst₂ (λ (a : List ℕ) (b : Content). MemberOf w c (Data.member a b more)) q (sym p) Admits.here)
     (λ h g. Admits.behind (same_ne w u h) (looked_up w more c g))
     e
 
-found : {w : List ℕ} {c : Content} {ms : Members} → MemberOf w c ms → member_of w ms ≡ some c
+found : {w : List ℕ} {c : Content} {ms : Members} → MemberOf w c ms → member_of w ms ≡ Some c
 unfolding member_of
 found {w = w} Admits.here = rw (same_self w)
 found {w = w} (Admits.behind {u = u} h m) = rw (ne_same w u h) (found m)
 
-not_found : (w : List ℕ) (ms : Members) → member_of w ms ≡ none → Missing w ms
+not_found : (w : List ℕ) (ms : Members) → member_of w ms ≡ None → Missing w ms
 not_found w ms e c m = none_some (sym e ∙ found m)
 
-missed : (w : List ℕ) (ms : Members) → Missing w ms → member_of w ms ≡ none
+missed : (w : List ℕ) (ms : Members) → Missing w ms → member_of w ms ≡ None
 missed w ms h = go (member_of w ms) refl
   where
-    go : (o : Option Content) → member_of w ms ≡ o → o ≡ none
-    go none e = refl
-    go (some c) e = absurd (h c (looked_up w ms c e))
+    go : (o : Option Content) → member_of w ms ≡ o → o ≡ None
+    go None e = refl
+    go (Some c) e = absurd (h c (looked_up w ms c e))
 
 -- what a verdict tells of each part
 abbrev Told : Object → Datum → Verdict → Type 0
@@ -82,11 +82,11 @@ leaf_told l (Data.block (datum p t ms)) = FirstFailure.leaf_fails FirstFailure.b
 some_told : (a : AttributeHead) (v : Value) (p : ℕ) (ms : Members) (o : Option Content) → member_of a.name ms ≡ o
     → ((c : Content) → ValueTold v c (judge_value v c))
     → MemberTold a v p ms (judge_member a p o (λ x. judge_value v x))
-some_told a v p ms none h f =
+some_told a v p ms None h f =
     by_cond (MemberTold a v p ms) (eqb a.existence required)
     (λ g. FirstFailure.missing (eqb-true a.existence required g) (not_found a.name ms h))
     (λ g. without (eqb-false a.existence required g) (not_found a.name ms h))
-some_told a v p ms (some c) h f =
+some_told a v p ms (Some c) h f =
     by_cond (MemberTold a v p ms) (eqb a.existence prohibited)
     (λ g. FirstFailure.forbidden (eqb-true a.existence prohibited g) (looked_up a.name ms c h))
     (λ g. go (eqb-false a.existence prohibited g) (looked_up a.name ms c h) (judge_value v c) (f c))
@@ -111,14 +111,14 @@ more_told a v more p ms (fails r k q) y s t = FirstFailure.now s
 block_told : (o : ObjectHead) (xs : Attributes) (p : ℕ) (u : Option (List ℕ)) (ms : Members) (a : Verdict)
     → AttributesTold xs p ms a
     → Told (Constraints.object o xs) (datum p u ms) (cond (type_suits o.type u) a (fails 21 o.number p))
-block_told o xs p none ms valid h = admits Admits.unwritten h
-block_told o xs p none ms (fails r k q) h = FirstFailure.inside Admits.unwritten h
-block_told o xs p (some u) ms a h =
-    by_cond (Told (Constraints.object o xs) (datum p (some u) ms)) (same o.type u)
-    (λ e. subst (λ x. Told (Constraints.object o xs) (datum p (some x) ms) a) (same_eq o.type u e) (go a h))
+block_told o xs p None ms valid h = admits Admits.unwritten h
+block_told o xs p None ms (fails r k q) h = FirstFailure.inside Admits.unwritten h
+block_told o xs p (Some u) ms a h =
+    by_cond (Told (Constraints.object o xs) (datum p (Some u) ms)) (same o.type u)
+    (λ e. subst (λ x. Told (Constraints.object o xs) (datum p (Some x) ms) a) (same_eq o.type u e) (go a h))
     (λ e. FirstFailure.type_differs (same_ne o.type u e))
   where
-    go : (b : Verdict) → AttributesTold xs p ms b → Told (Constraints.object o xs) (datum p (some o.type) ms) b
+    go : (b : Verdict) → AttributesTold xs p ms b → Told (Constraints.object o xs) (datum p (Some o.type) ms) b
     go valid g = admits Admits.own g
     go (fails r k q) g = FirstFailure.inside Admits.own g
 

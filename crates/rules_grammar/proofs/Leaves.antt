@@ -2,7 +2,7 @@
 use mathlib.Core.Path.{◌≡◌, refl, sym, ap, ◌∙◌, subst}
 use mathlib.Core.Logic.{◌↔◌}
 use mathlib.Core.Bool.{Bool, true, ◌&&◌}
-use mathlib.Core.Option.{Option, none, some}
+use Rattle.std.specs.Prelude.{Option, None, Some}
 use mathlib.Core.List.{List, [], ◌∷◌, Memᴰ}
 use Prim.Native.Nat.{ℕ, zero, suc, ◌≤◌, ◌-◌}
 use native.Mathlib.Omega.{arith}
@@ -170,14 +170,14 @@ Stands l c admitted = LeafAdmits l c
 
 -- a value that is tried: unless it cannot be read, it passes the test or does not
 tried : {A : Type 0} (Is : A → Type 0) (l : Leaf) (c : Content) (o : Option A) (test : A → Bool)
-    → ((a : A) → (o ≡ some a) ↔ Is a)
+    → ((a : A) → (o ≡ Some a) ↔ Is a)
     → ((a : A) → Is a → Readable l c)
     → (Readable l c → (a : A) × Is a)
     → ((a : A) → Is a → test a ≡ true → LeafAdmits l c)
     → (LeafAdmits l c → (a : A) × Is a × (test a ≡ true))
     → Stands l c (try o test)
-tried Is l c none test law f g h k = λ r. let x = g r in none_some ((law x.0).1 x.1)
-tried {A} Is l c (some a) test law f g h k =
+tried Is l c None test law f g h k = λ r. let x = g r in none_some ((law x.0).1 x.1)
+tried {A} Is l c (Some a) test law f g h k =
     by_cond (Stands l c) (test a)
     (λ e. h a ((law a).0 refl) e)
     (λ e. (f a ((law a).0 refl), λ r. let x = k r in false_true (sym e ∙ (ap test (some_inj ((law x.0).1 x.1)) ∙ x.2))))

@@ -1,7 +1,7 @@
 -- A literal's value is read exactly where the rule gives it: of an integer, and of a date's token, which has all its parts. Assumes nothing.
 use mathlib.Core.Path.{◌≡◌, refl, subst}
 use mathlib.Core.Logic.{◌↔◌}
-use mathlib.Core.Option.{Option, none, some, map}
+use Rattle.std.specs.Prelude.{Option, None, Some, option_map as map}
 use mathlib.Core.List.{List}
 use Prim.Native.Nat.{ℕ}
 use native.Mathlib.Omega.{arith}
@@ -22,16 +22,16 @@ all_parts (WordRules.year (fixed h _) i) l = absurd (omega arith)
 all_parts (WordRules.month (fixed h _) (fixed k _) i) l = absurd (omega (arith, simp length-append at l))
 all_parts (WordRules.day y m d i) l = refl
 
-pub literal_of_lem : {kind v : ℕ} {w : List ℕ} → IsLiteral kind w v → literal_value kind w ≡ some v
+pub literal_of_lem : {kind v : ℕ} {w : List ℕ} → IsLiteral kind w v → literal_value kind w ≡ Some v
 literal_of_lem {w = w} (an_integer {v = v} h) = (integer-word w v).1 h
 literal_of_lem {w = w} (a_full_date {d = d} h e) = rw ((date-word w d).1 h)
 
-pub integer-literal : (w : List ℕ) (v : ℕ) → (literal_value integer w ≡ some v) ↔ IsLiteral integer w v
+pub integer-literal : (w : List ℕ) (v : ℕ) → (literal_value integer w ≡ Some v) ↔ IsLiteral integer w v
 integer-literal w v = (λ e. an_integer ((integer-word w v).0 e), literal_of_lem)
 
-pub date-literal : (w : List ℕ) (v : ℕ) → length w ≡ 10 → (literal_value date w ≡ some v) ↔ IsLiteral date w v
+pub date-literal : (w : List ℕ) (v : ℕ) → length w ≡ 10 → (literal_value date w ≡ Some v) ↔ IsLiteral date w v
 date-literal w v l = (go (date_of w) refl, literal_of_lem)
   where
-    go : (o : Option Date) → date_of w ≡ o → map (λ (d : Date). d.day) o ≡ some v → IsLiteral date w v
-    go none e f = absurd (none_some f)
-    go (some d) e f = let h = (date-word w d).0 e in subst (IsLiteral date w) (some_inj f) (a_full_date h (all_parts h l))
+    go : (o : Option Date) → date_of w ≡ o → map (λ (d : Date). d.day) o ≡ Some v → IsLiteral date w v
+    go None e f = absurd (none_some f)
+    go (Some d) e f = let h = (date-word w d).0 e in subst (IsLiteral date w) (some_inj f) (a_full_date h (all_parts h l))

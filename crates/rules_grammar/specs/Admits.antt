@@ -3,7 +3,7 @@
 -- full dates only. Patterns: lettered parts must be there, `??` may, `XX` may not, and no part without the one before it; the zone is free."
 -- Document 02, 1: "A value is admitted when each slot it fills is in the pattern". Proved one with judge, boolean_of, integer_of, date_of, time_of, duration_of, fits_duration. Assumes nothing.
 use Rattle.std.specs.Prelude.{◌≡◌, ◌≢◌, ℕ, zero, suc, ◌≤◌}
-use Rattle.std.proofs.Math.Option.{Option, none, some}
+use Rattle.std.specs.Prelude.{Option, None, Some}
 use mathlib.Core.List.{List, [], ◌∷◌, Memᴰ}
 use Rattle.values.specs.Dates.{Date}
 use Rattle.values.specs.Patterns.{Part, must, may, must_not}
@@ -15,8 +15,8 @@ use Rattle.values.specs.WordRules.{IsBoolean, IsInteger, IsDate, IsTime, IsDurat
 
 -- the type, if written, is the object's own
 pub data TypeSuits (t : List ℕ) : Option (List ℕ) → Type 0 where
-  unwritten : TypeSuits t none
-  own : TypeSuits t (some t)
+  unwritten : TypeSuits t None
+  own : TypeSuits t (Some t)
 
 -- an attribute of an object, by its head and its value
 pub data AttributeOf (a : AttributeHead) (v : Value) : Attributes → Type 0 where

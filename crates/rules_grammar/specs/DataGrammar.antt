@@ -3,7 +3,7 @@
 -- a block's"; a word "is good if it reads as at least one of" the kinds; 'Table', lengths of types, names and strings; 'Meaning': "at most 16 levels"; 'Numbers of refusal', 9: a
 -- "member named twice" is refused. Tokens are those of LongestMatch. Each relation says that a part of the text s, from one place up to another, derives a tree. Proved one with block_of, datum_of, data_token_at, type_token_at. Assumes nothing.
 use Rattle.std.specs.Prelude.{◌≡◌, ℕ, suc, ◌≤◌, max, length}
-use Rattle.std.proofs.Math.Option.{none, some}
+use Rattle.std.specs.Prelude.{None, Some}
 use mathlib.Core.List.{List, [], ◌∷◌, Memᴰ}
 use Rattle.lexis.specs.Spelling.{less, greater}
 use Rattle.lexis.specs.Tokens.{text_end, type_name, name, spelling, inner}
@@ -64,7 +64,7 @@ mutual
         → DerivesMembers s l.end ms p
         → NextDataToken s p greater g
         → Distinct [] (names_of s ms)
-        → DerivesDatum s from (block l.start none ms) g.end
+        → DerivesDatum s from (block l.start None ms) g.end
     typed : {from p : ℕ} {o t c l g : Token} {ms : Entries}
         → NextDataToken s from open_round o
         → NextType s o.end t
@@ -74,7 +74,7 @@ mutual
         → DerivesMembers s l.end ms p
         → NextDataToken s p greater g
         → Distinct [] (names_of s ms)
-        → DerivesDatum s from (block l.start (some (span_of t)) ms) g.end
+        → DerivesDatum s from (block l.start (Some (span_of t)) ms) g.end
 
   -- no member, or one and more: NAME `=` and its content
   pub data DerivesMembers (s : List ℕ) : ℕ → Entries → ℕ → Type 0 where

@@ -2,7 +2,7 @@
 -- 'Numbers of refusal': 20 "block for leaf or leaf for block; leaf unreadable as the kind asked", at the "record that c names, its datum's `<`", 21 "type differs", at "record, `<`",
 -- 22 "member missing", at "attribute, enclosing `<`", 23 "member present under 0..0", at "attribute, member's `<`", 24 "value not admitted", at "first item, `<`". Proved one with judge. Assumes nothing.
 use Rattle.std.specs.Prelude.{◌≡◌, ◌≢◌, List, ℕ}
-use Rattle.std.proofs.Math.Option.{Option, some}
+use Rattle.std.specs.Prelude.{Option, Some}
 use Rattle.meaning.specs.Constraints.{Leaf, ObjectHead, Object, AttributeHead, Attributes, Value}
 use Rattle.meaning.specs.Constraints
 use Rattle.meaning.specs.Data.{Datum, datum, Members, Content}
@@ -21,7 +21,7 @@ mutual
   -- the first failure of a datum under an object: reason, record and data place
   pub data FirstFailure : Object → Datum → (reason number place : ℕ) → Type 0 where
     type_differs : {o : ObjectHead} {p : ℕ} {u : List ℕ} {xs : Attributes} {ms : Members} → o.type ≢ u
-        → FirstFailure (Constraints.object o xs) (datum p (some u) ms) 21 o.number p
+        → FirstFailure (Constraints.object o xs) (datum p (Some u) ms) 21 o.number p
     inside : {o : ObjectHead} {p r k q : ℕ} {xs : Attributes} {u : Option (List ℕ)} {ms : Members}
         → TypeSuits o.type u
         → AttributesFail xs p ms r k q

@@ -1,7 +1,7 @@
 -- The check: what a table that passes keeps, and that a table which keeps it passes, written in either order. Assumes nothing.
 use mathlib.Core.Path.{◌≡◌, refl, ap, ap₂, ◌∙◌}
 use mathlib.Core.Bool.{Bool, true, false, ◌&&◌, false≢true}
-use mathlib.Core.Option.{Option, none, some}
+use Rattle.std.specs.Prelude.{Option, None, Some}
 use mathlib.Core.List.{List, [], ◌∷◌, ◌++◌, append_assoc}
 use Prim.Native.Nat.{ℕ, zero, suc, ◌+◌, ◌*◌, ◌-◌, ◌≤◌, ◌<◌}
 use native.Mathlib.Nat.{add-zero, add-suc, suc-add, not-suc-le-zero, le_of_suc-le-suc}
@@ -113,7 +113,7 @@ pub record Framed (bs : List ℕ) : Type 0 where
   pub kind : (header bs).kind ≡ 0
   pub flag : (header bs).flag ≡ 0
   pub rest : all_nought (drop 3 (header bs).fields) ≡ true
-  pub some : 2 ≤ field (header bs) 0
+  pub Some : 2 ≤ field (header bs) 0
   pub few : field (header bs) 0 ≤ record_limit
   pub pool : field (header bs) 1 ≤ pool_limit
   pub whole : length bs ≡ record_size * field (header bs) 0 + field (header bs) 1
@@ -140,7 +140,7 @@ framed_is bs e =
       kind = eqb-true h.kind 0 q.0;
       flag = eqb-true h.flag 0 q.1.0;
       rest = q.1.1.0;
-      some = leb-true 2 (field h 0) c.0;
+      Some = leb-true 2 (field h 0) c.0;
       few = leb-true (field h 0) record_limit c.1.0;
       pool = leb-true (field h 1) pool_limit p.1.1.1.1.0;
       whole = eqb-true (length bs) (record_size * field h 0 + field h 1) p.1.1.1.1.1.0;
@@ -166,22 +166,22 @@ is_framed bs f =
     )
 
 -- a fault is not none
-no_fault_lem : {A P : Type 0} (a : A) → some a ≡ none → P
+no_fault_lem : {A P : Type 0} (a : A) → Some a ≡ None → P
 no_fault_lem a e = let z : ◌≡◌ {A = ℕ} 0 1 = cc in absurd (omega arith)
 
 -- where no record is told there is none
-none_broken : (o : Option ℕ) → broken_record o ≡ none → o ≡ none
-none_broken none e = refl
-none_broken (some n) e = no_fault_lem (refusal BrokenRecord n) e
+none_broken : (o : Option ℕ) → broken_record o ≡ None → o ≡ None
+none_broken None e = refl
+none_broken (Some n) e = no_fault_lem (refusal BrokenRecord n) e
 
 -- records that are not broken are good
-pub unbroken_good : (m : Image) (n k : ℕ) (bs : List ℕ) → broken m n (decodes k bs) bs ≡ none
+pub unbroken_good : (m : Image) (n k : ℕ) (bs : List ℕ) → broken m n (decodes k bs) bs ≡ None
     → RecordsGood m n (decodes k bs)
 unfolding broken
 unbroken_good m n zero bs e = tt
 unbroken_good m n (suc k) bs e =
     let r = decode (take record_size bs) in
-    by_cond (λ o. o ≡ none → RecordsGood m n (decodes (suc k) bs)) (record_right m n (take record_size bs) r)
+    by_cond (λ o. o ≡ None → RecordsGood m n (decodes (suc k) bs)) (record_right m n (take record_size bs) r)
     (λ t h.
     let p = each_passed (is_marked (take record_size bs)) (obeys m n r ∷ clean r ∷ []) t in
     (record { counted = decode_counted (take record_size bs); obeyed = p.1.0; cleaned = p.1.1.0 }, unbroken_good m (suc n) k (drop record_size bs) h))
@@ -189,7 +189,7 @@ unbroken_good m n (suc k) bs e =
 
 -- good records are not broken, written in either order
 pub good_unbroken : (little : Bool) (m : Image) (n : ℕ) (rs : List Record) (more : List ℕ) → RecordsGood m n rs
-    → broken m n rs (encodes little rs ++ more) ≡ none
+    → broken m n rs (encodes little rs ++ more) ≡ None
 unfolding broken
 good_unbroken little m n [] more g = refl
 good_unbroken little m n (r ∷ rs) more g =
@@ -210,26 +210,26 @@ module _ (bs : List ℕ) (f : Framed bs) where
 -- the frame is there, and no record is broken
 pub record Sound (bs : List ℕ) : Type 0 where
   pub frame : Framed bs
-  pub whole : broken (image_of bs) 1 (image_of bs).records (drop record_size bs) ≡ none
+  pub whole : broken (image_of bs) 1 (image_of bs).records (drop record_size bs) ≡ None
 
 -- bytes that pass the check are so
-pub fault_none : (bs : List ℕ) → table_fault bs ≡ none → Sound bs
+pub fault_none : (bs : List ℕ) → table_fault bs ≡ None → Sound bs
 unfolding table_fault
 fault_none bs =
     let told = broken (image_of bs) 1 (image_of bs).records (drop record_size bs) in
-    by_cond (λ o. o ≡ none → Sound bs) (framed bs)
+    by_cond (λ o. o ≡ None → Sound bs) (framed bs)
     (λ t e. record { frame = framed_is bs t; whole = none_broken told e })
     (λ t. no_fault_lem (refusal NotATable 0))
 
 -- bytes that pass the check hold a checked table
-pub check_sound : (bs : List ℕ) → table_fault bs ≡ none → Checked (image_of bs)
+pub check_sound : (bs : List ℕ) → table_fault bs ≡ None → Checked (image_of bs)
 unfolding image_of
 check_sound bs e =
     let s = fault_none bs e in
     let c = count-framed bs s.frame in
     let p = pool_framed bs s.frame in
     record {
-      some = omega arith;
+      Some = omega arith;
       few = omega arith;
       pool = omega arith;
       root = s.frame.root;
@@ -248,7 +248,7 @@ bytes-framed little m h =
       kind = ap (λ r. r.kind) e;
       flag = ap (λ r. r.flag) e;
       rest = ap (λ r. all_nought (drop 3 r.fields)) e;
-      some = rw e h.some;
+      Some = rw e h.some;
       few = rw e h.few;
       pool = rw e h.pool;
       whole = rw e l;
@@ -256,7 +256,7 @@ bytes-framed little m h =
     }
 
 -- a checked table, written in either order, passes the check
-pub check_complete : (little : Bool) (m : Image) → Checked m → table_fault (bytes_of little m) ≡ none
+pub check_complete : (little : Bool) (m : Image) → Checked m → table_fault (bytes_of little m) ≡ None
 unfolding table_fault
 check_complete little m h =
     rw (is_framed (bytes_of little m) (bytes-framed little m h), image_back little m h, bytes_behind little m, good_unbroken little m 1 m.records m.pool h.records)

@@ -1,7 +1,7 @@
 -- Examples of tables: numbers and records as bytes, the check, names and trees. The cases stand in OrderTable, RecordTable, CheckTable, FaultTable, NameTable, TreeTable and
 -- MadeTable. Assumes nothing.
 use mathlib.Core.Bool.{Bool, true, false, not, ◌&&◌}
-use mathlib.Core.Option.{Option, none, some}
+use Rattle.std.specs.Prelude.{Option, None, Some}
 use mathlib.Core.List.{List, []}
 use Prim.Native.Nat.{ℕ}
 use lib.Dec.{eqb}
@@ -49,12 +49,12 @@ pub data CheckCase : Type 0 where
   rewrites : List ℕ → (little : Bool) → List ℕ → CheckCase
 
 abbrev pub is_fault : Option Refusal → ℕ → ℕ → Bool
-is_fault none number place = false
-is_fault (some r) number place = is_refusal r number place
+is_fault None number place = false
+is_fault (Some r) number place = is_refusal r number place
 
 abbrev pub no_fault : Option Refusal → Bool
-no_fault none = true
-no_fault (some r) = false
+no_fault None = true
+no_fault (Some r) = false
 
 unfoldable pub check_right : CheckCase → Bool
 check_right (passes bs) = no_fault (table_fault bs)
@@ -77,12 +77,12 @@ pub data TreeCase : Type 0 where
   no_tree : List ℕ → (n : ℕ) → TreeCase
 
 abbrev pub is_tree : Option Object → List ℕ → Bool
-is_tree none l = false
-is_tree (some o) l = same (object_list o) l
+is_tree None l = false
+is_tree (Some o) l = same (object_list o) l
 
 abbrev pub is_missing : Option Object → Bool
-is_missing none = true
-is_missing (some o) = false
+is_missing None = true
+is_missing (Some o) = false
 
 unfoldable pub tree_right : TreeCase → Bool
 tree_right (tree bs n o) = is_tree (object_at (image_of bs) n) (object_list o)

@@ -1,7 +1,7 @@
 -- Steps of the functions that hand out names, and that a name lies in its table. Assumes nothing.
 use mathlib.Core.Path.{◌≡◌, refl, sym, ap, ◌∙◌}
 use mathlib.Core.Bool.{Bool, true, false, not, cond, false≢true}
-use mathlib.Core.Option.{none}
+use Rattle.std.specs.Prelude.{None}
 use mathlib.Core.List.{List, [], ◌∷◌}
 use Prim.Native.Nat.{ℕ, zero, suc, ◌+◌, ◌*◌, ◌-◌, ◌^◌, ◌≤◌, ◌<◌}
 use native.Mathlib.Nat.{add-sub_cancel_left}
@@ -64,7 +64,7 @@ number_some m zero h = h
 number_some m (suc n) h = omega arith
 
 -- bytes that pass the check are opened by the counts in their header
-module _ (bs : List ℕ) (t : table_fault bs ≡ none) where
+module _ (bs : List ℕ) (t : table_fault bs ≡ None) where
   pub sound_long : record_size ≤ length bs
   sound_long = (fault_none bs t).frame.long
 
@@ -90,7 +90,7 @@ module _ (bs : List ℕ) (f : Frame) (n k : ℕ) (h : Bool) (ek : k ≡ kind_at 
         → answer_of r ≡ name_outcome (image_of bs) n
     name-found r q = rw (← ek, ← eh, g) q
 
-    pub name-inside : table_fault bs ≡ none → (f.count ≡ field (header bs) 0) × (f.pool ≡ field (header bs) 1)
+    pub name-inside : table_fault bs ≡ None → (f.count ≡ field (header bs) 0) × (f.pool ≡ field (header bs) 1)
         → Opened bs f × ((1 ≤ n) × (n < f.count))
     name-inside t q =
         let o = sound_open bs t f q in
@@ -98,7 +98,7 @@ module _ (bs : List ℕ) (f : Frame) (n k : ℕ) (h : Bool) (ek : k ≡ kind_at 
         (o, (number_some (image_of bs) n l, rw (count_opened bs f o) at (kind_inside (image_of bs) n l)))
 
 -- what a check that was passed says of its table
-pub passed_none : (bs : List ℕ) (a : CheckAnswer) → fault_of a ≡ table_fault bs → a ≡ Passed → table_fault bs ≡ none
+pub passed_none : (bs : List ℕ) (a : CheckAnswer) → fault_of a ≡ table_fault bs → a ≡ Passed → table_fault bs ≡ None
 passed_none bs a e h = sym e ∙ ap fault_of h
 
 -- the check's answer goes before
@@ -135,7 +135,7 @@ name_in_pool m n c h =
     (λ least most u. (place_right m n least most x next (ap (λ v. field_right m n v x next) (sym u) ∙ field_at g 0 (omega arith))).inside)
 
 -- so it lies in the bytes
-part-fits : (bs : List ℕ) (n : ℕ) (p : Slice) → table_fault bs ≡ none → name_outcome (image_of bs) n ≡ gave p
+part-fits : (bs : List ℕ) (n : ℕ) (p : Slice) → table_fault bs ≡ None → name_outcome (image_of bs) n ≡ gave p
     → p.start + p.length ≤ length bs
 part-fits bs n p t e =
     let m = image_of bs in

@@ -2,7 +2,7 @@
 use mathlib.Core.Path.{◌≡◌, refl, sym, ap, subst, ◌∙◌}
 use mathlib.Core.Bool.{Bool, true, false, not, true≢false, false≢true}
 use mathlib.Core.Logic.{◌↔◌}
-use mathlib.Core.Option.{Option, none, some}
+use Rattle.std.specs.Prelude.{Option, None, Some}
 use mathlib.Core.List.{List, [], ◌∷◌}
 use Prim.Native.Nat.{ℕ, zero, suc, ◌+◌, ◌*◌, ◌≤◌, ◌<◌}
 use native.Mathlib.Omega.{arith}
@@ -115,8 +115,8 @@ no_part n t h false e = refl
 -- a name is refused where the bytes are no table, or the record has none
 refused_there : (bs : List ℕ) (n : ℕ) (r : Refusal) (f : Option Refusal) → table_fault bs ≡ f
     → or_fault f (name_outcome (image_of bs) n) ≡ refused r → NameRefuses bs n r
-refused_there bs n r (some x) f e = no_table ((no_table_told bs r).0 (f ∙ ap some (same_refusal e)))
-refused_there bs n r none f e =
+refused_there bs n r (Some x) f e = no_table ((no_table_told bs r).0 (f ∙ ap Some (same_refusal e)))
+refused_there bs n r None f e =
     let q = (passes bs).0 f in
     by_cond (λ o. o ≡ refused r → NameRefuses bs n r) (not (holds_name (image_of bs) n))
     (λ h g.

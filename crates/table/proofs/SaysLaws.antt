@@ -2,7 +2,7 @@
 use mathlib.Core.Path.{◌≡◌, refl, sym, ap, subst, ◌∙◌}
 use mathlib.Core.Bool.{Bool}
 use mathlib.Core.Logic.{◌↔◌}
-use mathlib.Core.Option.{Option, none, some}
+use Rattle.std.specs.Prelude.{Option, None, Some}
 use mathlib.Core.List.{List, [], ◌∷◌}
 use Prim.Native.Nat.{ℕ, zero, suc, ◌+◌, ◌*◌, ◌≤◌, ◌<◌}
 use native.Mathlib.Omega.{arith}
@@ -81,9 +81,9 @@ tree_inside m n o e =
     (λ k. k)
 
 -- where there is no answer it is none
-no_answer : {A : Type 0} (o : Option A) → ((a : A) → o ≡ some a → ⊥) → o ≡ none
-no_answer none f = refl
-no_answer (some a) f = absurd (f a refl)
+no_answer : {A : Type 0} (o : Option A) → ((a : A) → o ≡ Some a → ⊥) → o ≡ None
+no_answer None f = refl
+no_answer (Some a) f = absurd (f a refl)
 
 -- the items that a leaf says
 module _ {bs : List ℕ} {count n : ℕ} where
@@ -98,7 +98,7 @@ module _ {bs : List ℕ} {count n : ℕ} where
 
 module _ {bs : List ℕ} {count pool root : ℕ} (t : IsTable bs count pool root) where
   -- a table passes the check
-  pub table_checked : table_fault bs ≡ none
+  pub table_checked : table_fault bs ≡ None
   table_checked = (passes bs).1 (count, pool, root, t)
 
   -- so it keeps what a checked one does
@@ -331,14 +331,14 @@ module _ {bs : List ℕ} {count pool root : ℕ} (t : IsTable bs count pool root
   object_kind_lem n k h = let e = kind_is bs n 1 h in (_, node_kind h (kind_behind n (omega arith)) k)
 
 -- what the check passes and the trees hold, the records say
-pub says_there : (bs : List ℕ) (n : ℕ) (o : Object) → table_fault bs ≡ none → object_at (image_of bs) n ≡ some o
+pub says_there : (bs : List ℕ) (n : ℕ) (o : Object) → table_fault bs ≡ None → object_at (image_of bs) n ≡ Some o
     → Says bs n o
 says_there bs n o e q =
     let p = (passes bs).0 e in
     object_said p.3 n o (object_tree (tree_at (image_of bs) n) o q)
 
 -- and nothing else
-pub says_only : (bs : List ℕ) (n : ℕ) (o : Object) → Says bs n o → object_at (image_of bs) n ≡ some o
+pub says_only : (bs : List ℕ) (n : ℕ) (o : Object) → Says bs n o → object_at (image_of bs) n ≡ Some o
 says_only bs n o s = ap object_in (object_only s.table o s.object s.inside)
 
 -- every record of the kind 1 says an object
@@ -353,7 +353,7 @@ says_kind : {bs : List ℕ} {count n : ℕ} {o : Object} → SaysObject bs count
 says_kind (SaysObject.object h a b s) = h.kind
 
 -- no other number has an object
-pub no_object : (bs : List ℕ) (n : ℕ) → ((table_fault bs ≡ none) × (object_at (image_of bs) n ≡ none)) ↔ NoObject bs n
+pub no_object : (bs : List ℕ) (n : ℕ) → ((table_fault bs ≡ None) × (object_at (image_of bs) n ≡ None)) ↔ NoObject bs n
 no_object bs n = (
   λ p.
       let q = (passes bs).0 p.0 in

@@ -3,7 +3,7 @@
 use mathlib.Core.Path.{◌≡◌, refl, sym, ap, subst, subst₂, ◌∙◌}
 use mathlib.Core.Logic.{◌↔◌}
 use mathlib.Core.Bool.{Bool, true, false, ◌&&◌, false≢true}
-use mathlib.Core.Option.{Option, none, some}
+use Rattle.std.specs.Prelude.{Option, None, Some}
 use mathlib.Core.List.{List, [], ◌∷◌}
 use Prim.Native.Nat.{ℕ, zero, suc, ◌+◌, ◌*◌, ◌-◌, ◌≤◌, ◌<◌}
 use native.Mathlib.Omega.{arith}
@@ -92,7 +92,7 @@ module _ (bs : List ℕ) (count pool root : ℕ) (f : IsFrame bs count pool root
   frame_opened : Opened bs (record { count = count; pool = pool })
   frame_opened =
       let q = frame_is bs count pool root f in
-      record { records = q.0; bytes = q.1; some = f.least; few = f.most; small = f.pooled; whole = f.sized }
+      record { records = q.0; bytes = q.1; Some = f.least; few = f.most; small = f.pooled; whole = f.sized }
 
   -- a number below the count has the kind of the record read there
   frame_kind : (x : ℕ) → 1 ≤ x → x < count → kind_at (image_of bs) x ≡ (record_in bs x).kind
@@ -112,7 +112,7 @@ module _ (bs : List ℕ) (count pool root : ℕ) (f : IsFrame bs count pool root
         kind = z;
         flag = ap (λ x. x.flag) e;
         rest = ap (λ x. all_nought (drop 3 x.fields)) e;
-        some = omega arith;
+        Some = omega arith;
         few = omega arith;
         pool = omega arith;
         whole = omega arith;
@@ -258,14 +258,14 @@ record_rule bs count pool root n f l h = (there, record_right_lem bs count pool 
 
 -- what the lowest number that fails a test is, of k from number i on
 abbrev Lowest : (ℕ → Bool) → ℕ → ℕ → Option ℕ → Type 0
-Lowest test i k none = (n : ℕ) → i ≤ n → n < i + k → test n ≡ true
-Lowest test i k (some n) = (i ≤ n) × (n < i + k) × (test n ≡ false) × ((j : ℕ) → i ≤ j → j < n → test j ≡ true)
+Lowest test i k None = (n : ℕ) → i ≤ n → n < i + k → test n ≡ true
+Lowest test i k (Some n) = (i ≤ n) × (n < i + k) × (test n ≡ false) × ((j : ℕ) → i ≤ j → j < n → test j ≡ true)
 
 -- one number in front that passes it changes nothing
 lowest_more : (test : ℕ → Bool) (i k : ℕ) (o : Option ℕ) → test i ≡ true → Lowest test (suc i) k o
     → Lowest test i (suc k) o
-lowest_more test i k none e p = λ n h l. by_order n i (λ a. let q : i ≡ n = omega arith in rw q at e) (λ a. p n a (omega arith))
-lowest_more test i k (some n) e p =
+lowest_more test i k None e p = λ n h l. by_order n i (λ a. let q : i ≡ n = omega arith in rw q at e) (λ a. p n a (omega arith))
+lowest_more test i k (Some n) e p =
     let a = p.0 in
     let b = p.1 in
     (omega arith, omega arith, p.2, λ j h l. by_order j i (λ a. let q : i ≡ j = omega arith in rw q at e) (λ a. p.3 j a l))
@@ -286,16 +286,16 @@ broken_lowest bs (suc k) i =
 
 -- what the check says by the rules
 abbrev Told : List ℕ → Option Refusal → Type 0
-Told bs none = (count : ℕ) × (pool : ℕ) × (root : ℕ) × IsTable bs count pool root
-Told bs (some r) = NoTable bs r
+Told bs None = (count : ℕ) × (pool : ℕ) × (root : ℕ) × IsTable bs count pool root
+Told bs (Some r) = NoTable bs r
 
 -- it says so of bytes with the frame
 records_told : (bs : List ℕ) (count pool root : ℕ) → IsFrame bs count pool root → (o : Option ℕ)
     → Lowest (right bs) 1 (count - 1) o → Told bs (broken_record o)
-records_told bs count pool root f none p =
+records_told bs count pool root f None p =
     let l = f.least in
     (count, pool, root, record { frame = f; records = λ n a b. (record_rule bs count pool root n f a b).0 (p n a (omega arith)) })
-records_told bs count pool root f (some n) p =
+records_told bs count pool root f (Some n) p =
     let l = f.least in
     let a = p.0 in
     let b = p.1 in
@@ -339,18 +339,18 @@ one_reason (NoTable.broken {n = n} f a b h l) (NoTable.broken {n = m} g c d k o)
 
 -- bytes pass the check exactly where they are a table
 pub passes : (bs : List ℕ)
-    → (table_fault bs ≡ none) ↔ ((count : ℕ) × (pool : ℕ) × (root : ℕ) × IsTable bs count pool root)
+    → (table_fault bs ≡ None) ↔ ((count : ℕ) × (pool : ℕ) × (root : ℕ) × IsTable bs count pool root)
 passes bs = (λ e. subst (Told bs) e (told bs), λ t. by t (table_fault bs) (told bs))
   where
     by : ((count : ℕ) × (pool : ℕ) × (root : ℕ) × IsTable bs count pool root) → (o : Option Refusal) → Told bs o
-        → o ≡ none
-    by t none u = refl
-    by t (some r) u = absurd (not_both t.3 u)
+        → o ≡ None
+    by t None u = refl
+    by t (Some r) u = absurd (not_both t.3 u)
 
 -- and are refused exactly for the reason that they are no table
-pub no_table : (bs : List ℕ) (r : Refusal) → (table_fault bs ≡ some r) ↔ NoTable bs r
+pub no_table : (bs : List ℕ) (r : Refusal) → (table_fault bs ≡ Some r) ↔ NoTable bs r
 no_table bs r = (λ e. subst (Told bs) e (told bs), λ t. by t (table_fault bs) (told bs))
   where
-    by : NoTable bs r → (o : Option Refusal) → Told bs o → o ≡ some r
-    by t none u = absurd (not_both u.3 t)
-    by t (some s) u = ap some (one_reason u t)
+    by : NoTable bs r → (o : Option Refusal) → Told bs o → o ≡ Some r
+    by t None u = absurd (not_both u.3 t)
+    by t (Some s) u = ap Some (one_reason u t)

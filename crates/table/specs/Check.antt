@@ -2,7 +2,7 @@
 -- record's number and below the count, and of the kind it needs .. Pool pairs lie in the pool; length 0 has place 0 .. Low ≤ high; dates real, none after 9999-12-31";
 -- 'Numbers of refusal', 12: "not a table: length, header, root", 13: "record breaks a rule", at the lowest such record; "12 comes before 13". Assumes nothing.
 use Rattle.std.specs.Prelude.{Bool, true, cond, ◌&&◌, ◌||◌, List, [], ◌∷◌, ℕ, suc, ◌+◌, ◌*◌, ◌^◌, eqb, leb, ltb, get_or, take, drop}
-use Rattle.std.proofs.Math.Option.{Option, none, some}
+use Rattle.std.specs.Prelude.{Option, None, Some}
 use Rattle.std.proofs.Math.ListN
 use Rattle.lexis.specs.Bytes.{within, among}
 use Rattle.values.specs.Integers.{twos_complement}
@@ -80,10 +80,10 @@ record_right m n bs r = is_marked bs && obeys m n r && clean r
 
 -- the lowest record at fault, from number n on, of the records and the bytes from there
 unfoldable pub broken : Image → ℕ → List Record → List ℕ → Option ℕ
-broken m n [] bs = none
+broken m n [] bs = None
 broken m n (r ∷ rs) bs =
     let more = broken m (suc n) rs (drop record_size bs) in
-    cond (record_right m n (take record_size bs) r) more (some n)
+    cond (record_right m n (take record_size bs) r) more (Some n)
 
 -- numbers that are all 0
 abbrev pub all_nought : List ℕ → Bool
@@ -103,11 +103,11 @@ framed bs =
     && eqb (kind_at (image_of bs) (field h 2)) object_kind
 
 abbrev pub broken_record : Option ℕ → Option Refusal
-broken_record none = none
-broken_record (some n) = some (refusal BrokenRecord n)
+broken_record None = None
+broken_record (Some n) = Some (refusal BrokenRecord n)
 
 -- the refusal of bytes as a table, if there is one
 unfoldable pub table_fault : List ℕ → Option Refusal
 table_fault bs =
     cond (framed bs) (broken_record (broken (image_of bs) 1 (image_of bs).records (drop record_size bs)))
-    (some (refusal NotATable 0))
+    (Some (refusal NotATable 0))

@@ -1,6 +1,6 @@
 -- The tree that a table says from a record on, computed; Says.antt has the rules. Document 01, 'Table': the table of kinds. A record's tree is made of the trees of the records above it, to which its links
 -- lead: so the trees are made from the last record down. Assumes nothing.
-use Rattle.std.proofs.Math.Option.{Option, none, some}
+use Rattle.std.specs.Prelude.{Option, None, Some}
 use Rattle.std.specs.Prelude.{List, [], ◌∷◌, ℕ, suc, ◌-◌, get_or, take, drop}
 use Rattle.meaning.specs.Constraints.{Range, Text, ObjectHead, AttributeHead, Leaf, ranges, texts, Object, Attributes, no_more, Value, any, nested, leaf}
 use Rattle.meaning.specs.Constraints
@@ -141,10 +141,10 @@ tree_at m n = reach (trees_of m) n
 
 -- an object of the table, by its number
 abbrev pub object_in : Tree → Option Object
-object_in nothing = none
-object_in (of_object o) = some o
-object_in (of_attributes xs) = none
-object_in (of_leaf l) = none
+object_in nothing = None
+object_in (of_object o) = Some o
+object_in (of_attributes xs) = None
+object_in (of_leaf l) = None
 
 abbrev pub object_at : Image → ℕ → Option Object
 object_at m n = object_in (tree_at m n)

@@ -1,6 +1,6 @@
 // Names: the part of the pool that a record's place and length name.
 ghost use Rattle.std.specs.Prelude.{◌≡◌, [], ◌∷◌, ◌<◌, ◌≤◌};
-ghost use Rattle.std.proofs.Math.Option.{none};
+ghost use Rattle.std.specs.Prelude.{None};
 ghost use Rattle.lexis.specs.Bytes.{among};
 ghost use Rattle.refusals.specs.Outcomes.{gave};
 ghost use Rattle.table.specs.Records.{image_of};
@@ -47,7 +47,7 @@ fn name_part(table: &[u8], frame: Frame, n: RecordNumber) -> NameResult
 
 // The name of a record, in a table that passes the check.
 fn name_in(table: &[u8], n: RecordNumber) -> NameResult
-    requires { table_fault table.now ≡ none }
+    requires { table_fault table.now ≡ None }
     ensures { answer_of result ≡ name_outcome (image_of table.now) n.0 }
 {
     let frame = frame_of(table);

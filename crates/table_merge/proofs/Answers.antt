@@ -1,6 +1,6 @@
 -- What a merge that is not refused gives: both tables pass the check, the joined table has room, and the bytes written are the joined table's. Assumes nothing.
 use mathlib.Core.Path.{◌≡◌, refl, sym, ap, ◌∙◌}
-use mathlib.Core.Option.{Option, none, some, map}
+use Rattle.std.specs.Prelude.{Option, None, Some, option_map as map}
 use mathlib.Core.List.{List}
 use Prim.Native.Nat.{ℕ, ◌+◌, ◌≤◌}
 use native.Mathlib.Omega.{arith}
@@ -18,16 +18,16 @@ use Rattle.table_merge.specs.Joining.{shifts_by, merged}
 use Rattle.table_merge.specs.Merge.{MergeRequest, MergeReport, report, of_table, neither, join, merge_outcome, merge_answer}
 
 pub record Joined (q : MergeRequest) (m : MergeReport) (out : List ℕ) : Type 0 where
-  pub first_passes : table_fault q.first ≡ none
-  pub second_passes : table_fault q.second ≡ none
+  pub first_passes : table_fault q.first ≡ None
+  pub second_passes : table_fault q.second ≡ None
   pub records_fit : length (image_of q.first).records + count (image_of q.second) ≤ record_limit
   pub pool_fits : length (image_of q.first).pool + length (image_of q.second).pool ≤ pool_limit
   pub shifts_are : m.shifts ≡ shifts_by (image_of q.first)
   pub written_is : take m.length out ≡ bytes_of q.little (merged (image_of q.first) (image_of q.second))
 
-none_mapped : (table : ℕ) (f : Option Refusal) → map (of_table table) f ≡ none → f ≡ none
-none_mapped table none h = refl
-none_mapped table (some r) h = let z : ◌≡◌ {A = ℕ} 0 1 = cc in absurd (omega arith)
+none_mapped : (table : ℕ) (f : Option Refusal) → map (of_table table) f ≡ None → f ≡ None
+none_mapped table None h = refl
+none_mapped table (Some r) h = let z : ◌≡◌ {A = ℕ} 0 1 = cc in absurd (omega arith)
 
 pub merge_gives : (q : MergeRequest) (out : List ℕ) (m : MergeReport) → (merge_answer q out).answer ≡ gave m
     → Joined q m (merge_answer q out).out

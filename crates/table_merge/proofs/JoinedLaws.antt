@@ -1,7 +1,7 @@
 -- The table that merging writes is one that the rules describe. Assumes nothing.
 use mathlib.Core.Path.{◌≡◌, refl, sym, ap₂, subst, ◌∙◌}
 use mathlib.Core.Bool.{Bool}
-use mathlib.Core.Option.{none}
+use Rattle.std.specs.Prelude.{None}
 use mathlib.Core.List.{List, [], ◌∷◌}
 use Prim.Native.Nat.{ℕ, zero, suc, ◌+◌, ◌*◌, ◌-◌, ◌≤◌, ◌<◌}
 use native.Mathlib.Omega.{arith}
@@ -28,7 +28,7 @@ use Rattle.table_merge.proofs.MoveRuleLaws.{holds_moves}
 
 -- what a table says of itself is so of what its bytes hold
 pub record Reads (bs : List ℕ) (size pool root : ℕ) : Type 0 where
-  pub passed : table_fault bs ≡ none
+  pub passed : table_fault bs ≡ None
   pub checked : Checked (image_of bs)
   pub counted : count (image_of bs) ≡ size
   pub pooled : length (image_of bs).pool ≡ pool

@@ -1,7 +1,7 @@
 -- Merging is done exactly when the rules say so, writes the table that they describe, and is refused exactly as they say. Assumes nothing.
 use mathlib.Core.Path.{◌≡◌, refl, sym, ap, subst, ◌∙◌}
 use mathlib.Core.Logic.{◌↔◌}
-use mathlib.Core.Option.{Option, none, some}
+use Rattle.std.specs.Prelude.{Option, None, Some}
 use mathlib.Core.List.{List, ◌++◌}
 use Prim.Native.Nat.{ℕ, ◌-◌}
 use lib.ListN.{length, drop}
@@ -71,14 +71,14 @@ module _ (q : MergeRequest) (room : ℕ) where
 
   judged_second : {count pool root : ℕ} → IsTable q.first count pool root → (f : Option Refusal)
       → table_fault q.second ≡ f → Judged q room
-  judged_second {count} {pool} {root} t none e =
+  judged_second {count} {pool} {root} t None e =
       let v = (passes q.second).0 e in
       judged_both (record { count₁ = count; pool₁ = pool; root₁ = root; count₂ = v.0; pool₂ = v.1; root₂ = v.2 }) (record { first = t; second = v.3 })
-  judged_second t (some r) e = denied (MergeRefuses.second t ((no_table q.second r).0 e))
+  judged_second t (Some r) e = denied (MergeRefuses.second t ((no_table q.second r).0 e))
 
   judged_first : (f : Option Refusal) → table_fault q.first ≡ f → Judged q room
-  judged_first none e = judged_second ((passes q.first).0 e).3 (table_fault q.second) refl
-  judged_first (some r) e = denied (MergeRefuses.first ((no_table q.first r).0 e))
+  judged_first None e = judged_second ((passes q.first).0 e).3 (table_fault q.second) refl
+  judged_first (Some r) e = denied (MergeRefuses.first ((no_table q.first r).0 e))
 
 module _ (q : MergeRequest) (out : List ℕ) where
   judged : Judged q (length out)

@@ -1,7 +1,7 @@
 -- The ways out of a merge, and what each answers. Assumes nothing.
 use mathlib.Core.Path.{◌≡◌, sym, ◌∙◌}
 use mathlib.Core.Bool.{Bool}
-use mathlib.Core.Option.{none}
+use Rattle.std.specs.Prelude.{None}
 use mathlib.Core.List.{List, ◌++◌}
 use Prim.Native.Nat.{ℕ, ◌+◌, ◌-◌, ◌≤◌, ◌<◌}
 use native.Mathlib.Omega.{arith}
@@ -50,7 +50,7 @@ module _ (first second : List ℕ) (x y : Frame) (little : Bool) (out : List ℕ
     join_large z e h =
         rw (e, records_are, le-ltb record_limit (x.count - 1 + y.count) few, pools_are, lt-ltb pool_limit (x.pool + y.pool) h)
 
-    module _ (small : x.pool + y.pool ≤ pool_limit) (p : table_fault first ≡ none) (q : table_fault second ≡ none) where
+    module _ (small : x.pool + y.pool ≤ pool_limit) (p : table_fault first ≡ None) (q : table_fault second ≡ None) where
       pub joinable : Joinable first second x y
       joinable = record { first_passes = p; second_passes = q; first_opened = a; second_opened = b; few = few; small = small }
 

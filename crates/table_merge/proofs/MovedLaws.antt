@@ -1,6 +1,6 @@
 -- Moving by nothing changes nothing; and the records of tables that pass the check and fit together still fit 32 bits when they are moved. Assumes nothing.
 use mathlib.Core.Path.{◌≡◌, refl, ap₂, subst}
-use mathlib.Core.Option.{none}
+use Rattle.std.specs.Prelude.{None}
 use mathlib.Core.List.{List, [], ◌∷◌, map}
 use Prim.Native.Nat.{ℕ, zero, suc, ◌+◌, ◌-◌, ◌^◌, ◌≤◌, ◌<◌}
 use native.Mathlib.Omega.{arith}
@@ -61,7 +61,7 @@ shifts_opened bs f o =
     λ i. record { records = c i; pool = pool_opened bs f o i }
 
 -- a record of a table that passes the check is good
-module _ (bs : List ℕ) (f : Frame) (o : Opened bs f) (passes : table_fault bs ≡ none) (n : ℕ) (low : 1 ≤ n)
+module _ (bs : List ℕ) (f : Frame) (o : Opened bs f) (passes : table_fault bs ≡ None) (n : ℕ) (low : 1 ≤ n)
     (below : n < f.count) where
   good_in : RecordGood (image_of bs) n (record_in bs n)
   good_in =

@@ -2,7 +2,7 @@
 -- 8 at 0: "merged count above 2,048", 10 at 0: "pool above 16,384", 11 at the needed length: "output too short". 'Table': "Merging writes all in the order asked"; "Both shifts are
 -- reported". Assumes nothing.
 use Rattle.std.specs.Prelude.{Bool, List, ℕ, ◌+◌, ltb, length}
-use Rattle.std.proofs.Math.Option.{map}
+use Rattle.std.specs.Prelude.{option_map as map}
 use Rattle.refusals.specs.Limits.{record_limit, pool_limit}
 use Rattle.refusals.specs.Refusals.{refusal}
 use Rattle.refusals.specs.Outcomes.{Outcome, or_fault, unless, Written, writes, fitting, Answered, write}

@@ -1,6 +1,6 @@
 // Two tables that fit together, written as one.
 ghost use Rattle.std.specs.Prelude.{◌≡◌, ◌++◌, ◌+◌, ◌*◌, ◌-◌, ◌≤◌, length};
-ghost use Rattle.std.proofs.Math.Option.{none};
+ghost use Rattle.std.specs.Prelude.{None};
 ghost use Rattle.std.proofs.lemmas.List.Edits.{sets};
 ghost use Rattle.table.specs.Records.{record_size, encode, encodes, header, header_of, field, image_of, bytes_of};
 ghost use Rattle.table.specs.Check.{table_fault};
@@ -16,7 +16,7 @@ use table::writing::put_record;
 
 // The counts of a table that passes the check.
 pub fn open_table(table: &[u8]) -> Frame
-    requires { table_fault table.now ≡ none }
+    requires { table_fault table.now ≡ None }
     ensures { Opened table.now result }
 {
     frame_of(table)

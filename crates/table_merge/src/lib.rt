@@ -6,7 +6,7 @@ mod joining;
 mod moving;
 
 ghost use Rattle.std.specs.Prelude.{◌≡◌, length};
-ghost use Rattle.std.proofs.Math.Option.{none};
+ghost use Rattle.std.specs.Prelude.{None};
 ghost use Rattle.refusals.specs.Outcomes.{refused, answered, write};
 ghost use Rattle.table.specs.Records.{image_of};
 ghost use Rattle.table.specs.Check.{table_fault};
@@ -45,8 +45,8 @@ fn refuse(cause: Cause, place: usize) -> MergeResult
 
 // Two tables that pass the check, joined where the sizes allow it.
 fn join_tables(first: &[u8], second: &[u8], little: bool, out: &mut [u8]) -> MergeResult
-    requires first_value { table_fault first.now ≡ none }
-    requires second_value { table_fault second.now ≡ none }
+    requires first_value { table_fault first.now ≡ None }
+    requires second_value { table_fault second.now ≡ None }
     ensures { answered (answer_of result) out.new
         ≡ write (join (image_of first.now) (image_of second.now) little (length out.old))
         out.old }

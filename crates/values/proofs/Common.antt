@@ -1,7 +1,7 @@
 -- What the laws share: answers that are there, tests between numbers, a test computed once for all numbers below a bound, and the bytes behind a place. Assumes nothing.
 use mathlib.Core.Path.{◌≡◌, refl, subst}
 use mathlib.Core.Bool.{Bool, true, false, ◌&&◌}
-use mathlib.Core.Option.{Option, none, some}
+use Rattle.std.specs.Prelude.{Option, None, Some}
 use mathlib.Core.List.{List}
 use Prim.Native.Nat.{ℕ, zero, suc, ◌-◌, ◌≤◌, ◌<◌}
 use native.Mathlib.Omega.{arith}
@@ -13,12 +13,12 @@ use Rattle.lexis.proofs.Cases.{and_left, and_right}
 
 -- it holds of the answer, if there is one
 abbrev pub Each : {A : Type 0} → (A → Type 0) → Option A → Type 0
-Each {A} P o = (a : A) → o ≡ some a → P a
+Each {A} P o = (a : A) → o ≡ Some a → P a
 
-pub none_each : {A : Type 0} (P : A → Type 0) → Each P none
+pub none_each : {A : Type 0} (P : A → Type 0) → Each P None
 none_each P a e = let z : ◌≡◌ {A = ℕ} 0 1 = cc in absurd (omega arith)
 
-pub some_each : {A : Type 0} (P : A → Type 0) (a : A) → P a → Each P (some a)
+pub some_each : {A : Type 0} (P : A → Type 0) (a : A) → P a → Each P (Some a)
 some_each P a h b e = let q : a ≡ b = cc in subst P q h
 
 -- an order that is one of two tests passed

@@ -1,7 +1,7 @@
 -- Dates: what is read is a real day with one part to three, and a spelling that reads back. Assumes nothing.
 use mathlib.Core.Path.{◌≡◌, refl}
 use mathlib.Core.Bool.{true}
-use mathlib.Core.Option.{some}
+use Rattle.std.specs.Prelude.{Some}
 use mathlib.Core.List.{List, [], ◌∷◌}
 use Prim.Native.Nat.{ℕ, ◌/◌, ◌%◌, ◌≤◌, ◌<◌}
 use native.Mathlib.Omega.{arith}
@@ -30,7 +30,7 @@ real-good parts day l h =
     (λ t. some_each Good _ (record { is_real = t; some_part = l; three_parts = h }))
     (λ t. none_each _)
 
-pub date-good : (w : List ℕ) (d : Date) → date_of w ≡ some d → Good d
+pub date-good : (w : List ℕ) (d : Date) → date_of w ≡ Some d → Good d
 unfolding date_of
 date-good w =
     let P = Each Good in
@@ -82,6 +82,6 @@ unfolding spell_date
 date-value p h = rw (four_value (year_of p) (omega arith), two_value (month_of p) (omega arith), two_value (day_of p) (omega arith)) (omega arith)
 
 -- a real day that is spelled reads back
-pub date_back : (p : ℕ) → real p ≡ true → date_of (spell_date p) ≡ some (record { parts = 3; day = p })
+pub date_back : (p : ℕ) → real p ≡ true → date_of (spell_date p) ≡ Some (record { parts = 3; day = p })
 unfolding date_of
 date_back p e = let l = real_last p e in rw (date-length p, date-shaped p, date-value p (omega arith), e)

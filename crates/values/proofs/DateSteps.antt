@@ -1,7 +1,7 @@
 -- What each way through the code of dates answers is what the definition says. Assumes nothing.
 use mathlib.Core.Path.{◌≡◌}
 use mathlib.Core.Bool.{Bool, true, false}
-use mathlib.Core.Option.{Option, none, some}
+use Rattle.std.specs.Prelude.{Option, None, Some}
 use mathlib.Core.List.{List}
 use Prim.Native.Nat.{ℕ, ◌≤◌}
 use native.Mathlib.Omega.{arith}
@@ -14,10 +14,10 @@ use Rattle.values.proofs.ShapeSteps.{exactly_long}
 
 -- a day that the calendar has
 module _ (parts day : ℕ) (r : Bool) (h : r ≡ real day) where
-  pub real_is_lem : r ≡ true → some (record { parts = parts; day = day }) ≡ real_date parts day
+  pub real_is_lem : r ≡ true → Some (record { parts = parts; day = day }) ≡ real_date parts day
   real_is_lem q = rw (← h, q)
 
-  pub real_not : r ≡ false → none ≡ real_date parts day
+  pub real_not : r ≡ false → None ≡ real_date parts day
   real_not q = rw (← h, q)
 
 -- bytes of a shape reach as far as it
@@ -54,7 +54,7 @@ module _ (w : List ℕ) (a : Option Date) (r : Bool) (h : r ≡ exactly (bytes "
       unfolding date_of
       date_day q e = rw (← h, n, ← i, m, ← j, q) e
 
-      pub date_none : t ≡ false → a ≡ none → a ≡ date_of w
+      pub date_none : t ≡ false → a ≡ None → a ≡ date_of w
       unfolding date_of
       date_none q e = rw (← h, n, ← i, m, ← j, q) e
 

@@ -1,7 +1,7 @@
 -- A word is read as a date exactly where it is one of the rule. Assumes nothing.
 use mathlib.Core.Path.{◌≡◌}
 use mathlib.Core.Logic.{◌↔◌}
-use mathlib.Core.Option.{some}
+use Rattle.std.specs.Prelude.{Some}
 use mathlib.Core.List.{List, ◌∷◌, ◌++◌}
 use Prim.Native.Nat.{ℕ, ◌≤◌}
 use native.Mathlib.Omega.{arith}
@@ -43,24 +43,24 @@ date_by w =
 
 -- a date of the rule is read
 year_of_lem : {y : List ℕ} {year : ℕ} → Row 4 0 y year → IsDay year 1 1
-    → date_of y ≡ some (record { parts = 1; day = packed year 1 1 })
+    → date_of y ≡ Some (record { parts = 1; day = packed year 1 1 })
 unfolding date_of shaped value_of
 year_of_lem (more p (more q (more r (more s done)))) i = rw (p, q, r, s, (packed_day_lem _).1 (packed_day i))
 
 month_of_lem : {y m : List ℕ} {year month : ℕ} → Row 4 0 y year → Row 2 0 m month → IsDay year month 1
-    → date_of (y ++ (byte "-" ∷ m)) ≡ some (record { parts = 2; day = packed year month 1 })
+    → date_of (y ++ (byte "-" ∷ m)) ≡ Some (record { parts = 2; day = packed year month 1 })
 unfolding date_of shaped value_of
 month_of_lem (more a (more b (more c (more d done)))) (more e (more f done)) i = rw (a, b, c, d, e, f, (packed_day_lem _).1 (packed_day i))
 
 day_of_lem : {y m d : List ℕ} {year month day : ℕ} → Row 4 0 y year → Row 2 0 m month → Row 2 0 d day → IsDay year month day
-    → date_of (y ++ (byte "-" ∷ (m ++ (byte "-" ∷ d)))) ≡ some (record { parts = 3; day = packed year month day })
+    → date_of (y ++ (byte "-" ∷ (m ++ (byte "-" ∷ d)))) ≡ Some (record { parts = 3; day = packed year month day })
 unfolding date_of shaped value_of
 day_of_lem (more a (more b (more c (more d done)))) (more e (more f done)) (more g (more h done)) i = rw (a, b, c, d, e, f, g, h, (packed_day_lem _).1 (packed_day i))
 
-date_of_lem : {w : List ℕ} {d : Date} → IsDate w d → date_of w ≡ some d
+date_of_lem : {w : List ℕ} {d : Date} → IsDate w d → date_of w ≡ Some d
 date_of_lem (WordRules.year y i) = year_of_lem (fixed_row y) i
 date_of_lem (WordRules.month y m i) = month_of_lem (fixed_row y) (fixed_row m) i
 date_of_lem (WordRules.day y m d i) = day_of_lem (fixed_row y) (fixed_row m) (fixed_row d) i
 
-pub date-word : (w : List ℕ) (d : Date) → (date_of w ≡ some d) ↔ IsDate w d
+pub date-word : (w : List ℕ) (d : Date) → (date_of w ≡ Some d) ↔ IsDate w d
 date-word w d = (date_by w d, date_of_lem)

@@ -1,6 +1,6 @@
 -- What each way through the code of durations answers is what the definition says. Assumes nothing.
 use mathlib.Core.Path.{◌≡◌, refl}
-use mathlib.Core.Option.{none, some}
+use Rattle.std.specs.Prelude.{None, Some}
 use mathlib.Core.List.{List, [], ◌∷◌}
 use Prim.Native.Nat.{ℕ, ◌-◌}
 use native.Mathlib.Omega.{arith}
@@ -16,13 +16,13 @@ use Rattle.values.specs.declared.durations.Duration.{Duration}
 use Rattle.values.proofs.Common.{rest_is}
 
 module _ (flag : ℕ) where
-  pub slots_none : flag ≡ 0 → none ≡ slots_if flag
+  pub slots_none : flag ≡ 0 → None ≡ slots_if flag
   slots_none e = rw (eq-eqb flag 0 e) refl
 
-  pub slots_are : (flag ≡ 0 → ⊥) → some flag ≡ slots_if flag
+  pub slots_are : (flag ≡ 0 → ⊥) → Some flag ≡ slots_if flag
   slots_are n = rw (ne_eqb flag 0 n) refl
 
-pub duration_empty : (w : List ℕ) → length w ≡ 0 → none ≡ duration_of w
+pub duration_empty : (w : List ℕ) → length w ≡ 0 → None ≡ duration_of w
 unfolding duration_of slots_of
 duration_empty [] e = refl
 duration_empty (b ∷ w) e = absurd (omega arith)

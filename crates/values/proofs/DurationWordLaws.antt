@@ -1,7 +1,7 @@
 -- A word is read as a duration exactly where the rule says so. Assumes nothing.
 use mathlib.Core.Path.{◌≡◌, refl, sym, subst}
 use mathlib.Core.Logic.{◌↔◌}
-use mathlib.Core.Option.{some}
+use Rattle.std.specs.Prelude.{Some}
 use mathlib.Core.List.{List, [], ◌∷◌}
 use Prim.Native.Nat.{ℕ}
 use lib.Dec.{eqb}
@@ -34,14 +34,14 @@ duration_by (b ∷ w) =
     (λ e. slots_by (IsDuration (b ∷ w)) w (λ f h. subst (λ (c : ℕ). IsDuration (c ∷ w) f) (sym (eqb-true b (byte "-") e)) (WordRules.signed h)))
     (λ e. slots_by (IsDuration (b ∷ w)) (b ∷ w) (λ f h. WordRules.unsigned h))
 
-slots_of_lem : {w : List ℕ} {f : ℕ} → SlotsBehindP DigitsAndLetter w f → slots_if (slots_of digit_slot w) ≡ some f
+slots_of_lem : {w : List ℕ} {f : ℕ} → SlotsBehindP DigitsAndLetter w f → slots_if (slots_of digit_slot w) ≡ Some f
 slots_of_lem {w} {f} h = let n = slots_some h in rw ((word_slots_are w f n).1 h, ne_eqb f 0 n) refl
 
-duration_of_lem : {w : List ℕ} {f : ℕ} → IsDuration w f → duration_of w ≡ some f
+duration_of_lem : {w : List ℕ} {f : ℕ} → IsDuration w f → duration_of w ≡ Some f
 unfolding duration_of
 duration_of_lem (WordRules.unsigned (DurationRules.dates k n)) = slots_of_lem (DurationRules.dates k n)
 duration_of_lem (WordRules.unsigned (DurationRules.times k l n)) = slots_of_lem (DurationRules.times k l n)
 duration_of_lem (WordRules.signed h) = slots_of_lem h
 
-pub duration_word : (w : List ℕ) (f : ℕ) → (duration_of w ≡ some f) ↔ IsDuration w f
+pub duration_word : (w : List ℕ) (f : ℕ) → (duration_of w ≡ Some f) ↔ IsDuration w f
 duration_word w f = (duration_by w f, duration_of_lem)

@@ -1,7 +1,7 @@
 -- Examples of words, of the calendar, of values with a distance on either side and of patterns, each with what is expected. The cases stand in the tables.
 -- Assumes nothing.
 use mathlib.Core.Bool.{Bool, false, not, ◌&&◌}
-use mathlib.Core.Option.{Option, none, some}
+use Rattle.std.specs.Prelude.{Option, None, Some}
 use mathlib.Core.List.{List, [], ◌∷◌}
 use Prim.Native.Nat.{ℕ}
 use lib.Dec.{eqb}
@@ -21,8 +21,8 @@ abbrev pub date : ℕ → ℕ → Date
 date parts day = record { parts = parts; day = day }
 
 abbrev pub date_list : Option Date → List ℕ
-date_list none = []
-date_list (some d) = d.parts ∷ d.day ∷ []
+date_list None = []
+date_list (Some d) = d.parts ∷ d.day ∷ []
 
 -- a word, what it reads as, and whether it is good
 pub data WordCase : Type 0 where
@@ -49,8 +49,8 @@ pub data NumberCase : Type 0 where
   end_is : (end value : ℕ) → NumberCase
 
 abbrev pub spread_right : ℕ → ℕ → Option Pair → Bool
-spread_right a d none = not (inside a d)
-spread_right a d (some p) = inside a d && eqb (around a d).low p.low && eqb (around a d).high p.high
+spread_right a d None = not (inside a d)
+spread_right a d (Some p) = inside a d && eqb (around a d).low p.low && eqb (around a d).high p.high
 
 unfoldable pub number_right : NumberCase → Bool
 number_right (leap_is y answer) = agree (leap y) answer
@@ -67,16 +67,16 @@ pub data PatternCase : Type 0 where
   date_fits time_fits duration_fits : (flag : ℕ) (word : List ℕ) (answer : Bool) → PatternCase
 
 abbrev pub date_admitted : ℕ → Option Date → Bool
-date_admitted flag none = false
-date_admitted flag (some d) = fits_date flag d.parts
+date_admitted flag None = false
+date_admitted flag (Some d) = fits_date flag d.parts
 
 abbrev pub time_admitted : ℕ → Option ℕ → Bool
-time_admitted flag none = false
-time_admitted flag (some parts) = fits_time flag parts
+time_admitted flag None = false
+time_admitted flag (Some parts) = fits_time flag parts
 
 abbrev pub duration_admitted : ℕ → Option ℕ → Bool
-duration_admitted flag none = false
-duration_admitted flag (some filled) = fits_duration flag filled
+duration_admitted flag None = false
+duration_admitted flag (Some filled) = fits_duration flag filled
 
 unfoldable pub pattern_right : PatternCase → Bool
 pattern_right (date_fits flag w answer) = agree (date_admitted flag (date_of w)) answer

@@ -1,7 +1,7 @@
 -- Integers: what is read lies in the range, two's complement, the ends of `+/-`, and a spelling that reads back. Assumes nothing.
 use mathlib.Core.Path.{◌≡◌, refl, ap, ◌∙◌}
 use mathlib.Core.Bool.{true, false, cond, ◌&&◌}
-use mathlib.Core.Option.{Option, some}
+use Rattle.std.specs.Prelude.{Option, Some}
 use mathlib.Core.List.{List, [], ◌∷◌}
 use Prim.Native.Nat.{ℕ, zero, suc, ◌+◌, ◌-◌, ◌/◌, ◌%◌, ◌^◌, ◌≤◌, ◌<◌}
 use native.Mathlib.Omega.{arith}
@@ -20,7 +20,7 @@ use Rattle.values.proofs.Common.{Each, none_each, some_each, le_left, le_right, 
 abbrev InRange : Option ℕ → Type 0
 InRange = Each (λ n. n ≤ greatest)
 
-pub integer_in_range : (w : List ℕ) (n : ℕ) → integer_of w ≡ some n → n ≤ greatest
+pub integer_in_range : (w : List ℕ) (n : ℕ) → integer_of w ≡ Some n → n ≤ greatest
 unfolding integer_of
 integer_in_range w =
     either InRange (eqb (get_or w 0 0) (byte "-"))
@@ -134,13 +134,13 @@ decimal_unsigned (suc n) =
     from_first (digits_of m m []) (digits_first m m [] (omega arith) (omega arith)) (digits_all m m [] (omega arith) refl)
 
 -- an integer that is spelled reads back
-pub integer_back : (n : ℕ) → n ≤ greatest → integer_of (spell_integer n) ≡ some n
+pub integer_back : (n : ℕ) → n ≤ greatest → integer_of (spell_integer n) ≡ Some n
 unfolding spell_integer integer_of
 integer_back n h =
-    by_cond (λ w. integer_of w ≡ some n) (ltb n nought)
+    by_cond (λ w. integer_of w ≡ Some n) (ltb n nought)
     (λ t. let l = ltb-true n nought t in
     rw ((decimal_unsigned (nought - n)).is_plain, decimal_value (nought - n), le-leb 1 (nought - n) (omega arith), le-leb (nought - n) nought (omega arith))
-    (ap {B = Option ℕ} some (omega arith)))
+    (ap {B = Option ℕ} Some (omega arith)))
     (λ t. let l = ltb-false n nought t in
     rw ((decimal_unsigned (n - nought)).no_sign, (decimal_unsigned (n - nought)).is_plain, decimal_value (n - nought), le-leb (n - nought) 2_147_483_647 (omega arith))
-    (ap {B = Option ℕ} some (omega arith)))
+    (ap {B = Option ℕ} Some (omega arith)))

@@ -1,7 +1,7 @@
 -- What each way through the code of integers answers is what the definition says. Assumes nothing.
 use mathlib.Core.Path.{◌≡◌, refl, sym, ◌∙◌}
 use mathlib.Core.Bool.{Bool, true, false, cond, not, ◌&&◌, and-true, and-false, false≢true}
-use mathlib.Core.Option.{Option, none, some}
+use Rattle.std.specs.Prelude.{Option, None, Some}
 use mathlib.Core.List.{List, [], ◌∷◌}
 use Prim.Native.Nat.{ℕ, ◌+◌, ◌*◌, ◌-◌, ◌^◌, ◌≤◌, ◌<◌}
 use native.Mathlib.Omega.{arith}
@@ -34,21 +34,21 @@ value-least n (b ∷ bs) = let h = value-least (n * 10 + (b - byte "0")) bs in o
 
 -- digits from a place on, behind the number n
 module _ (n i : ℕ) (ds : List ℕ) (x : Option ℕ) (now : digits_from n (drop i ds) ≡ x) where
-  pub digits_above : length ds ≤ i → nought < n → none ≡ x
+  pub digits_above : length ds ≤ i → nought < n → None ≡ x
   unfolding digits_from all value_of
   digits_above h l = rw (drop_of_length-le ds h, lt-leb n nought l) at now
 
-  pub digits_end : length ds ≤ i → n ≤ nought → some n ≡ x
+  pub digits_end : length ds ≤ i → n ≤ nought → Some n ≡ x
   unfolding digits_from all value_of
   digits_end h l = rw (drop_of_length-le ds h, le-leb n nought l) at now
 
   module _ (r : Bool) (h : i < length ds) (q : r ≡ is digit (get_or ds i 0)) where
-    pub digits_other : not r ≡ true → none ≡ x
+    pub digits_other : not r ≡ true → None ≡ x
     unfolding digits_from all
     digits_other k = rw (drop_in ds i h, ← q, not-true r k) at now
 
     module _ (k : not r ≡ false) where
-      pub digits_large : 214_748_364 < n → none ≡ x
+      pub digits_large : 214_748_364 < n → None ≡ x
       unfolding digits_from all value_of
       digits_large l =
           let m = n * 10 + (get_or ds i 0 - byte "0") in
@@ -67,11 +67,11 @@ module _ (ds : List ℕ) where
   unfolding digits_from plain_number
   plain_digits h q = rw (le-leb 1 (length ds) h, q) (simp and-true)
 
-  pub plain-empty : length ds ≡ 0 → none ≡ plain_number ds
+  pub plain-empty : length ds ≡ 0 → None ≡ plain_number ds
   unfolding plain_number
   plain-empty h = rw (lt-leb 1 (length ds) (omega arith), and-false)
 
-  pub plain_zero : (length ds ≡ 1 → ⊥) → get_or ds 0 0 ≡ byte "0" → none ≡ plain_number ds
+  pub plain_zero : (length ds ≡ 1 → ⊥) → get_or ds 0 0 ≡ byte "0" → None ≡ plain_number ds
   unfolding plain_number
   plain_zero n q = rw (eq-eqb (get_or ds 0 0) (byte "0") q, ne_eqb (length ds) 1 n, and-false)
 
@@ -83,11 +83,11 @@ module _ (ds : List ℕ) where
     plain_more h n = e ∙ plain_digits (omega arith) (rw (ne_eqb (get_or ds 0 0) (byte "0") n))
 
 -- what is known of a plain number that is there, and where there is none
-there : (b : Bool) (n v : ℕ) → some n ≡ cond b (some v) none → (b ≡ true) × (n ≡ v)
+there : (b : Bool) (n v : ℕ) → Some n ≡ cond b (Some v) None → (b ≡ true) × (n ≡ v)
 there true n v e = (refl, cc)
 there false n v e = let z : ◌≡◌ {A = ℕ} 0 1 = cc in absurd (omega arith)
 
-missing : (b : Bool) (v : ℕ) → none ≡ cond b (some v) none → b ≡ false
+missing : (b : Bool) (v : ℕ) → None ≡ cond b (Some v) None → b ≡ false
 missing true v e = let z : ◌≡◌ {A = ℕ} 0 1 = cc in absurd (omega arith)
 missing false v e = refl
 
@@ -117,34 +117,34 @@ module _ (ds : List ℕ) (r : Number) (h : integer_answer r ≡ plain_number ds)
     pub plain-most : n ≤ nought
     plain-most = (plain_there n q).2
 
-    pub negative-nought : n < 1 → none ≡ negative ds
+    pub negative-nought : n < 1 → None ≡ negative ds
     negative-nought l =
         let t = plain_there n q in
         rw (t.0, ← t.1, lt-leb 1 n l)
 
-    pub negative_some : 1 ≤ n → some (nought - n) ≡ negative ds
+    pub negative_some : 1 ≤ n → Some (nought - n) ≡ negative ds
     negative_some l =
         let t = plain_there n q in
         rw (t.0, ← t.1, le-leb 1 n l, le-leb n nought t.2)
 
-    pub unsigned_large : 2_147_483_647 < n → none ≡ not_negative ds
+    pub unsigned_large : 2_147_483_647 < n → None ≡ not_negative ds
     unsigned_large l =
         let t = plain_there n q in
         rw (t.0, ← t.1, lt-leb n 2_147_483_647 l)
 
-    pub unsigned_some : n ≤ 2_147_483_647 → some (nought + n) ≡ not_negative ds
+    pub unsigned_some : n ≤ 2_147_483_647 → Some (nought + n) ≡ not_negative ds
     unsigned_some l =
         let t = plain_there n q in
         rw (t.0, ← t.1, le-leb n 2_147_483_647 l)
 
-  pub negative_none : r ≡ Nothing → none ≡ negative ds
+  pub negative_none : r ≡ Nothing → None ≡ negative ds
   negative_none q = let v = value_of 0 ds in rw (without_middle (plain ds) (leb 1 v) (leb v nought) (plain_missing q))
 
-  pub unsigned_none : r ≡ Nothing → none ≡ not_negative ds
+  pub unsigned_none : r ≡ Nothing → None ≡ not_negative ds
   unsigned_none q = rw (below_too (plain ds) (value_of 0 ds) (plain_missing q))
 
 -- the ways to an integer
-pub integer_empty : (w : List ℕ) → length w ≡ 0 → none ≡ integer_of w
+pub integer_empty : (w : List ℕ) → length w ≡ 0 → None ≡ integer_of w
 unfolding integer_of all
 integer_empty [] h = refl
 integer_empty (b ∷ bs) h = absurd (omega arith)

@@ -1,7 +1,7 @@
 -- What the patterns admit, by how many parts are there; and how many parts a time has. Assumes nothing.
 use mathlib.Core.Path.{◌≡◌, refl}
 use mathlib.Core.Bool.{Bool, true, false, ◌&&◌, beq}
-use mathlib.Core.Option.{some}
+use Rattle.std.specs.Prelude.{Some}
 use mathlib.Core.List.{List, [], ◌∷◌}
 use Prim.Native.Nat.{ℕ, ◌≤◌}
 use native.Mathlib.Omega.{arith}
@@ -56,7 +56,7 @@ OneToThree n = (1 ≤ n) × (n ≤ 3)
 good_parts : (b : Bool) (m : ℕ) → OneToThree m → Each OneToThree (good_time b m)
 good_parts b m h = either (Each OneToThree) b (some_each OneToThree m h) (none_each _)
 
-pub time_parts : (w : List ℕ) (n : ℕ) → time_of w ≡ some n → (1 ≤ n) × (n ≤ 3)
+pub time_parts : (w : List ℕ) (n : ℕ) → time_of w ≡ Some n → (1 ≤ n) × (n ≤ 3)
 unfolding time_of
 time_parts w =
     let P = Each OneToThree in

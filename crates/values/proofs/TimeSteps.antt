@@ -1,7 +1,7 @@
 -- What each way through the code of times and zones answers is what the definition says. Assumes nothing.
 use mathlib.Core.Path.{◌≡◌, refl, sym, ◌∙◌}
 use mathlib.Core.Bool.{Bool, true, false, not, and-true}
-use mathlib.Core.Option.{Option, none, some}
+use Rattle.std.specs.Prelude.{Option, None, Some}
 use mathlib.Core.List.{List}
 use Prim.Native.Nat.{ℕ, ◌+◌, ◌-◌, ◌≤◌, ◌<◌}
 use native.Mathlib.Nat.{add-zero}
@@ -136,10 +136,10 @@ module _ (w : List ℕ) (r : Bool) (h : r ≡ hours w) where
 
 -- so many parts
 module _ (good : Bool) (parts : ℕ) where
-  pub good_some : good ≡ true → some parts ≡ good_time good parts
+  pub good_some : good ≡ true → Some parts ≡ good_time good parts
   good_some q = rw q
 
-  pub good_none : good ≡ false → none ≡ good_time good parts
+  pub good_none : good ≡ false → None ≡ good_time good parts
   good_none q = rw q
 
 -- a time by its shape
@@ -160,7 +160,7 @@ module _ (w : List ℕ) (a : Option ℕ) (g r : Bool) (h : r ≡ shaped (bytes "
 
 pub time_none : (w : List ℕ) (r s t : Bool) → r ≡ shaped (bytes "dd:dd:dd") w → r ≡ false → s ≡ shaped (bytes "dd:dd") w
     → s ≡ false
-    → t ≡ shaped (bytes "dd") w → t ≡ false → none ≡ time_of w
+    → t ≡ shaped (bytes "dd") w → t ≡ false → None ≡ time_of w
 unfolding time_of
 time_none w r s t h n i m j q = rw (← h, n, ← i, m, ← j, q)
 

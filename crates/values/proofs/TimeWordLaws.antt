@@ -2,7 +2,7 @@
 use mathlib.Core.Path.{◌≡◌, refl, sym, subst}
 use mathlib.Core.Logic.{◌↔◌}
 use mathlib.Core.Bool.{Bool, true, false, ◌&&◌, ◌||◌}
-use mathlib.Core.Option.{some}
+use Rattle.std.specs.Prelude.{Some}
 use mathlib.Core.List.{List, ◌∷◌, ◌++◌}
 use Prim.Native.Nat.{ℕ, ◌+◌, ◌≤◌}
 use native.Mathlib.Omega.{arith}
@@ -151,28 +151,28 @@ time_by w =
     (λ _. none_each P)))
 
 -- a time of the rule is read
-hour_of : {h z : List ℕ} {hours : ℕ} → Row 2 0 h hours → hours ≤ 23 → IsZone z → time_of (h ++ z) ≡ some 1
+hour_of : {h z : List ℕ} {hours : ℕ} → Row 2 0 h hours → hours ≤ 23 → IsZone z → time_of (h ++ z) ≡ Some 1
 unfolding time_of shaped value_of
 hour_of (more a (more b done)) l z = rw (a, b, no_colon z (bytes "dd:dd"), no_colon z (bytes "dd"), le-leb _ 23 l, zone_of z)
 
 minute_of : {h m z : List ℕ} {hours minutes : ℕ} → Row 2 0 h hours → Row 2 0 m minutes → hours ≤ 23 → minutes ≤ 59
     → IsZone z
-    → time_of (h ++ (byte ":" ∷ (m ++ z))) ≡ some 2
+    → time_of (h ++ (byte ":" ∷ (m ++ z))) ≡ Some 2
 unfolding time_of shaped value_of
 minute_of (more a (more b done)) (more c (more d done)) l k z = rw (a, b, c, d, no_colon z (bytes "dd"), le-leb _ 23 l, le-leb _ 59 k, zone_of z)
 
 second_of_lem : {h m s z : List ℕ} {hours minutes seconds : ℕ} → Row 2 0 h hours → Row 2 0 m minutes → Row 2 0 s seconds
     → hours ≤ 23 → minutes ≤ 59 → seconds ≤ 59
     → IsZone z
-    → time_of (h ++ (byte ":" ∷ (m ++ (byte ":" ∷ (s ++ z))))) ≡ some 3
+    → time_of (h ++ (byte ":" ∷ (m ++ (byte ":" ∷ (s ++ z))))) ≡ Some 3
 unfolding time_of shaped value_of
 second_of_lem (more a (more b done)) (more c (more d done)) (more e (more f done)) l k j z =
     rw (a, b, c, d, e, f, le-leb _ 23 l, le-leb _ 59 k, le-leb _ 59 j, zone_of z)
 
-time_of_lem : {w : List ℕ} {parts : ℕ} → IsTime w parts → time_of w ≡ some parts
+time_of_lem : {w : List ℕ} {parts : ℕ} → IsTime w parts → time_of w ≡ Some parts
 time_of_lem (WordRules.hour (up_to h l) z) = hour_of (fixed_row h) l z
 time_of_lem (WordRules.minute (up_to h l) (up_to m k) z) = minute_of (fixed_row h) (fixed_row m) l k z
 time_of_lem (WordRules.second (up_to h l) (up_to m k) (up_to s j) z) = second_of_lem (fixed_row h) (fixed_row m) (fixed_row s) l k j z
 
-pub time_word : (w : List ℕ) (parts : ℕ) → (time_of w ≡ some parts) ↔ IsTime w parts
+pub time_word : (w : List ℕ) (parts : ℕ) → (time_of w ≡ Some parts) ↔ IsTime w parts
 time_word w parts = (time_by w parts, time_of_lem)

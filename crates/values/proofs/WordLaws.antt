@@ -2,7 +2,7 @@
 use mathlib.Core.Path.{◌≡◌, refl, sym, subst}
 use mathlib.Core.Logic.{◌↔◌}
 use mathlib.Core.Bool.{true, false, cond, ◌&&◌, ◌||◌, or-true}
-use mathlib.Core.Option.{Option, none, some}
+use Rattle.std.specs.Prelude.{Option, None, Some}
 use mathlib.Core.List.{List, [], ◌∷◌}
 use Prim.Native.Nat.{ℕ, suc, ◌+◌, ◌-◌}
 use native.Mathlib.Omega.{arith}
@@ -38,12 +38,12 @@ boolean_by w =
     (λ e. some_each (IsBoolean w) 2 (subst (λ (v : List ℕ). IsBoolean v 2) (same_eq (bytes "False") w e) is_false))
     (λ e. none_each (IsBoolean w)))
 
-boolean_of_lem : {w : List ℕ} {b : ℕ} → IsBoolean w b → boolean_of w ≡ some b
+boolean_of_lem : {w : List ℕ} {b : ℕ} → IsBoolean w b → boolean_of w ≡ Some b
 unfolding boolean_of same
 boolean_of_lem is_true = refl
 boolean_of_lem is_false = refl
 
-pub boolean_word : (w : List ℕ) (b : ℕ) → (boolean_of w ≡ some b) ↔ IsBoolean w b
+pub boolean_word : (w : List ℕ) (b : ℕ) → (boolean_of w ≡ Some b) ↔ IsBoolean w b
 boolean_word w b = (boolean_by w b, boolean_of_lem)
 
 -- a number without needless zeros
@@ -51,15 +51,15 @@ plain_by : (ds : List ℕ) → plain ds ≡ true → PlainNumber ds (value_of 0 
 unfolding all value_of
 plain_by [] e = absurd (false_true e)
 plain_by (b ∷ w) e =
-    let some = leb 1 (suc (length w)) in
+    let Some = leb 1 (suc (length w)) in
     let first = cond (eqb b (byte "0")) (eqb (suc (length w)) 1) true in
     true_or_false (eqb b (byte "0"))
     (λ t.
-    let l = eqb-true (suc (length w)) 1 (rw t at (and_right (all (is digit) (b ∷ w) && some) first e)) in
+    let l = eqb-true (suc (length w)) 1 (rw t at (and_right (all (is digit) (b ∷ w) && Some) first e)) in
     let p = eqb-true b (byte "0") t in
     let q = no_more_lem w (omega arith) in
     subst (λ (v : List ℕ). PlainNumber v (value_of 0 v)) (λ i. sym p i ∷ sym q i) WordRules.nought)
-    (λ t. WordRules.other (eqb-false b (byte "0") t) (digits_say (b ∷ w) (and_left (all (is digit) (b ∷ w)) some (and_left (all (is digit) (b ∷ w) && some) first e))))
+    (λ t. WordRules.other (eqb-false b (byte "0") t) (digits_say (b ∷ w) (and_left (all (is digit) (b ∷ w)) Some (and_left (all (is digit) (b ∷ w) && Some) first e))))
 
 plain_of : {ds : List ℕ} {n : ℕ} → PlainNumber ds n → (plain ds ≡ true) × (value_of 0 ds ≡ n)
 unfolding all value_of sort_of
@@ -98,18 +98,18 @@ integer_by (b ∷ w) =
     (λ e. rw (eqb-true b (byte "-") e) (negative_by w))
     (λ e. not_negative_by (b ∷ w))
 
-integer_of_lem : {w : List ℕ} {v : ℕ} → IsInteger w v → integer_of w ≡ some v
+integer_of_lem : {w : List ℕ} {v : ℕ} → IsInteger w v → integer_of w ≡ Some v
 unfolding integer_of
 integer_of_lem (WordRules.not_negative {w = w} {n = n} p l) = let t = plain_of p in rw (unsigned p, t.0, t.1, le-leb n 2_147_483_647 l)
 integer_of_lem (WordRules.negative {w = w} {n = n} p l h) = let t = plain_of p in rw (t.0, t.1, le-leb 1 n l, le-leb n 2_147_483_648 h)
 
-pub integer-word : (w : List ℕ) (v : ℕ) → (integer_of w ≡ some v) ↔ IsInteger w v
+pub integer-word : (w : List ℕ) (v : ℕ) → (integer_of w ≡ Some v) ↔ IsInteger w v
 integer-word w v = (integer_by w v, integer_of_lem)
 
 -- good words
-reads_some : {A : Type 0} (o : Option A) → reads o ≡ true → (a : A) × (o ≡ some a)
-reads_some none e = absurd (false_true e)
-reads_some (some a) e = (a, refl)
+reads_some : {A : Type 0} (o : Option A) → reads o ≡ true → (a : A) × (o ≡ Some a)
+reads_some None e = absurd (false_true e)
+reads_some (Some a) e = (a, refl)
 
 good_of : {w : List ℕ} → IsGood w → good w ≡ true
 unfolding good

@@ -1,7 +1,7 @@
 -- What each way through the code of words answers is what the definition says. Assumes nothing.
 use mathlib.Core.Path.{◌≡◌, refl, sym, ◌∙◌}
 use mathlib.Core.Bool.{Bool, true, false, ◌||◌}
-use mathlib.Core.Option.{none, some}
+use Rattle.std.specs.Prelude.{None, Some}
 use mathlib.Core.List.{List}
 use Prim.Native.Nat.{ℕ}
 use Rattle.lexis.specs.Text.{bytes}
@@ -35,16 +35,16 @@ module _ (w : List ℕ) (r : Bool) (h : r ≡ exactly (bytes "True") w) where
   unfolding all
   as_false = exactly_same (bytes "False") w refl
 
-  pub boolean_true : r ≡ true → some 1 ≡ boolean_of w
+  pub boolean_true : r ≡ true → Some 1 ≡ boolean_of w
   unfolding boolean_of
   boolean_true q = rw (← as_true, ← h, q)
 
   module _ (n : r ≡ false) (s : Bool) (i : s ≡ exactly (bytes "False") w) where
-    pub boolean_false : s ≡ true → some 2 ≡ boolean_of w
+    pub boolean_false : s ≡ true → Some 2 ≡ boolean_of w
     unfolding boolean_of
     boolean_false q = rw (← as_true, ← h, n, ← as_false, ← i, q)
 
-    pub boolean_none : s ≡ false → none ≡ boolean_of w
+    pub boolean_none : s ≡ false → None ≡ boolean_of w
     unfolding boolean_of
     boolean_none q = rw (← as_true, ← h, n, ← as_false, ← i, q)
 

@@ -1,7 +1,7 @@
 -- Durations. Document 02, 1: "A duration word, good too, is an optional `-`, P and slots in that order, each one to four digits and its letter in either case, at least one slot, T only with a slot
 -- behind it". Assumes nothing.
 use Rattle.std.specs.Prelude.{cond, List, ℕ, eqb, drop}
-use Rattle.std.proofs.Math.Option.{Option, none, some}
+use Rattle.std.specs.Prelude.{Option, None, Some}
 use Rattle.lexis.specs.Text.{byte}
 use Rattle.lexis.specs.Runs.{byte_at}
 use Rattle.lexis.specs.Durations.{digit_slot, slots_of}
@@ -11,7 +11,7 @@ abbrev pub behind_sign : List ℕ → List ℕ
 behind_sign w = cond (eqb (byte_at w 0) (byte "-")) (drop 1 w) w
 
 abbrev pub slots_if : ℕ → Option ℕ
-slots_if flag = cond (eqb flag 0) none (some flag)
+slots_if flag = cond (eqb flag 0) None (Some flag)
 
 -- the slots that a duration word fills, as a flag: bits 0 to 6 are y m w d h m s
 unfoldable pub duration_of : List ℕ → Option ℕ

@@ -2,7 +2,7 @@
 -- lies in -2,147,483,648..2,147,483,647". An integer of that range is kept as its distance from -2,147,483,648, so that the order of the integers
 -- is the order of their distances. Assumes nothing.
 use Rattle.std.specs.Prelude.{Bool, true, cond, ◌&&◌, List, [], ◌∷◌, ℕ, ◌+◌, ◌*◌, ◌-◌, ◌%◌, ◌^◌, eqb, leb, length, get_or, drop}
-use Rattle.std.proofs.Math.Option.{Option, none, some}
+use Rattle.std.specs.Prelude.{Option, None, Some}
 use Rattle.lexis.specs.Text.{byte}
 use Rattle.lexis.specs.Bytes.{is, digit}
 use Rattle.lexis.specs.Runs.{all}
@@ -25,10 +25,10 @@ abbrev pub plain : List ℕ → Bool
 plain ds = all (is digit) ds && leb 1 (length ds) && (cond (eqb (get_or ds 0 0) (byte "0")) (eqb (length ds) 1) true)
 
 abbrev pub not_negative : List ℕ → Option ℕ
-not_negative ds = let n = value_of 0 ds in cond (plain ds && leb n 2_147_483_647) (some (nought + n)) none
+not_negative ds = let n = value_of 0 ds in cond (plain ds && leb n 2_147_483_647) (Some (nought + n)) None
 
 abbrev pub negative : List ℕ → Option ℕ
-negative ds = let n = value_of 0 ds in cond (plain ds && leb 1 n && leb n 2_147_483_648) (some (nought - n)) none
+negative ds = let n = value_of 0 ds in cond (plain ds && leb 1 n && leb n 2_147_483_648) (Some (nought - n)) None
 
 -- the integer that bytes spell, as a distance
 unfoldable pub integer_of : List ℕ → Option ℕ

@@ -2,7 +2,7 @@
 -- seconds 00..59. Zone: `Z`, or sign and two digits, alone or with `:` and two more digits; hours to 13 after `+`, to 12 after `-`, minutes 00..59;
 -- nought is never `-`." Assumes nothing.
 use Rattle.std.specs.Prelude.{Bool, cond, ◌&&◌, ◌||◌, List, ℕ, ◌+◌, eqb, leb, length, drop}
-use Rattle.std.proofs.Math.Option.{Option, none, some}
+use Rattle.std.specs.Prelude.{Option, None, Some}
 use Rattle.lexis.specs.Text.{bytes}
 use Rattle.lexis.specs.Runs.{same, shaped}
 use Rattle.values.specs.Dates.{exactly, digits_at}
@@ -38,11 +38,11 @@ abbrev pub seconds : List ℕ → Bool
 seconds w = leb (digits_at 6 2 w) 59
 
 abbrev pub good_time : Bool → ℕ → Option ℕ
-good_time good parts = cond good (some parts) none
+good_time good parts = cond good (Some parts) None
 
 -- how many of hours, minutes and seconds a word spells: where `:` and two digits go on, they are the next part
 unfoldable pub time_of : List ℕ → Option ℕ
 time_of w =
     cond (shaped (bytes "dd:dd:dd") w) (good_time (hours w && minutes w && seconds w && zone (drop 8 w)) 3)
     (cond (shaped (bytes "dd:dd") w) (good_time (hours w && minutes w && zone (drop 5 w)) 2)
-    (cond (shaped (bytes "dd") w) (good_time (hours w && zone (drop 2 w)) 1) none))
+    (cond (shaped (bytes "dd") w) (good_time (hours w && zone (drop 2 w)) 1) None))

@@ -6,7 +6,7 @@ use crate::data;
 
 const USES: &[&str] = &[
     "mathlib.Core.Path.{◌≡◌, refl}",
-    "mathlib.Core.Option.{none, some}",
+    "Rattle.std.specs.Prelude.{None, Some}",
     "mathlib.Core.List.{List, [], ◌∷◌}",
     "lib.ListN.{replicate}",
     "Rattle.lexis.specs.Text.{bytes}",

@@ -11,7 +11,7 @@ use crate::meaning;
 
 const USES: &[&str] = &[
     "mathlib.Core.Path.{◌≡◌, refl}",
-    "mathlib.Core.Option.{none, some}",
+    "Rattle.std.specs.Prelude.{None, Some}",
     "mathlib.Core.List.{List, [], ◌∷◌}",
     "Rattle.lexis.specs.Text.{bytes}",
     "Rattle.lexis.proofs.Tables.{wrong}",

@@ -51,8 +51,8 @@ pub fn truth(value: bool) -> &'static str {
 
 pub fn option(value: Option<String>) -> String {
     match value {
-        Some(term) => format!("(some {term})"),
-        None => String::from("none"),
+        Some(term) => format!("(Some {term})"),
+        None => String::from("None"),
     }
 }
 

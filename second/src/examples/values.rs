@@ -10,7 +10,7 @@ use crate::words::{self, PartialDate, PartialTime};
 
 const PATH: &str = "mathlib.Core.Path.{◌≡◌, refl}";
 const BOOL: &str = "mathlib.Core.Bool.{true, false}";
-const OPTION: &str = "mathlib.Core.Option.{none, some}";
+const OPTION: &str = "Rattle.std.specs.Prelude.{None, Some}";
 const LIST: &str = "mathlib.Core.List.{List, [], ◌∷◌}";
 const TEXT: &str = "Rattle.lexis.specs.Text.{bytes}";
 const PAIR: &str = "Rattle.values.specs.Integers.{pair, nought, greatest}";

@@ -110,22 +110,23 @@ fn module_of(file: &str) -> Vec<&str> {
 fn functions_of(file: &str, text: &str) -> Vec<Function> {
     let lines = lines_of(text);
     let definitions = Definitions::used(text);
-    let mut owner: Option<&str> = None;
+    let mut owner: Option<Owner> = None;
     let mut functions = Vec::new();
     for (index, &(_, line)) in lines.iter().enumerate() {
-        if let Some(name) = line.strip_prefix("impl ").and_then(|rest| rest.strip_suffix(" {")) {
-            owner = Some(name);
+        if let Some(opened) = owner_of(line) {
+            owner = Some(opened);
         } else if line == "}" {
             owner = None;
         }
         let Some((depth, public, name)) = opening(line) else { continue };
         let Some(body) = body_of(&lines[index..], depth) else { continue };
+        let inside = owner.as_ref().filter(|_| depth > 0);
         let mut path = module_of(file);
-        path.extend(owner.filter(|_| depth > 0));
+        path.extend(inside.map(|it| it.name.as_str()));
         path.push(name);
         functions.push(Function {
             path: path.join("::"),
-            public,
+            public: public || inside.is_some_and(|it| it.is_trait),
             comment: comment_before(&lines[..index]),
             file: file.to_string(),
             cited: cited_in(&text[lines[index].0..body.start], &definitions),
@@ -137,6 +138,46 @@ fn functions_of(file: &str, text: &str) -> Vec<Function> {
         });
     }
     functions
+}
+
+/// What an `impl` or a `trait` block is called in paths, and whether its functions are a trait's, which are public without a word.
+struct Owner {
+    name: String,
+    is_trait: bool,
+}
+
+/// The block that a line opens: `impl TYPE`, `trait TRAIT`, or `impl TRAIT for TYPE`, whose name is the type's and then the trait's with its arguments.
+fn owner_of(line: &str) -> Option<Owner> {
+    let head = line.strip_suffix('{')?.trim_end();
+    if let Some(rest) = head.strip_prefix("pub trait ").or_else(|| head.strip_prefix("trait ")) {
+        let name = rest.chars().take_while(|&c| is_name(c)).collect();
+        return Some(Owner { name, is_trait: true });
+    }
+    let rest = without_parameters(head.strip_prefix("impl")?);
+    match rest.split_once(" for ") {
+        Some((of, for_type)) => Some(Owner { name: camel(for_type) + &camel(of), is_trait: true }),
+        None => Some(Owner { name: camel(rest.split('<').next().unwrap_or(rest)), is_trait: false }),
+    }
+}
+
+/// What stands behind the parameters in pointed brackets with which a text begins, where it does.
+fn without_parameters(text: &str) -> &str {
+    let mut depth = 0;
+    for (place, c) in text.char_indices() {
+        match c {
+            '<' => depth += 1,
+            '>' => depth -= 1,
+            _ if depth == 0 => return text[place..].trim_start(),
+            _ => {}
+        }
+    }
+    ""
+}
+
+/// The names of a type, each with a capital, in one word.
+fn camel(text: &str) -> String {
+    let words = text.split(|c: char| !is_name(c)).filter(|word| !word.is_empty());
+    words.map(|word| word[..1].to_uppercase() + &word[1..]).collect()
 }
 
 /// The lines of a text, each with the place where it starts.
@@ -164,7 +205,9 @@ fn opening(line: &str) -> Option<(usize, bool, &str)> {
 /// Where the body of the function stands whose first line is the first of some lines.
 fn body_of(lines: &[(usize, &str)], depth: usize) -> Option<Range<usize>> {
     let at_depth = |line: &str| line.len() - line.trim_start().len() == depth;
-    let (open, line) = *lines.iter().find(|(_, line)| at_depth(line) && line.ends_with('{'))?;
+    // a trait's function without a body ends in `;`
+    let mut head = lines.iter().take_while(|(_, line)| !line.ends_with(';'));
+    let (open, line) = *head.find(|(_, line)| at_depth(line) && line.ends_with('{'))?;
     let start = open + line.len() - 1;
     let (close, line) = *lines.iter().find(|(place, line)| *place > start && at_depth(line) && line.trim() == "}")?;
     Some(start..close + line.len())

@@ -1,6 +1,6 @@
 -- What the functions of this crate promise of their answers: each answer as the reading of the definitions, and bounds. Assumes nothing.
 use Rattle.std.specs.Prelude.{◌≡◌, cond, List, [], ◌∷◌, ℕ, zero, suc, ◌+◌, ◌*◌, ◌-◌, ◌≤◌, ◌<◌, eqb, ltb, length, get_or}
-use Rattle.std.proofs.Math.Option.{Option, none, some}
+use Rattle.std.specs.Prelude.{Option, None, Some}
 use Rattle.std.proofs.lemmas.List.Edits.{sets}
 use Rattle.lexis.specs.Runs.{part}
 use Rattle.lexis.specs.Spelling.{less, greater}
@@ -55,7 +55,7 @@ pub record Behind (s : List ℕ) (place from : ℕ) : Type 0 where
 
 -- a type by its two places, none where the second is 0
 abbrev pub type_span : ℕ → ℕ → Option Span
-type_span start end = cond (eqb end 0) none (some (span start end))
+type_span start end = cond (eqb end 0) None (Some (span start end))
 
 -- an opening, and the block that is read behind it
 abbrev pub open_reading : Down → Opening → Reading Block
@@ -79,7 +79,7 @@ pub record OutermostIs (s : List ℕ) (r : Opening) : Type 0 where
 -- the `<` of a block with a type, and the block
 unfoldable pub typed_less : List ℕ → ℕ → ℕ → ℕ → Down → Reading Block
 typed_less s start end from down =
-    first_in (and_then (expect_data s less from) (λ t p. down t.start (some (span start end)) p))
+    first_in (and_then (expect_data s less from) (λ t p. down t.start (Some (span start end)) p))
 
 -- behind `(`: a TYPE, `)`, `<` and a block
 unfoldable pub typed_from : List ℕ → ℕ → Down → Reading Block
@@ -120,7 +120,7 @@ less_from s place from down =
     first_in
     (cond (eqb u.sort Tokens.string) (leaf_from s place u)
     (cond (eqb u.sort word_run) (leaf_from s place u)
-    (and_then (down place none from) (λ d q. parsed (inside d) q))))
+    (and_then (down place None from) (λ d q. parsed (inside d) q))))
 
 unfoldable pub typed_content : List ℕ → ℕ → Down → Reading PlacedContent
 typed_content s from down = Reading.read_then (typed_from s from down) (λ d q. got (inside d) q)

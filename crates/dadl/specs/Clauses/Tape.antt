@@ -1,7 +1,7 @@
 -- The tape: a data text's members as rows of numbers, in text order, for a judge that never reads the text's structure again. Each member is a row; behind a row come the rows of
 -- what is inside it, and then the row of the next member of its block. Assumes nothing.
 use Rattle.std.specs.Prelude.{◌≡◌, cond, List, [], ◌∷◌, ◌++◌, ℕ, zero, suc, ◌+◌, ◌-◌, ◌<◌, eqb, get_or, take, drop}
-use Rattle.std.proofs.Math.Option.{Option, none, some}
+use Rattle.std.specs.Prelude.{Option, None, Some}
 use Rattle.lexis.specs.Runs.{part}
 use Rattle.meaning.specs.Data.{datum, Members, member}
 use Rattle.meaning.specs.Data
@@ -42,12 +42,12 @@ next_row n no_more = 0
 next_row n (entry w c more) = n
 
 abbrev pub type_start : Option Span → ℕ
-type_start none = 0
-type_start (some x) = x.start
+type_start None = 0
+type_start (Some x) = x.start
 
 abbrev pub type_end : Option Span → ℕ
-type_end none = 0
-type_end (some x) = x.end
+type_end None = 0
+type_end (Some x) = x.end
 
 -- the row of a member
 abbrev pub tape_row_of : Span → PlacedContent → ℕ → List ℕ
@@ -92,7 +92,7 @@ abbrev pub reach_members : List Members → ℕ → Members
 reach_members above k = get_or (Data.no_more ∷ above) k Data.no_more
 
 abbrev pub type_in : List ℕ → List ℕ → Option (List ℕ)
-type_in s row = cond (eqb (row_number row 5) 0) none (some (part s (row_number row 4) (row_number row 5)))
+type_in s row = cond (eqb (row_number row 5) 0) None (Some (part s (row_number row 4) (row_number row 5)))
 
 -- what a row's member holds, given the members inside it
 abbrev pub content_in : List ℕ → List ℕ → Members → Data.Content

@@ -1,6 +1,6 @@
 -- What the answers of the functions stand for. Assumes nothing.
 use Rattle.std.specs.Prelude.{Bool, true, false, List, ℕ}
-use Rattle.std.proofs.Math.Option.{Option, none, some}
+use Rattle.std.specs.Prelude.{Option, None, Some}
 use Rattle.meaning.specs.Constraints.{Leaf}
 use Rattle.meaning.specs.Findings.{Finding, unsuited, refuted, admitted}
 use Rattle.meaning.specs.Admission.{word_under, string_under}
@@ -17,9 +17,9 @@ finding_of Admitted = admitted
 
 -- a string or a word under a leaf; where there is none, it is unsuited
 abbrev pub finding_under : Option Leaf → Bool → List ℕ → Finding
-finding_under none is_string w = unsuited
-finding_under (some l) true w = string_under l w
-finding_under (some l) false w = word_under l w
+finding_under None is_string w = unsuited
+finding_under (Some l) true w = string_under l w
+finding_under (Some l) false w = word_under l w
 
 -- a value is admitted; an item alone admits it
 abbrev pub is_admitted : Finding → Bool

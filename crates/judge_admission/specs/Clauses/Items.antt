@@ -1,7 +1,7 @@
 -- Records and items as a walker of their bytes meets them: the record with a number, the items from link to link, and the leaf that they make; and where they must lie. Assumes
 -- nothing.
 use Rattle.std.specs.Prelude.{◌≡◌, Bool, true, false, cond, List, [], ◌∷◌, ◌++◌, map, ℕ, zero, suc, ◌+◌, ◌*◌, ◌≤◌, ◌<◌, eqb, length, take, drop}
-use Rattle.std.proofs.Math.Option.{Option, none, some}
+use Rattle.std.specs.Prelude.{Option, None, Some}
 use Rattle.meaning.specs.Constraints.{RangeSort, integers, dates, Range, Text, Leaf, ranges, texts}
 use Rattle.meaning.specs.Constraints
 use Rattle.meaning.specs.Sorts.{range_row, text_kind}
@@ -43,12 +43,12 @@ texts_from records pool n = map (text_in records pool) (record_items records (le
 
 -- the leaf of a shape whose first item has a number
 abbrev pub leaf_of_shape : List ℕ → List ℕ → ℕ → Shape → Option Leaf
-leaf_of_shape records pool n table_header = none
-leaf_of_shape records pool n object = none
-leaf_of_shape records pool n attribute = none
-leaf_of_shape records pool n text = some (texts (texts_from records pool n))
-leaf_of_shape records pool n (single sort) = some (Constraints.single sort n (record_in records n).flag)
-leaf_of_shape records pool n (range sort) = some (ranges sort (ranges_from sort records n))
+leaf_of_shape records pool n table_header = None
+leaf_of_shape records pool n object = None
+leaf_of_shape records pool n attribute = None
+leaf_of_shape records pool n text = Some (texts (texts_from records pool n))
+leaf_of_shape records pool n (single sort) = Some (Constraints.single sort n (record_in records n).flag)
+leaf_of_shape records pool n (range sort) = Some (ranges sort (ranges_from sort records n))
 
 abbrev pub record_leaf : List ℕ → List ℕ → ℕ → Option Leaf
 record_leaf records pool n = leaf_of_shape records pool n (shape_of (record_in records n).kind)
@@ -86,17 +86,17 @@ image_from records pool = image_of (records ++ pool)
 
 -- they make up one that passes the check
 pub record TableGood (records pool : List ℕ) : Type 0 where
-  pub checked : table_fault (records ++ pool) ≡ none
+  pub checked : table_fault (records ++ pool) ≡ None
   pub whole : length records ≡ record_size * field (header (records ++ pool)) 0
 
 -- the leaf of an item of a list alone; none of the other shapes
 abbrev pub item_of_shape : List ℕ → Record → Shape → Option Leaf
-item_of_shape pool r table_header = none
-item_of_shape pool r object = none
-item_of_shape pool r attribute = none
-item_of_shape pool r text = some (texts (record { number = 0; text = name_of pool r } ∷ []))
-item_of_shape pool r (single sort) = none
-item_of_shape pool r (range sort) = some (ranges sort (record_range sort 0 r ∷ []))
+item_of_shape pool r table_header = None
+item_of_shape pool r object = None
+item_of_shape pool r attribute = None
+item_of_shape pool r text = Some (texts (record { number = 0; text = name_of pool r } ∷ []))
+item_of_shape pool r (single sort) = None
+item_of_shape pool r (range sort) = Some (ranges sort (record_range sort 0 r ∷ []))
 
 abbrev pub item_of : List ℕ → Record → Option Leaf
 item_of pool r = item_of_shape pool r (shape_of r.kind)

@@ -1,6 +1,6 @@
 -- The rows of a tape as the walk meets them: what they hold, what a search among them finds, and what a walk relies on. Assumes nothing.
 use Rattle.std.specs.Prelude.{◌≡◌, cond, List, ℕ, zero, suc, ◌+◌, ◌-◌, ◌≤◌, ◌<◌, eqb, length}
-use Rattle.std.proofs.Math.Option.{Option, none, some}
+use Rattle.std.specs.Prelude.{Option, None, Some}
 use Rattle.lexis.specs.Runs.{part, same}
 use Rattle.meaning.specs.Data.{Datum, datum, Members, member, Content, string, word}
 use Rattle.meaning.specs.Data
@@ -13,7 +13,7 @@ use Rattle.judge_tape.specs.declared.members.Block.{Block}
 
 -- a text's type by its two places, none where the second is 0
 abbrev pub type_on : List ℕ → ℕ → ℕ → Option (List ℕ)
-type_on s start end = cond (eqb end 0) none (some (part s start end))
+type_on s start end = cond (eqb end 0) None (Some (part s start end))
 
 module _ (s : List ℕ) (rows : ℕ) (tape : List ℕ) where
   -- what the member of a row holds
@@ -29,20 +29,20 @@ module _ (s : List ℕ) (rows : ℕ) (tape : List ℕ) where
 
 -- the row that was found
 abbrev pub found_row : Found → Option ℕ
-found_row (At n) = some n
-found_row Nothing = none
+found_row (At n) = Some n
+found_row Nothing = None
 
 -- the row of the first member with a name, of the members from row n on, from link to link; `fuel` bounds how many
 unfoldable pub row_from : List ℕ → List ℕ → List ℕ → ℕ → ℕ → Option ℕ
-row_from s tape name zero n = none
+row_from s tape name zero n = None
 row_from s tape name (suc fuel) n =
     let row = row_at tape n in
     let more = row_from s tape name fuel (row_number row 8) in
-    cond (same name (part s (row_number row 1) (row_number row 2))) (some n) (cond (eqb (row_number row 8) 0) none more)
+    cond (same name (part s (row_number row 1) (row_number row 2))) (Some n) (cond (eqb (row_number row 8) 0) None more)
 
 -- the row of the member with a name among those from row `first` on, none where `inside` is 0
 abbrev pub member_row : (s tape : List ℕ) (rows first inside : ℕ) → List ℕ → Option ℕ
-member_row s tape rows first inside name = cond (eqb inside 0) none (row_from s tape name rows first)
+member_row s tape rows first inside name = cond (eqb inside 0) None (row_from s tape name rows first)
 
 -- rows of members from `first` on, if there are any, are on the tape
 pub record Begins (rows first inside : ℕ) : Type 0 where

@@ -1,6 +1,6 @@
 -- What the functions take and answer, as the definitions have it. Assumes nothing.
 use Rattle.std.specs.Prelude.{◌≡◌, Bool, true, ◌&&◌, List, [], ◌∷◌, map, ℕ, ◌+◌, ◌*◌, ◌≤◌, eqb, leb}
-use Rattle.std.proofs.Math.Option.{Option, none, some}
+use Rattle.std.specs.Prelude.{Option, None, Some}
 use Rattle.std.proofs.Math.ListN
 use Rattle.refusals.specs.Limits.{record_limit, pool_limit}
 use Rattle.refusals.specs.Outcomes.{Outcome, refused, gave}
@@ -20,8 +20,8 @@ use Rattle.table.specs.declared.names.NameResult.TheVariants.{Refused as NotName
 
 -- the refusal that the check answers, if there is one
 abbrev pub fault_of : CheckAnswer → Option Refusal
-fault_of Passed = none
-fault_of (Refused r) = some r
+fault_of Passed = None
+fault_of (Refused r) = Some r
 
 -- what a request for a name answers
 abbrev pub answer_of : NameResult → Outcome Refusal Slice
@@ -47,7 +47,7 @@ ordered_as little r = record { kind = r.kind; flag = r.flag; fields = map (order
 pub record Opened (bs : List ℕ) (f : Frame) : Type 0 where
   pub records : f.count ≡ field (header bs) 0
   pub bytes : f.pool ≡ field (header bs) 1
-  pub some : 2 ≤ f.count
+  pub Some : 2 ≤ f.count
   pub few : f.count ≤ record_limit
   pub small : f.pool ≤ pool_limit
   pub whole : ListN.length bs ≡ record_size * f.count + f.pool

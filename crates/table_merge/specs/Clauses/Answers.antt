@@ -1,6 +1,6 @@
 -- What the functions take and answer, as the definitions have it. Assumes nothing.
 use Rattle.std.specs.Prelude.{◌≡◌, List, [], ◌∷◌, ℕ, ◌+◌, ◌*◌, ◌-◌, ◌^◌, ◌≤◌, ◌<◌}
-use Rattle.std.proofs.Math.Option.{none}
+use Rattle.std.specs.Prelude.{None}
 use Rattle.std.proofs.Math.ListN
 use Rattle.refusals.specs.Limits.{record_limit, pool_limit}
 use Rattle.refusals.specs.Outcomes.{Outcome, refused, gave}
@@ -47,8 +47,8 @@ header_with count pool root = make 0 0 (count ∷ pool ∷ root ∷ [])
 
 -- two tables that pass the check, with their counts, are not too large for one
 pub record Joinable (first second : List ℕ) (x y : Frame) : Type 0 where
-  pub first_passes : table_fault first ≡ none
-  pub second_passes : table_fault second ≡ none
+  pub first_passes : table_fault first ≡ None
+  pub second_passes : table_fault second ≡ None
   pub first_opened : Opened first x
   pub second_opened : Opened second y
   pub few : x.count - 1 + y.count ≤ record_limit

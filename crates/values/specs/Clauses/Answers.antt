@@ -1,7 +1,7 @@
 -- What the code's answers stand for: an enum's cases as the definitions' answers, numbers with the room that they take, and the parts of
 -- definitions that have a function of their own. Assumes nothing.
 use Rattle.std.specs.Prelude.{◌≡◌, Bool, cond, ◌&&◌, ◌||◌, List, ℕ, ◌-◌, ◌≤◌, ◌<◌, leb, length, drop}
-use Rattle.std.proofs.Math.Option.{Option, none, some}
+use Rattle.std.specs.Prelude.{Option, None, Some}
 use Rattle.lexis.specs.Text.{byte, bytes}
 use Rattle.lexis.specs.Bytes.{is, digit}
 use Rattle.lexis.specs.Runs.{all}
@@ -32,16 +32,16 @@ pub record DigitsAre (w : List ℕ) (at n most r : ℕ) : Type 0 where
 
 -- an integer
 abbrev pub integer_answer : Number → Option ℕ
-integer_answer (number.Value n) = some n
-integer_answer number.Nothing = none
+integer_answer (number.Value n) = Some n
+integer_answer number.Nothing = None
 
 -- a number up to the largest distance from 0, spelled by digits behind the number n
 unfoldable pub digits_from : ℕ → List ℕ → Option ℕ
-digits_from n ds = cond (all (is digit) ds && leb (value_of n ds) nought) (some (value_of n ds)) none
+digits_from n ds = cond (all (is digit) ds && leb (value_of n ds) nought) (Some (value_of n ds)) None
 
 -- the same, spelled plainly
 unfoldable pub plain_number : List ℕ → Option ℕ
-plain_number ds = cond (plain ds && leb (value_of 0 ds) nought) (some (value_of 0 ds)) none
+plain_number ds = cond (plain ds && leb (value_of 0 ds) nought) (Some (value_of 0 ds)) None
 
 -- at most nine digits, which spell an integer plainly
 unfoldable pub short_integer : List ℕ → Bool
@@ -49,8 +49,8 @@ short_integer w = plain w && leb (length w) 9
 
 -- a date
 abbrev pub date_answer : Day → Option Date
-date_answer (day.Value parts day) = some (record { parts = parts; day = day })
-date_answer day.Nothing = none
+date_answer (day.Value parts day) = Some (record { parts = parts; day = day })
+date_answer day.Nothing = None
 
 -- yyyy, yyyy-mm and yyyy-mm-dd
 abbrev pub year_date : List ℕ → Option Date
@@ -64,8 +64,8 @@ day_date w = real_date 3 (packed (digits_at 0 4 w) (digits_at 5 2 w) (digits_at 
 
 -- a time, by how many of its parts are there
 abbrev pub time_answer : Parts → Option ℕ
-time_answer (parts.Value n) = some n
-time_answer parts.Nothing = none
+time_answer (parts.Value n) = Some n
+time_answer parts.Nothing = None
 
 -- a zone with `+`, and one with `-`
 abbrev pub east_zone : List ℕ → Bool
@@ -86,10 +86,10 @@ second_time w = hours w && minutes w && seconds w && zone (drop 8 w)
 
 -- a duration, by the slots that it fills
 abbrev pub duration_answer : Duration → Option ℕ
-duration_answer (duration.Value flag) = some flag
-duration_answer duration.Nothing = none
+duration_answer (duration.Value flag) = Some flag
+duration_answer duration.Nothing = None
 
 -- a Boolean, by the flag of kind 3
 abbrev pub boolean_answer : Boolean → Option ℕ
-boolean_answer (boolean.Value n) = some n
-boolean_answer boolean.Nothing = none
+boolean_answer (boolean.Value n) = Some n
+boolean_answer boolean.Nothing = None
