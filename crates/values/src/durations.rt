@@ -1,6 +1,6 @@
 // Durations as they are spelled.
 ghost use Rattle.std.specs.Prelude.{◌≡◌};
-ghost use Rattle.values.specs.Durations.{slots_if, duration_of};
+ghost use Rattle.values.specs.Durations.{duration_of};
 ghost use Rattle.values.specs.Clauses.Answers.{duration_answer};
 
 use lexis::durations::word_slots;
@@ -13,13 +13,13 @@ pub enum Duration {
 }
 
 // A duration that fills these slots, if there are any.
-fn slots_if(flag: u8) -> Duration
-    ensures { duration_answer result ≡ slots_if flag }
+fn slots_if(slots: Option<u8>) -> Duration
+    ensures { duration_answer result ≡ slots }
 {
-    if flag == 0 {
-        return Duration::Nothing;
+    match slots {
+        Some(flag) => Duration::Value(flag),
+        None => Duration::Nothing,
     }
-    Duration::Value(flag)
 }
 
 // The duration that bytes spell, with or without a sign.
