@@ -8,6 +8,7 @@ use native.Mathlib.Omega.{arith}
 use lib.Dec.{eqb, leb}
 use lib.ListN.{length, get_or, take, drop, length-drop, drop_of_length-le}
 use lib.Seq.{take_all}
+use Rattle.core.specs.Bool.{then_some}
 use borrow.Author.Tests.{le-leb, lt-leb, leb-true, leb-false, eq-eqb, ne_eqb, not-true, not-false}
 use mir.Syntax.{w32}
 use mir.Val.{Fits}
@@ -30,33 +31,34 @@ unfolding value_of
 value-least n [] = omega arith
 value-least n (b ∷ bs) = let h = value-least (n * 10 + (b - byte "0")) bs in omega arith
 
+-- an answer where a test is passed
+then_is : (t : Bool) (v : ℕ) → cond t (Some v) None ≡ then_some t v
+then_is true v = refl
+then_is false v = refl
+
 -- digits from a place on, behind the number n
-module _ (n i : ℕ) (ds : List ℕ) (x : Option ℕ) (now : digits_from n (drop i ds) ≡ x) where
-  pub digits_above : length ds ≤ i → nought < n → None ≡ x
+module _ (n i : ℕ) (ds : List ℕ) where
+  pub digits_end : length ds ≤ i → digits_from n (drop i ds) ≡ then_some (leb n nought) n
   unfolding digits_from all value_of
-  digits_above h l = rw (drop_of_length-le ds h, lt-leb n nought l) at now
+  digits_end h = rw (drop_of_length-le ds h) (then_is (leb n nought) n)
 
-  pub digits_end : length ds ≤ i → n ≤ nought → Some n ≡ x
-  unfolding digits_from all value_of
-  digits_end h l = rw (drop_of_length-le ds h, le-leb n nought l) at now
-
-  module _ (r : Bool) (h : i < length ds) (q : r ≡ is digit (get_or ds i 0)) where
-    pub digits_other : not r ≡ true → None ≡ x
+  module _ (h : i < length ds) where
+    pub digits_other : is digit (get_or ds i 0) ≡ false → digits_from n (drop i ds) ≡ None
     unfolding digits_from all
-    digits_other k = rw (drop_in ds i h, ← q, not-true r k) at now
+    digits_other q = rw (drop_in ds i h, q)
 
-    module _ (k : not r ≡ false) where
-      pub digits_large : 214_748_364 < n → None ≡ x
-      unfolding digits_from all value_of
-      digits_large l =
-          let m = n * 10 + (get_or ds i 0 - byte "0") in
-          let least = value-least m (drop (i + 1) ds) in
-          let above = lt-leb (value_of m (drop (i + 1) ds)) nought (omega arith) in
-          rw (drop_in ds i h, above, and-false) at now
+    pub digits_large : 214_748_364 < n → digits_from n (drop i ds) ≡ None
+    unfolding digits_from all value_of
+    digits_large l =
+        let m = n * 10 + (get_or ds i 0 - byte "0") in
+        let least = value-least m (drop (i + 1) ds) in
+        let above = lt-leb (value_of m (drop (i + 1) ds)) nought (omega arith) in
+        rw (drop_in ds i h, above, and-false)
 
-      pub digits_on : (v : ℕ) → DigitIs (get_or ds i 0) v → digits_from (n * 10 + v) (drop (i + 1) ds) ≡ x
-      unfolding digits_from all value_of
-      digits_on v d = rw d.is (rw (drop_in ds i h, ← q, not-false r k) at now)
+    pub digits_on : is digit (get_or ds i 0) ≡ true
+        → digits_from n (drop i ds) ≡ digits_from (n * 10 + (get_or ds i 0 - byte "0")) (drop (i + 1) ds)
+    unfolding digits_from all value_of
+    digits_on q = rw (drop_in ds i h, q)
 
 -- plain digits
 module _ (ds : List ℕ) where
@@ -290,7 +292,6 @@ pub ruleset steps = (
   short_other,
   short_more,
   short_zero,
-  digits_above,
   digits_end,
   digits_other,
   digits_large,

@@ -9,6 +9,7 @@ use crate::shapes::exactly;
 use crate::times::time_of;
 
 // The Boolean that bytes spell: 1 for True and 2 for False.
+#[tactic(auto, using(crate::proofs::WordSteps::true_is, crate::proofs::WordSteps::false_is), unfolding(crate::specs::Words::boolean_of))]
 pub fn boolean_of(w: &[u8]) -> Option<u8>
     ensures { result ≡ boolean_of w.now }
 {
