@@ -4,7 +4,7 @@ ghost use Rattle.values.specs.Integers.{integer_of, negative, not_negative, twos
 ghost use Rattle.values.specs.Clauses.Answers.{digits_from, plain_number, short_integer};
 
 use crate::shapes::digit_value;
-use lexis::runs::{Class, past_run};
+use lexis::runs::{Digit, past_run};
 use lexis::sorts::is_digit;
 
 // 0 as a distance.
@@ -73,7 +73,7 @@ pub fn short_integer(w: &[u8]) -> bool
 {
     match w {
         [] | [b'0', _, ..] => false,
-        _ => w.len() <= SHORT && past_run(w, 0, Class::Digit) == w.len(),
+        _ => w.len() <= SHORT && past_run::<Digit>(w, 0) == w.len(),
     }
 }
 
