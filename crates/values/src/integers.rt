@@ -29,6 +29,7 @@ fn digits(ds: &[u8]) -> Option<u32>
 }
 
 // The same of digits without a needless zero in front.
+#[tactic(auto, using(crate::proofs::IntegerSteps::plain_empty, crate::proofs::IntegerSteps::plain_zero, crate::proofs::IntegerSteps::plain_one, crate::proofs::IntegerSteps::plain_more))]
 fn plain_number(ds: &[u8]) -> Option<u32>
     ensures { result ≡ plain_number ds.now }
 {
@@ -39,6 +40,7 @@ fn plain_number(ds: &[u8]) -> Option<u32>
 }
 
 // An integer from the digits behind `-`.
+#[tactic(auto, using(crate::proofs::IntegerSteps::plain_most, crate::proofs::IntegerSteps::negative_none, crate::proofs::IntegerSteps::negative_nought, crate::proofs::IntegerSteps::negative_some))]
 fn negative(ds: &[u8]) -> Option<u32>
     ensures { result ≡ negative ds.now }
 {
@@ -47,6 +49,7 @@ fn negative(ds: &[u8]) -> Option<u32>
 }
 
 // An integer from digits without `-`: above the greatest the sum is no u32.
+#[tactic(auto, using(crate::proofs::IntegerSteps::unsigned_none, crate::proofs::IntegerSteps::unsigned_large, crate::proofs::IntegerSteps::unsigned_some))]
 fn not_negative(ds: &[u8]) -> Option<u32>
     ensures { result ≡ not_negative ds.now }
 {
@@ -54,6 +57,7 @@ fn not_negative(ds: &[u8]) -> Option<u32>
 }
 
 // The integer that bytes spell, as a distance.
+#[tactic(auto, using(crate::proofs::IntegerSteps::integer_minus, crate::proofs::IntegerSteps::integer_digits, crate::proofs::IntegerSteps::integer_empty))]
 pub fn integer_of(w: &[u8]) -> Option<u32>
     ensures { result ≡ integer_of w.now }
 {
@@ -67,7 +71,7 @@ pub fn integer_of(w: &[u8]) -> Option<u32>
 const SHORT: usize = 9;
 
 // The bytes spell an integer with few digits and no `-`, which is then in the range.
-#[tactic(auto, unfolding(crate::specs::Clauses::Answers::short_integer))]
+#[tactic(auto, using(crate::proofs::IntegerSteps::digits_all), unfolding(crate::specs::Clauses::Answers::short_integer))]
 pub fn short_integer(w: &[u8]) -> bool
     ensures { result ≡ short_integer w.now }
 {

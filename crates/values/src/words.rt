@@ -23,6 +23,7 @@ pub fn boolean_of(w: &[u8]) -> Option<u8>
 }
 
 // The word reads as a Boolean, an integer, a date, a time or a duration; a short integer is told first, since most words are one.
+#[tactic(auto, using(crate::proofs::IntegerSteps::short_reads), unfolding(crate::specs::Words::good))]
 pub fn good(w: &[u8]) -> bool
     ensures { result ≡ good w.now }
 {
