@@ -1,5 +1,5 @@
 -- What each way through the code of integers answers is what the definition says. Assumes nothing.
-use mathlib.Core.Path.{◌≡◌, refl, sym, ◌∙◌}
+use mathlib.Core.Path.{◌≡◌, refl, sym, ap, ◌∙◌}
 use mathlib.Core.Bool.{Bool, true, false, cond, not, ◌&&◌, and-true, and-false, false≢true}
 use Rattle.std.specs.Prelude.{Option, None, Some}
 use mathlib.Core.List.{List, [], ◌∷◌}
@@ -9,6 +9,7 @@ use lib.Dec.{eqb, leb}
 use lib.ListN.{length, get_or, take, drop, length-drop, drop_of_length-le}
 use lib.Seq.{take_all}
 use Rattle.core.specs.Bool.{then_some}
+use Rattle.core.specs.Option.{SomeIff}
 use borrow.Author.Tests.{le-leb, lt-leb, leb-true, leb-false, eq-eqb, ne_eqb, not-true, not-false}
 use mir.Syntax.{w32}
 use mir.Val.{Fits}
@@ -126,15 +127,13 @@ module _ (ds : List ℕ) where
         let t = plain_there n q in
         rw (t.0, ← t.1, le-leb 1 n l, le-leb n nought t.2)
 
-    pub unsigned_large : 2_147_483_647 < n → not_negative ds ≡ None
-    unsigned_large l =
+    pub unsigned_there : (r : Option ℕ) → SomeIff r (nought + n < 2 ^ 32) (nought + n) → r ≡ not_negative ds
+    unsigned_there (Some x) s =
         let t = plain_there n q in
-        rw (t.0, ← t.1, lt-leb n 2_147_483_647 l)
-
-    pub unsigned_some : n ≤ 2_147_483_647 → not_negative ds ≡ Some (nought + n)
-    unsigned_some l =
+        rw (t.0, ← t.1, le-leb n 2_147_483_647 (omega (arith, s))) (ap (λ (y : ℕ). Some y) s.1)
+    unsigned_there None s =
         let t = plain_there n q in
-        rw (t.0, ← t.1, le-leb n 2_147_483_647 l)
+        rw (t.0, ← t.1, lt-leb n 2_147_483_647 (omega (arith, s)))
 
   pub negative_none : plain_number ds ≡ None → negative ds ≡ None
   negative_none q = let v = value_of 0 ds in rw (without_middle (plain ds) (leb 1 v) (leb v nought) (plain_missing q))

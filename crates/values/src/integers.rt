@@ -49,7 +49,7 @@ fn negative(ds: &[u8]) -> Option<u32>
 }
 
 // An integer from digits without `-`: above the greatest the sum is no u32.
-#[tactic(auto, using(crate::proofs::IntegerSteps::unsigned_none, crate::proofs::IntegerSteps::unsigned_large, crate::proofs::IntegerSteps::unsigned_some))]
+#[tactic(auto, using(crate::proofs::IntegerSteps::unsigned_none, crate::proofs::IntegerSteps::unsigned_there))]
 fn not_negative(ds: &[u8]) -> Option<u32>
     ensures { result ≡ not_negative ds.now }
 {
