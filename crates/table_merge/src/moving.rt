@@ -73,10 +73,7 @@ fn moved_item(r: Entry, records: RecordShift) -> Entry
     ensures { record_of result ≡ moved_as (shifts records.0 0) (range integers) (record_of r) }
 {
     let next = moved_link(RecordNumber(r.e), records);
-    Entry {
-        e: next.0,
-        ..r
-    }
+    Entry { e: next.0, ..r }
 }
 
 // A string, moved: its bytes and the next item.
