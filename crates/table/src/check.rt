@@ -11,30 +11,27 @@ use crate::records::{
 use crate::rules::rules_kept;
 use refusals::{Cause, Refusal};
 
-// What the check answers.
-#[derive(Clone, Copy)]
-pub enum CheckAnswer {
-    Passed,
-    Refused(Refusal),
-}
-
 // The header's kind, flag and last two numbers are 0.
+#[tactic(auto, using(crate::proofs::Chains::chain_steps))]
 fn plain_header(h: Entry) -> bool
     ensures { result ≡ plain_header h }
 {
-    h.kind == HEADER_KIND && (h.flag == 0 && (h.d == 0 && h.e == 0))
+    h.kind == HEADER_KIND && h.flag == 0 && h.d == 0 && h.e == 0
 }
 
 // The header's counts are within their limits, and make up a table of so many bytes.
+#[tactic(auto, using(crate::proofs::Chains::chain_steps))]
 fn counts_right(h: Entry, length: usize) -> bool
     ensures { result ≡ counts_right h length }
 {
     2 <= h.a
-        && (h.a <= RECORD_MOST
-            && (h.b <= POOL_MOST && length == RECORD_SIZE * (h.a as usize) + (h.b as usize)))
+        && h.a <= RECORD_MOST
+        && h.b <= POOL_MOST
+        && length == RECORD_SIZE * (h.a as usize) + (h.b as usize)
 }
 
 // The table's length, header and root are right.
+#[tactic(auto, using(crate::proofs::CheckSteps::check_steps))]
 fn is_framed(table: &[u8]) -> bool
     ensures { result ≡ framed table.now }
 {
@@ -59,6 +56,7 @@ fn is_framed(table: &[u8]) -> bool
 }
 
 // The record with a number bears a mark and keeps the rules.
+#[tactic(auto, using(crate::proofs::CheckSteps::check_steps))]
 fn record_right(table: &[u8], frame: Frame, n: RecordNumber) -> bool
     requires opened { Opened table.now frame }
     requires n_lt_count { n.0 < frame.count }
@@ -71,38 +69,30 @@ fn record_right(table: &[u8], frame: Frame, n: RecordNumber) -> bool
     is_marked(table, at) && rules_kept(table, frame, n, read(table, at))
 }
 
-// The lowest record at fault, if there is one.
-fn check_records(table: &[u8], frame: Frame) -> CheckAnswer
+// Refuses the lowest record at fault, if there is one.
+#[tactic(auto, using(crate::proofs::CheckSteps::check_steps))]
+fn check_records(table: &[u8], frame: Frame) -> Result<(), Refusal>
     requires { Opened table.now frame }
     ensures { fault_of result
         ≡ broken_record
         (broken (image_of table.now) 1 (image_of table.now).records
         (drop record_size table.now)) }
 {
-    let count = frame.count;
-    let mut n: u32 = 1;
-    while n < count {
+    for n in 1..frame.count {
         if !record_right(table, frame, RecordNumber(n)) {
-            return CheckAnswer::Refused(Refusal {
-                cause: Cause::BrokenRecord,
-                place: n as usize,
-            });
+            return Err(Cause::BrokenRecord.at(n as usize));
         }
-        n += 1;
     }
-    CheckAnswer::Passed
+    Ok(())
 }
 
 // Whether bytes are a table, and else why not.
-pub fn check(table: &[u8]) -> CheckAnswer
+#[tactic(auto, using(crate::proofs::CheckSteps::check_steps))]
+pub fn check(table: &[u8]) -> Result<(), Refusal>
     ensures { fault_of result ≡ table_fault table.now }
 {
     if !is_framed(table) {
-        return CheckAnswer::Refused(Refusal {
-            cause: Cause::NotATable,
-            place: 0,
-        });
+        return Err(Cause::NotATable.at(0));
     }
-    let frame = frame_of(table);
-    check_records(table, frame)
+    check_records(table, frame_of(table))
 }
