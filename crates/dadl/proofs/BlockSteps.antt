@@ -648,3 +648,8 @@ module _ {s : List ℕ} {levels from n : ℕ} {before : List ℕ} {rows : ℕ} {
           names = seen_next;
           is = left;
         }
+
+-- what reading the members of a block rests on, and reading one of them
+pub ruleset members_steps = (members_start, member_room, member_earlier, member_less, member_next)
+
+pub ruleset member_steps = (member_faulty, leaf_finish, block_room, block_count, block_finish)

@@ -71,7 +71,7 @@ pub fn read_block(
 }
 
 // The members of a block and its `>`; the blocks inside have at most so many levels.
-#[tactic(auto, using(crate::proofs::BlockSteps::members_start, crate::proofs::BlockSteps::member_room, crate::proofs::BlockSteps::member_earlier, crate::proofs::BlockSteps::member_less, crate::proofs::BlockSteps::member_next))]
+#[tactic(auto, using(crate::proofs::BlockSteps::members_steps))]
 #[cycle(read_block_read_member_read_members)]
 fn read_members(
     s: &[u8],
@@ -99,7 +99,7 @@ fn read_members(
 }
 
 // A member of a block whose first row is `first`; its own row is n.
-#[tactic(auto, using(crate::proofs::BlockSteps::member_faulty, crate::proofs::BlockSteps::leaf_finish, crate::proofs::BlockSteps::block_room, crate::proofs::BlockSteps::block_count, crate::proofs::BlockSteps::block_finish))]
+#[tactic(auto, using(crate::proofs::BlockSteps::member_steps))]
 #[cycle(read_block_read_member_read_members)]
 fn read_member(
     s: &[u8],

@@ -14,7 +14,7 @@ use refusals::steps::too_long;
 use refusals::{Cause, Refusal};
 
 // Whether bytes are a name of the rows from `first` on, from link to link, up to `end`.
-#[tactic(auto, using(crate::proofs::NameSteps::names_start, crate::proofs::NameSteps::link_lies, crate::proofs::NameSteps::bytes_begin, crate::proofs::NameSteps::longer_next, crate::proofs::NameSteps::bytes_next, lexis::proofs::Comparing::bytes_in, lexis::proofs::Comparing::bytes_there, lexis::proofs::Comparing::bytes_on))]
+#[tactic(auto, using(crate::proofs::NameSteps::search_steps))]
 fn repeated(s: &[u8], tape: &[u16], first: usize, end: usize, name: &[u8]) -> bool
     requires { Earlier s.now tape.now first end }
     ensures { result ≡ listed name.now (earlier_names s.now tape.now first end) }
