@@ -7,7 +7,7 @@ use Prim.Native.Nat.{ℕ, zero, suc, ◌+◌, ◌*◌, ◌-◌, ◌≤◌, ◌<�
 use native.Mathlib.Omega.{arith}
 use native.Mathlib.Nat.{add-zero}
 use native.Mathlib.Numerals.{sub-one}
-use lib.Dec.{eqb, ltb, eqb-suc-zero}
+use lib.Dec.{eqb, ltb}
 use lib.ListN.{length, get_or}
 use lib.Seq.{sets, length-sets}
 use borrow.Author.Tests.{eq-eqb, ne_eqb, eqb-true}
@@ -28,7 +28,7 @@ use Rattle.refusals.specs.declared.Cause.TheVariants.{TooDeep, TooLong, Repeated
 use Rattle.refusals.specs.declared.Refusal.{Refusal}
 use Rattle.refusals.proofs.Readings.{Holds}
 use Rattle.refusals.proofs.Parses.{first_then, then_refused, then_got, Yields, parsed_yields, stopped_yields, noting_yields, any_yields, rank, FaultFrom, InOrder, then_order, order_holds, order_map}
-use Rattle.dadl.specs.Placed.{Span, span, block, Entries, no_more, entry, PlacedContent, string, word, inside}
+use Rattle.dadl.specs.Placed.{Span, block, Entries, no_more, entry, PlacedContent, inside}
 use Rattle.dadl.specs.Data.{Down, expect_data, name_from, content_from, members, block_from, span_of}
 use Rattle.dadl.specs.Clauses.Tape.{row_size, block_rows, entry_rows, content_rows, next_row, type_start, type_end, tape_row_of, block_tape, entries_tape, content_tape}
 use Rattle.lexis.specs.Clauses.Answers.{TokenIs}

@@ -6,7 +6,7 @@ use Prim.Native.Nat.{ℕ, ◌*◌, ◌≤◌}
 use lib.ListN.{length}
 use Rattle.refusals.specs.Reading.{refused, got}
 use Rattle.refusals.specs.declared.Refusal.{Refusal}
-use Rattle.meaning.specs.Data.{Datum, datum}
+use Rattle.meaning.specs.Data.{datum}
 use Rattle.dadl.specs.Placed.{Span, Block, block, Entries, spelled_span, spelled_block, spelled_entries}
 use Rattle.dadl.specs.Data.{block_of, datum_of}
 use Rattle.dadl.specs.Clauses.Tape.{block_rows, entry_rows, entries_tape, members_at}
