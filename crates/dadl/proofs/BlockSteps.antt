@@ -1,13 +1,13 @@
 -- What a step of the readers of blocks and members shows: a law for each way out and for each turn. Assumes nothing.
 use mathlib.Core.Path.{◌≡◌, refl, sym, ap, ◌∙◌}
 use mathlib.Core.Bool.{Bool, true, false, cond}
-use Rattle.std.specs.Prelude.{Option}
+use Rattle.std.specs.Prelude.{Option, None, Some}
 use mathlib.Core.List.{List, [], ◌∷◌, ◌++◌}
 use Prim.Native.Nat.{ℕ, zero, suc, ◌+◌, ◌*◌, ◌-◌, ◌≤◌, ◌<◌}
 use native.Mathlib.Omega.{arith}
 use native.Mathlib.Nat.{add-zero}
 use native.Mathlib.Numerals.{sub-one}
-use lib.Dec.{eqb, ltb, eqb-suc-zero}
+use lib.Dec.{eqb, ltb}
 use lib.ListN.{length, get_or}
 use lib.Seq.{sets, length-sets}
 use borrow.Author.Tests.{eq-eqb, ne_eqb, eqb-true}
@@ -28,19 +28,25 @@ use Rattle.refusals.specs.declared.Cause.TheVariants.{TooDeep, TooLong, Repeated
 use Rattle.refusals.specs.declared.Refusal.{Refusal}
 use Rattle.refusals.proofs.Readings.{Holds}
 use Rattle.refusals.proofs.Parses.{first_then, then_refused, then_got, Yields, parsed_yields, stopped_yields, noting_yields, any_yields, rank, FaultFrom, InOrder, then_order, order_holds, order_map}
-use Rattle.dadl.specs.Placed.{Span, span, block, Entries, no_more, entry, PlacedContent, string, word, inside}
+use Rattle.dadl.specs.Placed.{Span, block, Entries, no_more, entry, PlacedContent, inside}
 use Rattle.dadl.specs.Data.{Down, expect_data, name_from, content_from, members, block_from, span_of}
 use Rattle.dadl.specs.Clauses.Tape.{row_size, block_rows, entry_rows, content_rows, next_row, type_start, type_end, tape_row_of, block_tape, entries_tape, content_tape}
 use Rattle.lexis.specs.Clauses.Answers.{TokenIs}
-use Rattle.dadl.specs.Clauses.Answers.{type_span, leaf_of, content_reading, ContentPast, ContentIs, Inside, number_at, earlier_names, NamedRow, Earlier, member_reading, row_numbers, RowFits, link_of, leaf_row, block_row, RowsWrote, member_wrote, finished_rows, Finish, member_written, RowsRoom, MemberRoom, MemberIs, rows_wrote, entries_written, entries_from, RowsPast, RowsIs}
-use Rattle.dadl.specs.declared.contents.ContentStart.{ContentStart}
-use Rattle.dadl.specs.declared.contents.ContentStart.TheVariants.{Faulty, Leaf}
-use Rattle.dadl.specs.declared.contents.ContentStart.TheVariants as content
+use Rattle.dadl.specs.Clauses.Answers.{part_span, type_span, TypeInside, Opens, sorted_leaf, leaf_of, LeafLies, content_reading, ContentPast, ContentIs, Inside, number_at, earlier_names, NamedRow, Earlier, member_reading, row_numbers, link_of, holds_of, type_part, leaf_row, block_row, Wrote, data_wrote, rows_to, finished, Finish, member_written, RowsRoom, MemberRoom, MemberIs, entries_written, entries_from, RowsPast, RowsIs}
+use Rattle.std.specs.Result.{IsErrAnd}
+use Rattle.std.specs.declared.result.Result.{Result}
+use Rattle.std.specs.declared.result.Result.TheVariants.{Ok, Err}
+use Rattle.dadl.specs.declared.tokens.Part.{Part}
+use Rattle.dadl.specs.declared.tokens.Opening.{Opening}
+use Rattle.dadl.specs.declared.contents.LeafSort.{LeafSort}
+use Rattle.dadl.specs.declared.contents.LeafSort.TheVariants as leaf
+use Rattle.dadl.specs.declared.contents.Leaf.{Leaf}
+use Rattle.dadl.specs.declared.contents.Content.{Content}
+use Rattle.dadl.specs.declared.contents.Content.TheVariants as content
 use Rattle.dadl.specs.declared.rows.Row.{Row}
-use Rattle.dadl.specs.declared.blocks.RowsRead.{RowsRead}
-use Rattle.dadl.specs.declared.blocks.RowsRead.TheVariants.{Refused, Read}
-use Rattle.dadl.specs.declared.blocks.MemberRead.{MemberRead}
-use Rattle.dadl.specs.declared.blocks.MemberRead.TheVariants.{Not, Member}
+use Rattle.dadl.specs.declared.blocks.Rows.{Rows}
+use Rattle.dadl.specs.declared.blocks.Member.{Member}
+use Rattle.dadl.proofs.TokenSteps.{passed_on}
 use Rattle.dadl.proofs.TapeLaws.{row-length, row-numbers, content_length}
 use Rattle.dadl.proofs.TreeReading.{SpanRead, EntriesRead, ContentRead, name_order, content_order, members_order, block_order}
 use Rattle.lexis.proofs.Stores.{sets-sets, sets-append, below_sets, in_sets}
@@ -104,53 +110,41 @@ step tape n w c k (parsed more p) h =
     let z : n + 1 + content_rows c + entry_rows more ≡ n + suc (content_rows c + entry_rows more) = omega arith in
     rw (h, z, m)
 
--- ---- finishing a member
-
-pub finish_fits : (s : List ℕ) (n : ℕ) (row : Row) (rows from : ℕ) (tape : List ℕ) (sort next : ℕ)
-    → Finish s n row rows from tape → next ≡ link_of sort rows → RowFits n row next tape
-finish_fits s n row rows from tape sort next h e =
-    let f = h.fits in
-    let l : next ≤ rows = rw e (small (eqb sort name)) in
-    record { room = f.room; holds = f.holds; name_start = f.name_start; name_end = f.name_end; place = f.place; type_start = f.type_start; type_end = f.type_end; start = f.start; end = f.end; link = omega arith }
-  where
-    small : (b : Bool) → cond b rows 0 ≤ rows
-    small true = omega arith
-    small false = omega arith
-
-pub finish_done : (s : List ℕ) (n : ℕ) (row : Row) (rows from : ℕ) (tape after : List ℕ) (t : Token) (next : ℕ)
-    → TokenIs s from (data_token_at s from) t → next ≡ link_of t.sort rows
-    → after ≡ sets tape (row_size * n) (row_numbers row next)
-    → member_wrote (Member rows t) after ≡ finished_rows s n row rows from tape
-finish_done s n row rows from tape after t next tok e f = rw (f, e, tok.is)
-
 -- ---- a member
 
--- a leaf's row and a block's are those of the tree
-leaf-numbers : (t : Token) (holds place start end next : ℕ) → 0 < holds → holds ≤ 2
-    → row_numbers (leaf_row t holds place start end) next
-    ≡ tape_row_of (span_of t) (leaf_of holds place (span start end)) next
-leaf-numbers t zero place start end next a b = absurd (omega arith)
-leaf-numbers t (suc zero) place start end next a b = refl
-leaf-numbers t (suc (suc zero)) place start end next a b = refl
-leaf-numbers t (suc (suc (suc k))) place start end next a b = absurd (omega arith)
-
-leaf_rows : (holds place start end : ℕ) (n : ℕ)
-    → (content_rows (leaf_of holds place (span start end)) ≡ 0)
-    × (content_tape (leaf_of holds place (span start end)) n ≡ [])
-unfolding content_rows content_tape
-leaf_rows holds place start end n = by (eqb holds 1)
+-- a leaf's row is that of the tree
+leaf_numbers : (t : Token) (l : Leaf) (next : ℕ)
+    → row_numbers (leaf_row t l) next ≡ tape_row_of (span_of t) (leaf_of l) next
+leaf_numbers t l next = by l.sort
   where
-    by : (b : Bool)
-        → (content_rows (cond b (string place (span start end)) (word place (span start end))) ≡ 0)
-        × (content_tape (cond b (string place (span start end)) (word place (span start end))) n ≡ [])
-    by true = (refl, refl)
-    by false = (refl, refl)
+    by : (sort : LeafSort)
+        → holds_of sort ∷ t.start ∷ t.end ∷ l.place ∷ 0 ∷ 0 ∷ l.text.start ∷ l.text.end ∷ next ∷ []
+        ≡ tape_row_of (span_of t) (sorted_leaf sort l.place (part_span l.text)) next
+    by leaf.String = refl
+    by leaf.Word = refl
 
--- a type's places are those that it was made of
-pub type_places : (start end : ℕ) → start ≤ end
-    → (type_start (type_span start end) ≡ start) × (type_end (type_span start end) ≡ end)
-type_places start zero h = let e : start ≡ 0 = omega arith in (sym e, refl)
-type_places start (suc end) h = rw eqb-suc-zero (refl, refl)
+-- no rows are inside it
+leaf_rows : (l : Leaf) (n : ℕ) → (content_rows (leaf_of l) ≡ 0) × (content_tape (leaf_of l) n ≡ [])
+unfolding content_rows content_tape
+leaf_rows l n = by l.sort
+  where
+    by : (sort : LeafSort)
+        → (content_rows (sorted_leaf sort l.place (part_span l.text)) ≡ 0)
+        × (content_tape (sorted_leaf sort l.place (part_span l.text)) n ≡ [])
+    by leaf.String = (refl, refl)
+    by leaf.Word = (refl, refl)
+
+-- a type's places are those of the tree's
+pub type_places : (t : Option Part)
+    → ((type_part t).start ≡ type_start (type_span t)) × ((type_part t).end ≡ type_end (type_span t))
+type_places None = (refl, refl)
+type_places (Some p) = (refl, refl)
+
+-- they lie in the text
+type_small : (s : List ℕ) (t : Option Part) → TypeInside s t
+    → ((type_part t).start ≤ (type_part t).end) × ((type_part t).end ≤ length s)
+type_small s None h = (omega arith, omega arith)
+type_small s (Some p) h = h
 
 -- a block is its members, with its place and its type
 pub block_entries : (s : List ℕ) (levels place : ℕ) (type : Option Span) (from : ℕ)
@@ -161,132 +155,157 @@ block_entries s zero place type from = refl
 block_entries s (suc levels) place type from = first_then (members s (block_from s levels) (length s + 1) [] from) _
 
 -- what an answer says of the members that were read
-pub record IsRows (n : ℕ) (before after : List ℕ) (rows place : ℕ) (reading : Reading Entries) : Type 0 where
+pub record IsRows (n : ℕ) (before after : List ℕ) (rows : Rows) (reading : Reading Entries) : Type 0 where
   pub ms : Entries
-  pub is : reading ≡ got ms place
-  pub count : rows ≡ n + entry_rows ms
+  pub is : reading ≡ got ms rows.place
+  pub count : rows.end ≡ n + entry_rows ms
   pub tape : after ≡ sets before (row_size * n) (entries_tape ms n)
 
-pub is_rows : (n : ℕ) (before after : List ℕ) (rows place : ℕ) (x : Reading Entries)
-    → rows_wrote (Read rows place) after ≡ entries_written n before x → IsRows n before after rows place x
-is_rows n before after rows place (refused x) e =
-    let o : Read rows place ≡ Refused x = ap (λ (q : RowsWrote RowsRead). q.answer) e in
+pub is_rows : (n : ℕ) (before after : List ℕ) (rows : Rows) (x : Reading Entries)
+    → data_wrote (Ok rows) after ≡ entries_written n before x → IsRows n before after rows x
+is_rows n before after rows (refused x) e =
+    let o : ◌≡◌ {A = Result Rows Refusal} (Ok rows) (Err x) = ap (λ (q : Wrote Rows). q.answer) e in
     let z : ◌≡◌ {A = ℕ} 0 1 = cc in
     absurd (omega arith)
-is_rows n before after rows place (got ms p) e =
-    let o : Read rows place ≡ Read (n + entry_rows ms) p = ap (λ (q : RowsWrote RowsRead). q.answer) e in
-    record { ms = ms; is = (cc); count = (cc); tape = ap (λ (q : RowsWrote RowsRead). q.tape) e }
+is_rows n before after rows (got ms p) e =
+    let r : Rows = rows_to (n + entry_rows ms) p in
+    let o : ◌≡◌ {A = Result Rows Refusal} (Ok rows) (Ok r) = ap (λ (q : Wrote Rows). q.answer) e in
+    let z : rows ≡ r = cc in
+    record { ms = ms; is = ap (λ (y : Rows). got ms y.place) (sym z); count = ap (λ (y : Rows). y.end) z; tape = ap (λ (q : Wrote Rows). q.tape) e }
 
-pub is_refused_lem : (n : ℕ) (before after : List ℕ) (y : Refusal) (x : Reading Entries)
-    → rows_wrote (Refused y) after ≡ entries_written n before x → x ≡ refused y
-is_refused_lem n before after y (refused x) e = let o : Refused y ≡ Refused x = ap (λ (q : RowsWrote RowsRead). q.answer) e in cc
-is_refused_lem n before after y (got ms p) e =
-    let o : Refused y ≡ Read (n + entry_rows ms) p = ap (λ (q : RowsWrote RowsRead). q.answer) e in
+pub rows_refused : (n : ℕ) (before after : List ℕ) (y : Refusal) (x : Reading Entries)
+    → data_wrote (Err y) after ≡ entries_written n before x → x ≡ refused y
+rows_refused n before after y (refused x) e =
+    let o : ◌≡◌ {A = Result Rows Refusal} (Err y) (Err x) = ap (λ (q : Wrote Rows). q.answer) e in
+    cc
+rows_refused n before after y (got ms p) e =
+    let r : Rows = rows_to (n + entry_rows ms) p in
+    let o : ◌≡◌ {A = Result Rows Refusal} (Err y) (Ok r) = ap (λ (q : Wrote Rows). q.answer) e in
     let z : ◌≡◌ {A = ℕ} 0 1 = cc in
     absurd (omega arith)
 
 module _ (first : ℕ) {s : List ℕ} {levels : ℕ} {t : Token} {n : ℕ} {before : List ℕ}
-    (room : MemberRoom s levels t n before) {o : ContentStart}
+    (room : MemberRoom s levels t n before) {o : Result Content Refusal}
     (d : ContentIs s (t.start + 2) (member_reading s (earlier_names s before first n) t) o) where
-  content_is : (k : ContentStart) → o ≡ k
+  content_is : (k : Result Content Refusal) → o ≡ k
       → content_reading (block_from s levels) k ≡ member_reading s (earlier_names s before first n) t (block_from s levels)
   content_is k g = rw g at (d.is (block_from s levels))
 
-  content_past : (k : ContentStart) → o ≡ k → ContentPast s (t.start + 2) k
+  content_past : (k : Result Content Refusal) → o ≡ k → ContentPast s (t.start + 2) k
   content_past k g = rw g at d.past
 
-  pub member_faulty : (x : Refusal) → o ≡ Faulty x → MemberIs s levels t first n before before (Not x)
-  member_faulty x g = record { is = ap (member_written s t n before) (content_is (Faulty x) g) }
+  pub member_faulty : (x : Refusal) → o ≡ Err x → (q : Result Member Refusal) → IsErrAnd q (λ z. z ≡ x)
+      → MemberIs s levels t first n before before q
+  member_faulty x g q i = rw (passed_on q x i) (record { is = ap (member_written s t n before) (content_is (Err x) g) })
 
-  module _ {holds place start end next : ℕ} (g : o ≡ Leaf holds place start end next) {row : Row}
-      (e : row ≡ leaf_row t holds place start end) where
-    pub leaf_finish : Finish s n row (n + 1) next before
+  module _ {k : Content} (g : o ≡ Ok k) {l : Leaf} (f : k ≡ content.Leaf l) {row : Row} (e : row ≡ leaf_row t l) where
+    leaf_there : o ≡ Ok (content.Leaf l)
+    leaf_there = rw f at g
+
+    leaf_lies : LeafLies s (t.start + 2) l
+    leaf_lies = content_past (Ok (content.Leaf l)) leaf_there
+
+    pub leaf_finish : Finish s n row (rows_to (n + 1) l.next) before
     leaf_finish =
-        let p = content_past _ g in
+        let p = leaf_lies in
         let m = room.name in
         rw e (record {
-          inside = omega arith;
-          fits = record { room = omega arith; holds = omega arith; name_start = omega arith; name_end = omega arith; place = omega arith; type_start = omega arith; type_end = omega arith; start = omega arith; end = omega arith; link = omega arith };
+          inside = p.high;
+          fits = record { room = omega arith; name_start = omega arith; name_end = omega arith; place = omega arith; type_start = omega arith; type_end = omega arith; start = omega arith; end = omega arith; link = omega arith };
         })
 
-    leaf-written : finished_rows s n (leaf_row t holds place start end)
-        (n + 1) next before ≡ member_written s t n before (got (leaf_of holds place (span start end)) next)
-    leaf-written =
-        let p = content_past _ g in
-        let c = leaf_of holds place (span start end) in
-        let k : ℕ = (data_token_at s next).sort in
-        let z = leaf_rows holds place start end (n + 1) in
+    leaf_written : data_wrote (Ok (finished s (rows_to (n + 1) l.next))) (sets before (row_size * n) (row_numbers (leaf_row t l) (link_of (data_token_at s l.next).sort (n + 1))))
+        ≡ member_written s t n before (got (leaf_of l) l.next)
+    leaf_written =
+        let c = leaf_of l in
+        let k : ℕ = (data_token_at s l.next).sort in
+        let z = leaf_rows l (n + 1) in
         let cnt : n + 1 ≡ n + 1 + content_rows c = omega (arith, z.0) in
-        let numbers : row_numbers (leaf_row t holds place start end) (link_of k (n + 1)) ≡ tape_row_of (span_of t) c (link_of k (n + 1 + content_rows c))
-        = leaf-numbers t holds place start end (link_of k (n + 1)) (omega arith) (omega arith) ∙ ap (λ (m : ℕ). tape_row_of (span_of t) c (link_of k m)) cnt in
+        let numbers : row_numbers (leaf_row t l) (link_of k (n + 1)) ≡ tape_row_of (span_of t) c (link_of k (n + 1 + content_rows c))
+        = leaf_numbers t l (link_of k (n + 1)) ∙ ap (λ (m : ℕ). tape_row_of (span_of t) c (link_of k m)) cnt in
         λ i. record {
-          answer = Member (cnt i) (data_token_at s next);
+          answer = Ok (finished s (rows_to (cnt i) l.next));
           tape = sets (sets before (row_size * (n + 1)) (sym z.1 i)) (row_size * n) (numbers i);
         }
 
-    pub leaf_member : (r : MemberRead) (after : List ℕ) → member_wrote r after ≡ finished_rows s n row (n + 1) next before
-        → MemberIs s levels t first n before after r
-    leaf_member r after f = record { is = (rw e at f) ∙ leaf-written ∙ ap (member_written s t n before) (content_is _ g) }
+    pub leaf_member : (m : Member) (after : List ℕ) → m ≡ finished s (rows_to (n + 1) l.next)
+        → after ≡ sets before (row_size * n) (row_numbers row (link_of (data_token_at s l.next).sort (n + 1)))
+        → MemberIs s levels t first n before after (Ok m)
+    leaf_member m after a b = record {
+      is = rw (a, b, e) (leaf_written ∙ ap (member_written s t n before) (content_is (Ok (content.Leaf l)) leaf_there));
+    }
 
-  module _ {place start end next : ℕ} (g : o ≡ content.Block place start end next) where
-    pub block_room : RowsRoom s levels next (n + 1) before
+  module _ {k : Content} (g : o ≡ Ok k) {p : Opening} (f : k ≡ content.Block p) where
+    block_there : o ≡ Ok (content.Block p)
+    block_there = rw f at g
+
+    block_lies : Opens s (t.start + 2) p
+    block_lies = content_past (Ok (content.Block p)) block_there
+
+    pub block_room : RowsRoom s levels p.next (n + 1) before
     block_room =
-        let p = content_past _ g in
-        record { inside = omega arith; short = room.short; few = omega arith; long = room.long }
+        let h = block_lies in
+        record { inside = h.high; short = room.short; few = omega arith; long = room.long }
 
-    module _ {after : List ℕ} {r : RowsRead}
-        (b : RowsIs s next (n + 1) before (entries_from s levels place next) after r) where
-      pub block_refused : (x : Refusal) → r ≡ Refused x → MemberIs s levels t first n before after (Not x)
-      block_refused x q =
-          let f = is_refused_lem (n + 1) before after x (entries_from s levels place next) (rw q at b.is) in
-          let m : member_reading s (earlier_names s before first n) t (block_from s levels) ≡ refused x
-          = sym (content_is _ g) ∙ ap (λ y. Reading.read_then y (λ d q. got (inside d) q)) (block_entries s levels place (type_span start end) next ∙ ap (λ y. Reading.read_then y (λ ms p. got (block place (type_span start end) ms) p)) f) in
-          record { is = sym (ap (member_written s t n before) m) }
+    -- what is read there, once its members are
+    block_reading : (x : Reading Entries) → entries_from s levels p.place p.next ≡ x
+        → Reading.read_then (Reading.read_then x (λ ms q. got (block p.place (type_span p.type_name) ms) q)) (λ d q. got (inside d) q)
+        ≡ member_reading s (earlier_names s before first n) t (block_from s levels)
+    block_reading x e =
+        sym (ap (λ y. Reading.read_then y (λ d q. got (inside d) q)) (block_entries s levels p.place (type_span p.type_name) p.next ∙ ap (λ y. Reading.read_then y (λ ms q. got (block p.place (type_span p.type_name) ms) q)) e))
+        ∙ content_is (Ok (content.Block p)) block_there
 
-      module _ {rows behind : ℕ} (q : r ≡ Read rows behind) where
-        rows_past : RowsPast s next (n + 1) (Read rows behind)
+    module _ {after : List ℕ} {r : Result Rows Refusal}
+        (b : RowsIs s p.next (n + 1) before (entries_from s levels p.place p.next) after r) where
+      pub block_refused : (x : Refusal) → r ≡ Err x → (q : Result Member Refusal) → IsErrAnd q (λ z. z ≡ x)
+          → MemberIs s levels t first n before after q
+      block_refused x z q i =
+          let f = rows_refused (n + 1) before after x (entries_from s levels p.place p.next) (rw z at b.is) in
+          rw (passed_on q x i) (record { is = ap (member_written s t n before) (block_reading (refused x) f) })
+
+      module _ {rows : Rows} (q : r ≡ Ok rows) where
+        rows_past : RowsPast s p.next (n + 1) (Ok rows)
         rows_past = rw q at b.past
 
-        pub block_count : n + 1 ≤ rows
+        pub block_count : n + 1 ≤ rows.end
         block_count = let h = rows_past in omega arith
 
         pub block_finish : {row : Row} → length after ≡ length before
-            → row ≡ block_row t place start end (rows - (n + 1)) → Finish s n row rows behind after
+            → row ≡ block_row t p (rows.end - (n + 1)) → Finish s n row rows after
         block_finish l e =
             let h = rows_past in
-            let p = content_past _ g in
+            let a = block_lies in
+            let y = type_small s p.type_name a.type_inside in
             let m = room.name in
             rw e (record {
               inside = omega arith;
-              fits = record { room = omega arith; holds = omega arith; name_start = omega arith; name_end = omega arith; place = omega arith; type_start = omega arith; type_end = omega arith; start = omega arith; end = omega arith; link = omega arith };
+              fits = record { room = omega arith; name_start = omega arith; name_end = omega arith; place = omega arith; type_start = omega arith; type_end = omega arith; start = omega arith; end = omega arith; link = omega arith };
             })
 
-        found : IsRows (n + 1) before after rows behind (entries_from s levels place next)
-        found = is_rows (n + 1) before after rows behind (entries_from s levels place next) (rw q at b.is)
+        found : IsRows (n + 1) before after rows (entries_from s levels p.place p.next)
+        found = is_rows (n + 1) before after rows (entries_from s levels p.place p.next) (rw q at b.is)
 
-        block_written : (ms : Entries) → rows ≡ n + 1 + entry_rows ms
+        block_written : (ms : Entries) → rows.end ≡ n + 1 + entry_rows ms
             → after ≡ sets before (row_size * (n + 1)) (entries_tape ms (n + 1))
-            → finished_rows s n (block_row t place start end (rows - (n + 1))) rows behind after
-            ≡ member_written s t n before (got (inside (block place (type_span start end) ms)) behind)
+            → data_wrote (Ok (finished s rows)) (sets after (row_size * n) (row_numbers (block_row t p (rows.end - (n + 1))) (link_of (data_token_at s rows.place).sort rows.end)))
+            ≡ member_written s t n before (got (inside (block p.place (type_span p.type_name) ms)) rows.place)
         unfolding content_rows block_rows content_tape block_tape
         block_written ms cnt tp =
-            let p = content_past _ g in
-            let k : ℕ = (data_token_at s behind).sort in
-            let y = type_places start end (omega arith) in
-            let rs : rows - (n + 1) ≡ entry_rows ms = omega arith in
+            let k : ℕ = (data_token_at s rows.place).sort in
+            let y = type_places p.type_name in
+            let rs : rows.end - (n + 1) ≡ entry_rows ms = omega arith in
             λ i. record {
-              answer = Member (cnt i) (data_token_at s behind);
-              tape = sets (tp i) (row_size * n) (0 ∷ t.start ∷ t.end ∷ place ∷ sym y.0 i ∷ sym y.1 i ∷ 0 ∷ rs i ∷ link_of k (cnt i) ∷ []);
+              answer = Ok (finished s (rows_to (cnt i) rows.place));
+              tape = sets (tp i) (row_size * n) (0 ∷ t.start ∷ t.end ∷ p.place ∷ y.0 i ∷ y.1 i ∷ 0 ∷ rs i ∷ link_of k (cnt i) ∷ []);
             }
 
-        pub block_member : {row : Row} {last : List ℕ} {a : MemberRead}
-            → row ≡ block_row t place start end (rows - (n + 1))
-            → member_wrote a last ≡ finished_rows s n row rows behind after → MemberIs s levels t first n before last a
-        block_member e f =
+        pub block_member : {row : Row} {last : List ℕ} {m : Member}
+            → row ≡ block_row t p (rows.end - (n + 1)) → m ≡ finished s rows
+            → last ≡ sets after (row_size * n) (row_numbers row (link_of (data_token_at s rows.place).sort rows.end))
+            → MemberIs s levels t first n before last (Ok m)
+        block_member e a w =
             let h = found in
-            let m : got (inside (block place (type_span start end) h.ms)) behind ≡ member_reading s (earlier_names s before first n) t (block_from s levels)
-            = sym (ap (λ y. Reading.read_then y (λ d q. got (inside d) q)) (block_entries s levels place (type_span start end) next ∙ ap (λ y. Reading.read_then y (λ ms p. got (block place (type_span start end) ms) p)) h.is)) ∙ content_is _ g in
-            record { is = (rw e at f) ∙ block_written h.ms h.count h.tape ∙ ap (member_written s t n before) m }
+            record { is = rw (a, w, e) (block_written h.ms h.count h.tape ∙ ap (member_written s t n before) (block_reading (got h.ms rows.place) h.is)) }
 
 -- ---- a block
 
@@ -303,13 +322,13 @@ pub block_inner : {s : List ℕ} {levels from n : ℕ} {before : List ℕ} → R
 block_inner room z = record { inside = room.inside; short = room.short; few = omega arith; long = room.long }
 
 module _ (place : ℕ) {s : List ℕ} {levels from n : ℕ} {before : List ℕ} (room : RowsRoom s levels from n before) where
-  pub block_deep : levels ≡ 0
-      → RowsIs s from n before (entries_from s levels place from) before (Refused (refusal TooDeep place))
+  pub block_deep : levels ≡ 0 → (x : Refusal) → x ≡ refusal TooDeep place
+      → RowsIs s from n before (entries_from s levels place from) before (Err x)
   unfolding entries_from
-  block_deep z = record { is = rw z; past = tt }
+  block_deep z x e = record { is = rw (z, e); past = tt }
 
   module _ (z : levels ≡ 0 → ⊥) where
-    pub block_members : (after : List ℕ) (r : RowsRead)
+    pub block_members : (after : List ℕ) (r : Result Rows Refusal)
         → RowsIs s from n before (first_in (members s (block_from s (levels - 1)) (length s + 1) [] from)) after r
         → RowsIs s from n before (entries_from s levels place from) after r
     block_members after r d = record { is = rw (below_one s levels place from z) d.is; past = d.past }
@@ -332,9 +351,9 @@ pub record InMembers (s : List ℕ) (levels from n : ℕ) (before : List ℕ) (r
   pub is : entries_written rows tape (first_in (members s (block_from s levels) fuel seen place))
       ≡ entries_written n before (first_in (members s (block_from s levels) (length s + 1) [] from))
 
-pub members-start : (s : List ℕ) (levels from n : ℕ) (tape : List ℕ) (t : Token) → RowsRoom s (levels + 1) from n tape
+pub members_start : (s : List ℕ) (levels from n : ℕ) (tape : List ℕ) (t : Token) → RowsRoom s (levels + 1) from n tape
     → TokenIs s from (data_token_at s from) t → InMembers s levels from n tape n t tape
-members-start s levels from n tape t room tok = record {
+members_start s levels from n tape t room tok = record {
   fuel = length s + 1;
   place = from;
   seen = [];
@@ -349,18 +368,18 @@ members-start s levels from n tape t room tok = record {
 }
 
 -- members that were read take a byte for `>` and four for each row
-rows_read : (s : List ℕ) (from n : ℕ) (before after : List ℕ) (w : Parse Entries) (r : RowsRead)
-    → InOrder s (rank from 0) (EntriesRead s from) w → rows_wrote r after ≡ entries_written n before (first_in w)
+rows_read : (s : List ℕ) (from n : ℕ) (before after : List ℕ) (w : Parse Entries) (r : Result Rows Refusal)
+    → InOrder s (rank from 0) (EntriesRead s from) w → data_wrote r after ≡ entries_written n before (first_in w)
     → RowsPast s from n r
 unfolding Holds
-rows_read s from n before after w (Refused y) h e = tt
-rows_read s from n before after w (Read rows place) h e =
-    let f = is_rows n before after rows place (first_in w) e in
-    let g : EntriesRead s from f.ms place = rw f.is at (order_holds s (EntriesRead s from) (rank from 0) w h) in
+rows_read s from n before after w (Err y) h e = tt
+rows_read s from n before after w (Ok rows) h e =
+    let f = is_rows n before after rows (first_in w) e in
+    let g : EntriesRead s from f.ms rows.place = rw f.is at (order_holds s (EntriesRead s from) (rank from 0) w h) in
     omega (arith, f.count, g.least, g.most)
 
-pub members_past : (s : List ℕ) (levels from n : ℕ) (before after : List ℕ) (r : RowsRead) → from ≤ length s
-    → rows_wrote r after ≡ entries_written n before (first_in (members s (block_from s levels) (length s + 1) [] from))
+pub members_past : (s : List ℕ) (levels from n : ℕ) (before after : List ℕ) (r : Result Rows Refusal) → from ≤ length s
+    → data_wrote r after ≡ entries_written n before (first_in (members s (block_from s levels) (length s + 1) [] from))
     → RowsIs s from n before (first_in (members s (block_from s levels) (length s + 1) [] from)) after r
 members_past s levels from n before after r h e = record {
   is = e;
@@ -435,22 +454,26 @@ record IsMember (s : List ℕ) (t : Token) (n : ℕ) (before after : List ℕ) (
   pub tape : after ≡ sets (sets before (row_size * (n + 1)) (content_tape c (n + 1))) (row_size * n)
       (tape_row_of (span_of t) c (link_of (data_token_at s q).sort (n + 1 + content_rows c)))
 
-is_member : (s : List ℕ) (t : Token) (n : ℕ) (before after : List ℕ) (rows : ℕ) (next : Token)
-    (x : Reading PlacedContent) → member_wrote (Member rows next) after ≡ member_written s t n before x
-    → IsMember s t n before after rows next x
-is_member s t n before after rows next (refused x) e =
-    let o : Member rows next ≡ Not x = ap (λ (q : RowsWrote MemberRead). q.answer) e in
+is_member : (s : List ℕ) (t : Token) (n : ℕ) (before after : List ℕ) (m : Member)
+    (x : Reading PlacedContent) → data_wrote (Ok m) after ≡ member_written s t n before x
+    → IsMember s t n before after m.end m.after x
+is_member s t n before after m (refused x) e =
+    let o : ◌≡◌ {A = Result Member Refusal} (Ok m) (Err x) = ap (λ (q : Wrote Member). q.answer) e in
     let z : ◌≡◌ {A = ℕ} 0 1 = cc in
     absurd (omega arith)
-is_member s t n before after rows next (got c q) e =
-    let o : Member rows next ≡ Member (n + 1 + content_rows c) (data_token_at s q) = ap (λ (q : RowsWrote MemberRead). q.answer) e in
-    record { c = c; q = q; is = refl; count = (cc); token = (cc); tape = ap (λ (q : RowsWrote MemberRead). q.tape) e }
+is_member s t n before after m (got c q) e =
+    let r : Member = finished s (rows_to (n + 1 + content_rows c) q) in
+    let o : ◌≡◌ {A = Result Member Refusal} (Ok m) (Ok r) = ap (λ (q : Wrote Member). q.answer) e in
+    let z : m ≡ r = cc in
+    record { c = c; q = q; is = refl; count = ap (λ (y : Member). y.end) z; token = ap (λ (y : Member). y.after) z; tape = ap (λ (q : Wrote Member). q.tape) e }
 
 is_not : (s : List ℕ) (t : Token) (n : ℕ) (before after : List ℕ) (y : Refusal) (x : Reading PlacedContent)
-    → member_wrote (Not y) after ≡ member_written s t n before x → x ≡ refused y
-is_not s t n before after y (refused x) e = let o : Not y ≡ Not x = ap (λ (q : RowsWrote MemberRead). q.answer) e in cc
+    → data_wrote (Err y) after ≡ member_written s t n before x → x ≡ refused y
+is_not s t n before after y (refused x) e =
+    let o : ◌≡◌ {A = Result Member Refusal} (Err y) (Err x) = ap (λ (q : Wrote Member). q.answer) e in
+    cc
 is_not s t n before after y (got c q) e =
-    let o : Not y ≡ Member (n + 1 + content_rows c) (data_token_at s q) = ap (λ (q : RowsWrote MemberRead). q.answer) e in
+    let o : ◌≡◌ {A = Result Member Refusal} (Err y) (Ok (finished s (rows_to (n + 1 + content_rows c) q))) = ap (λ (q : Wrote Member). q.answer) e in
     let z : ◌≡◌ {A = ℕ} 0 1 = cc in
     absurd (omega arith)
 
@@ -517,15 +540,15 @@ module _ {s : List ℕ} {levels from n : ℕ} {before : List ℕ} {rows : ℕ} {
     (inv : InMembers s levels from n before rows t tape) where
   pub members_close : t.sort ≡ greater
       → RowsIs s from n before (first_in (members s (block_from s levels) (length s + 1) [] from)) tape
-      (Read rows t.end)
+      (Ok (record { end = rows; place = t.end }))
   unfolding entry_rows entries_tape
-  members_close k = members_past s levels from n before tape (Read rows t.end) inv.room.inside (rw (turn_close s (block_from s levels) inv.seen inv.place t inv.tok.is inv.fuel (omega (arith, inv.enough, inv.within)) k, add-zero) at inv.is)
+  members_close k = members_past s levels from n before tape (Ok (record { end = rows; place = t.end })) inv.room.inside (rw (turn_close s (block_from s levels) inv.seen inv.place t inv.tok.is inv.fuel (omega (arith, inv.enough, inv.within)) k, add-zero) at inv.is)
 
   pub members_fault : (t.sort ≡ greater → ⊥) → (t.sort ≡ name → ⊥) → (x : Refusal)
       → x ≡ refusal (syntax_cause t) t.start
-      → RowsIs s from n before (first_in (members s (block_from s levels) (length s + 1) [] from)) tape (Refused x)
+      → RowsIs s from n before (first_in (members s (block_from s levels) (length s + 1) [] from)) tape (Err x)
   members_fault g k x e =
-      members_past s levels from n before tape (Refused x) inv.room.inside
+      members_past s levels from n before tape (Err x) inv.room.inside
       (rw e (rw (turn_fault s (block_from s levels) inv.seen inv.place t inv.tok.is inv.fuel (omega (arith, inv.enough, inv.within)) g k) at inv.is))
 
   module _ (k : t.sort ≡ name) where
@@ -557,18 +580,24 @@ module _ {s : List ℕ} {levels from n : ℕ} {before : List ℕ} {rows : ℕ} {
         (λ ms r. parsed (entry w x ms) r))))
     turn = ap first_in (turn_name s (block_from s levels) inv.seen inv.place t inv.tok.is inv.fuel (omega (arith, inv.enough, inv.within)) k)
 
-    module _ {after : List ℕ} {r : MemberRead} (d : MemberIs s levels t n rows tape after r) where
-      pub member_not : (x : Refusal) → r ≡ Not x
-          → RowsIs s from n before (first_in (members s (block_from s levels) (length s + 1) [] from)) after (Refused x)
+    module _ {after : List ℕ} {r : Result Member Refusal} (d : MemberIs s levels t n rows tape after r) where
+      pub member_not : (x : Refusal) → r ≡ Err x → (q : Result Rows Refusal) → IsErrAnd q (λ z. z ≡ x)
+          → RowsIs s from n before (first_in (members s (block_from s levels) (length s + 1) [] from)) after q
       unfolding member_reading
-      member_not x g =
+      member_not x g q i =
           let f = is_not s t rows tape after x (member_reading s (earlier_names s tape n rows) t (block_from s levels)) (rw g at d.is) in
           let m = after_refused (name_from s inv.seen t) (content_from s (block_from s levels)) (λ w x q. and_then (members s (block_from s levels) (inv.fuel - 1) (spelling s t ∷ inv.seen) q) (λ ms r. parsed (entry w x ms) r)) x (sym seen_same ∙ f) in
-          members_past s levels from n before after (Refused x) inv.room.inside (sym (ap (entries_written rows tape) (turn ∙ m)) ∙ inv.is)
+          rw (passed_on q x i) (members_past s levels from n before after (Err x) inv.room.inside (sym (ap (entries_written rows tape) (turn ∙ m)) ∙ inv.is))
 
-      module _ {next : ℕ} {a : Token} (g : r ≡ Member next a) where
+      module _ {member : Member} (g : r ≡ Ok member) where
+        abbrev next : ℕ
+        next = member.end
+
+        abbrev a : Token
+        a = member.after
+
         read : IsMember s t rows tape after next a (member_reading s (earlier_names s tape n rows) t (block_from s levels))
-        read = is_member s t rows tape after next a _ (rw g at d.is)
+        read = is_member s t rows tape after member _ (rw g at d.is)
 
         takes : MemberTakes s inv.place read.c read.q
         unfolding Holds
@@ -605,7 +634,7 @@ module _ {s : List ℕ} {levels from n : ℕ} {before : List ℕ} {rows : ℕ} {
             seen_more s tape after n rows next inv.seen (spelling s t) (inv.names k) (kept_row tape after rows (content_tape read.c (rows + 1)) (tape_row_of (span_of t) read.c next) v) w.0 w.1
             (omega (arith, h.few, h.long, long, takes.least, takes.most, read.count, inv.few))
 
-        pub member_next : InMembers s levels from n before next a after
+        pub member_next : InMembers s levels from n before member.end member.after after
         member_next = record {
           fuel = inv.fuel - 1;
           place = read.q;
@@ -619,3 +648,8 @@ module _ {s : List ℕ} {levels from n : ℕ} {before : List ℕ} {rows : ℕ} {
           names = seen_next;
           is = left;
         }
+
+-- what reading the members of a block rests on, and reading one of them
+pub ruleset members_steps = (members_start, member_room, member_earlier, member_less, member_next)
+
+pub ruleset member_steps = (member_faulty, leaf_finish, block_room, block_count, block_finish)

@@ -15,7 +15,7 @@ abbrev pub decreases-read_members : goal.decreases-read_members
 decreases-read_members l = 3 * l.levels + 2
 
 abbrev pub invariant-read_members-loop-t : goal.invariant-read_members-loop-t
-invariant-read_members-loop-t l = InMembers l.s l.levels l.from l.n l.initial.tape l.rows l.t l.tape
+invariant-read_members-loop-t l = InMembers l.s l.levels l.from l.n l.initial.tape l.end l.t l.tape
 
 abbrev pub decreases-read_members-loop-t : goal.decreases-read_members-loop-t
-decreases-read_members-loop-t l = length l.s + level_limit - l.rows
+decreases-read_members-loop-t l = length l.s + level_limit - l.end
