@@ -1,6 +1,6 @@
 -- What each way through the code of durations answers is what the definition says. Assumes nothing.
 use mathlib.Core.Path.{◌≡◌, refl}
-use Rattle.std.specs.Prelude.{None, Some}
+use Rattle.std.specs.Prelude.{Option, None, Some}
 use mathlib.Core.List.{List, [], ◌∷◌}
 use Prim.Native.Nat.{ℕ, ◌-◌}
 use native.Mathlib.Omega.{arith}
@@ -11,8 +11,6 @@ use Rattle.lexis.specs.Runs.{byte_at}
 use Rattle.lexis.specs.Durations.{digit_slot, slots_of}
 use Rattle.lexis.specs.Clauses.Answers.{FlagIs}
 use Rattle.values.specs.Durations.{slots_if, duration_of}
-use Rattle.values.specs.Clauses.Answers.{duration_answer}
-use Rattle.values.specs.declared.durations.Duration.{Duration}
 use Rattle.values.proofs.Common.{rest_is}
 
 module _ (flag : ℕ) where
@@ -27,14 +25,14 @@ unfolding duration_of slots_of
 duration_empty [] e = refl
 duration_empty (b ∷ w) e = absurd (omega arith)
 
-module _ (w : List ℕ) (flag : ℕ) (r : Duration) (h : duration_answer r ≡ slots_if flag) where
+module _ (w : List ℕ) (flag : ℕ) (r : Option ℕ) (h : r ≡ slots_if flag) where
   pub duration_signed : byte_at w 0 ≡ byte "-" → FlagIs (slots_of digit_slot (take (length w - 1) (drop 1 w))) flag
-      → duration_answer r ≡ duration_of w
+      → r ≡ duration_of w
   unfolding duration_of
   duration_signed e q = rw (eq-eqb (byte_at w 0) (byte "-") e, ← rest_is w 1, ← q.is) h
 
   pub duration_unsigned : (byte_at w 0 ≡ byte "-" → ⊥) → FlagIs (slots_of digit_slot w) flag
-      → duration_answer r ≡ duration_of w
+      → r ≡ duration_of w
   unfolding duration_of
   duration_unsigned n q = rw (ne_eqb (byte_at w 0) (byte "-") n, ← q.is) h
 

@@ -17,10 +17,8 @@ use Rattle.lexis.specs.Runs.{past, all}
 use Rattle.lexis.specs.Clauses.Answers.{PlaceIs}
 use Rattle.lexis.proofs.Cases.{either, and_left, and_right}
 use Rattle.values.specs.Integers.{value_of, nought, greatest, plain, negative, not_negative, integer_of, pair, magnitude, inside, around}
-use Rattle.values.specs.Clauses.Answers.{DigitIs, integer_answer, digits_from, plain_number, short_integer}
+use Rattle.values.specs.Clauses.Answers.{DigitIs, digits_from, plain_number, short_integer}
 use Rattle.values.specs.Words.{reads}
-use Rattle.values.specs.declared.integers.Number.{Number}
-use Rattle.values.specs.declared.integers.Number.TheVariants.{Value, Nothing}
 use Rattle.values.proofs.Common.{le_left, le_right, by_order}
 use Rattle.values.proofs.DigitLaws.{tenfold, tenfold_more}
 use Rattle.lexis.proofs.Places.{drop_in}
@@ -99,8 +97,8 @@ below_too : (p : Bool) (v : ℕ) → (p && leb v nought) ≡ false → (p && leb
 below_too true v h = let l = leb-false v nought h in lt-leb v 2_147_483_647 (omega arith)
 below_too false v h = refl
 
-module _ (ds : List ℕ) (r : Number) (h : integer_answer r ≡ plain_number ds) where
-  plain_there : (n : ℕ) → r ≡ Value n → (plain ds ≡ true) × (n ≡ value_of 0 ds) × (n ≤ nought)
+module _ (ds : List ℕ) (r : Option ℕ) (h : r ≡ plain_number ds) where
+  plain_there : (n : ℕ) → r ≡ Some n → (plain ds ≡ true) × (n ≡ value_of 0 ds) × (n ≤ nought)
   unfolding plain_number
   plain_there n q =
       let p = plain ds in
@@ -109,11 +107,11 @@ module _ (ds : List ℕ) (r : Number) (h : integer_answer r ≡ plain_number ds)
       let m = le_right p v nought t.0 in
       (and_left p (leb v nought) t.0, t.1, omega arith)
 
-  plain_missing : r ≡ Nothing → (plain ds && leb (value_of 0 ds) nought) ≡ false
+  plain_missing : r ≡ None → (plain ds && leb (value_of 0 ds) nought) ≡ false
   unfolding plain_number
   plain_missing q = missing (plain ds && leb (value_of 0 ds) nought) (value_of 0 ds) (rw q at h)
 
-  module _ (n : ℕ) (q : r ≡ Value n) where
+  module _ (n : ℕ) (q : r ≡ Some n) where
     pub plain-most : n ≤ nought
     plain-most = (plain_there n q).2
 
@@ -137,10 +135,10 @@ module _ (ds : List ℕ) (r : Number) (h : integer_answer r ≡ plain_number ds)
         let t = plain_there n q in
         rw (t.0, ← t.1, le-leb n 2_147_483_647 l)
 
-  pub negative_none : r ≡ Nothing → None ≡ negative ds
+  pub negative_none : r ≡ None → None ≡ negative ds
   negative_none q = let v = value_of 0 ds in rw (without_middle (plain ds) (leb 1 v) (leb v nought) (plain_missing q))
 
-  pub unsigned_none : r ≡ Nothing → None ≡ not_negative ds
+  pub unsigned_none : r ≡ None → None ≡ not_negative ds
   unsigned_none q = rw (below_too (plain ds) (value_of 0 ds) (plain_missing q))
 
 -- the ways to an integer

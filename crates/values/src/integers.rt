@@ -1,18 +1,11 @@
 // Integers, kept as their distance from -2,147,483,648.
 ghost use Rattle.std.specs.Prelude.{◌≡◌, true};
 ghost use Rattle.values.specs.Integers.{integer_of, negative, not_negative, twos_complement, magnitude, inside, pair, around};
-ghost use Rattle.values.specs.Clauses.Answers.{integer_answer, digits_from, plain_number, short_integer};
+ghost use Rattle.values.specs.Clauses.Answers.{digits_from, plain_number, short_integer};
 
 use crate::shapes::digit_value;
 use lexis::runs::{Class, past_run};
 use lexis::sorts::is_digit;
-
-// An integer that is read, or that none is spelled.
-#[derive(Clone, Copy)]
-pub enum Number {
-    Value(u32),
-    Nothing,
-}
 
 // 0 as a distance.
 const NOUGHT: u32 = 2_147_483_648;
@@ -21,84 +14,53 @@ const NOUGHT: u32 = 2_147_483_648;
 pub const GREATEST: u32 = 4_294_967_295;
 
 // The number that digits spell, up to 2,147,483,648: a longer run is left as soon as it is larger.
-fn digits(ds: &[u8]) -> Number
-    ensures { integer_answer result ≡ digits_from 0 ds.now }
+fn digits(ds: &[u8]) -> Option<u32>
+    ensures { result ≡ digits_from 0 ds.now }
 {
     let mut n: u32 = 0;
-    let mut i = 0;
-    while i < ds.len() {
-        if !is_digit(ds[i]) {
-            return Number::Nothing;
+    for &b in ds {
+        if !is_digit(b) || 214_748_364 < n {
+            return None;
         }
-        if 214_748_364 < n {
-            return Number::Nothing;
-        }
-        n = n * 10 + digit_value(ds[i]);
-        i += 1;
+        n = n * 10 + digit_value(b);
     }
-    if NOUGHT < n {
-        return Number::Nothing;
-    }
-    Number::Value(n)
+    (n <= NOUGHT).then_some(n)
 }
 
 // The same of digits without a needless zero in front.
-fn plain_number(ds: &[u8]) -> Number
-    ensures { integer_answer result ≡ plain_number ds.now }
+fn plain_number(ds: &[u8]) -> Option<u32>
+    ensures { result ≡ plain_number ds.now }
 {
-    if ds.len() == 0 {
-        return Number::Nothing;
+    match ds {
+        [] | [b'0', _, ..] => None,
+        _ => digits(ds),
     }
-    if ds.len() == 1 {
-        return digits(ds);
-    }
-    if ds[0] == b'0' {
-        return Number::Nothing;
-    }
-    digits(ds)
 }
 
 // An integer from the digits behind `-`.
-fn negative(ds: &[u8]) -> Number
-    ensures { integer_answer result ≡ negative ds.now }
+fn negative(ds: &[u8]) -> Option<u32>
+    ensures { result ≡ negative ds.now }
 {
-    match plain_number(ds) {
-        Number::Value(n) => {
-            if 1 <= n {
-                return Number::Value(NOUGHT - n);
-            }
-            Number::Nothing
-        }
-        Number::Nothing => Number::Nothing,
-    }
+    let n = plain_number(ds)?;
+    if 1 <= n { Some(NOUGHT - n) } else { None }
 }
 
 // An integer from digits without `-`.
-fn not_negative(ds: &[u8]) -> Number
-    ensures { integer_answer result ≡ not_negative ds.now }
+fn not_negative(ds: &[u8]) -> Option<u32>
+    ensures { result ≡ not_negative ds.now }
 {
-    match plain_number(ds) {
-        Number::Value(n) => {
-            if n <= 2_147_483_647 {
-                return Number::Value(NOUGHT + n);
-            }
-            Number::Nothing
-        }
-        Number::Nothing => Number::Nothing,
-    }
+    let n = plain_number(ds)?;
+    if n <= 2_147_483_647 { Some(NOUGHT + n) } else { None }
 }
 
 // The integer that bytes spell, as a distance.
-pub fn integer_of(w: &[u8]) -> Number
-    ensures { integer_answer result ≡ integer_of w.now }
+pub fn integer_of(w: &[u8]) -> Option<u32>
+    ensures { result ≡ integer_of w.now }
 {
-    if w.len() == 0 {
-        return Number::Nothing;
+    match w {
+        [b'-', ds @ ..] => negative(ds),
+        _ => not_negative(w),
     }
-    if w[0] == b'-' {
-        return negative(&w[1..]);
-    }
-    not_negative(w)
 }
 
 // The most digits with which an integer is in the range whatever they are.

@@ -1,8 +1,8 @@
 // Times and zones as they are spelled.
 ghost use Rattle.std.specs.Prelude.{◌≡◌, ◌+◌, ◌≤◌, leb, length};
 ghost use Rattle.values.specs.Dates.{digits_at};
-ghost use Rattle.values.specs.Times.{zone, good_time, time_of};
-ghost use Rattle.values.specs.Clauses.Answers.{east_zone, west_zone, hour_time, minute_time, second_time, time_answer};
+ghost use Rattle.values.specs.Times.{zone, time_of};
+ghost use Rattle.values.specs.Clauses.Answers.{east_zone, west_zone, hour_time, minute_time, second_time};
 
 use crate::shapes::{exactly, two_digits};
 use lexis::runs::shaped;
@@ -21,13 +21,6 @@ const MOST_EAST: u32 = 13;
 
 // The most hours that a zone has with `-`.
 const MOST_WEST: u32 = 12;
-
-// How many of hours, minutes and seconds a time that is read has, or that none is spelled.
-#[derive(Clone, Copy)]
-pub enum Parts {
-    Value(u8),
-    Nothing,
-}
 
 // Two digits spell a number up to a limit.
 fn up_to(w: &[u8], at: usize, most: u32) -> bool
@@ -136,28 +129,17 @@ fn second_time(w: &[u8]) -> bool
     zone(&w[8..])
 }
 
-// So many parts, if they are good.
-fn good_time(good: bool, parts: u8) -> Parts
-    ensures { time_answer result ≡ good_time good parts }
-{
-    if good {
-        return Parts::Value(parts);
-    }
-    Parts::Nothing
-}
-
-// The time that bytes spell, whole or from the hour on, with or without a zone.
-pub fn time_of(w: &[u8]) -> Parts
-    ensures { time_answer result ≡ time_of w.now }
+// How many of hours, minutes and seconds the time has that bytes spell, whole or from the hour on, with or without a zone.
+pub fn time_of(w: &[u8]) -> Option<u8>
+    ensures { result ≡ time_of w.now }
 {
     if shaped(w, 0, b"dd:dd:dd") {
-        return good_time(second_time(w), 3);
+        second_time(w).then_some(3)
+    } else if shaped(w, 0, b"dd:dd") {
+        minute_time(w).then_some(2)
+    } else if shaped(w, 0, b"dd") {
+        hour_time(w).then_some(1)
+    } else {
+        None
     }
-    if shaped(w, 0, b"dd:dd") {
-        return good_time(minute_time(w), 2);
-    }
-    if shaped(w, 0, b"dd") {
-        return good_time(hour_time(w), 1);
-    }
-    Parts::Nothing
 }
