@@ -8,4 +8,3 @@ pub mod FaultTable
 pub mod CountTable
 pub mod ExistenceSteps
 pub mod HeadSteps
-pub mod OpeningSteps
