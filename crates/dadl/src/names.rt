@@ -3,14 +3,14 @@ ghost use Rattle.std.specs.Prelude.{◌≡◌, ◌+◌};
 ghost use Rattle.lexis.specs.Runs.{listed};
 ghost use Rattle.refusals.specs.Parsing.{first_in};
 ghost use Rattle.dadl.specs.Data.{name_from};
-ghost use Rattle.dadl.specs.Clauses.Answers.{Inside, Earlier, earlier_names, SpanIs, ContentIs, member_reading};
+ghost use Rattle.dadl.specs.Clauses.Answers.{Inside, Earlier, earlier_names, NameIs, ContentIs, member_reading};
 
-use crate::contents::{ContentStart, content_start};
+use crate::contents::{Content, content_start};
 use crate::rows::{number, row_name};
-use crate::tokens::{SpanRead, expect_data};
+use crate::tokens::expect_data;
 use lexis::{EQUALS, Token};
 use refusals::limits::NAME_LIMIT;
-use refusals::steps::{Expected, too_long};
+use refusals::steps::too_long;
 use refusals::{Cause, Refusal};
 
 // Whether bytes are a name of the rows from `first` on, from link to link, up to `end`.
@@ -40,48 +40,42 @@ fn repeated(s: &[u8], tape: &[u16], first: usize, end: usize, name: &[u8]) -> bo
     again
 }
 
-// A member's NAME and `=`; the names before it are those of the rows from `first` on up to `end`.
-fn name_from(s: &[u8], tape: &[u16], first: usize, end: usize, t: Token) -> SpanRead
+// A member's NAME and `=`: the place behind. The names before it are those of the rows from `first` on up to `end`.
+fn name_from(
+    s: &[u8],
+    tape: &[u16],
+    first: usize,
+    end: usize,
+    t: Token,
+) -> Result<usize, Refusal>
     requires earlier { Earlier s.now tape.now first end }
     requires inside { Inside s.now t.start t.end }
-    ensures { SpanIs s.now t.start
+    ensures { NameIs s.now t
         (first_in (name_from s.now (earlier_names s.now tape.now first end) t)) result }
 {
     if NAME_LIMIT < t.end - t.start {
-        let fault = too_long(t);
-        return SpanRead::Bad(fault);
+        return Err(too_long(t));
     }
-    let start = t.start;
-    let stop = t.end;
-    if repeated(s, tape, first, end, &s[start..stop]) {
-        return SpanRead::Bad(Refusal {
-            cause: Cause::RepeatedName,
-            place: t.start,
-        });
+    if repeated(s, tape, first, end, &s[t.start..t.end]) {
+        return Err(Cause::RepeatedName.at(t.start));
     }
-    match expect_data(s, EQUALS, t.end) {
-        Expected::Fault(fault) => {
-            return SpanRead::Bad(fault);
-        }
-        Expected::Taken(equals) => {
-            return SpanRead::Spans {
-                start: t.start,
-                end: t.end,
-                next: equals.end,
-            };
-        }
-    }
+    let equals = expect_data(s, EQUALS, t.end)?;
+    Ok(equals.end)
 }
 
 // A member up to its leaf's end, or up to the opening of its block.
-pub fn member_start(s: &[u8], tape: &[u16], first: usize, end: usize, t: Token) -> ContentStart
+pub fn member_start(
+    s: &[u8],
+    tape: &[u16],
+    first: usize,
+    end: usize,
+    t: Token,
+) -> Result<Content, Refusal>
     requires earlier { Earlier s.now tape.now first end }
     requires inside { Inside s.now t.start t.end }
     ensures { ContentIs s.now (t.start + 2)
         (member_reading s.now (earlier_names s.now tape.now first end) t) result }
 {
-    match name_from(s, tape, first, end, t) {
-        SpanRead::Bad(fault) => ContentStart::Faulty(fault),
-        SpanRead::Spans { start, end, next } => content_start(s, next),
-    }
+    let next = name_from(s, tape, first, end, t)?;
+    content_start(s, next)
 }

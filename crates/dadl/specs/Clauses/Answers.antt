@@ -3,7 +3,6 @@ use Rattle.std.specs.Prelude.{◌≡◌, cond, List, [], ◌∷◌, ℕ, zero, s
 use Rattle.std.specs.Prelude.{Option, None, Some}
 use Rattle.std.proofs.lemmas.List.Edits.{sets}
 use Rattle.lexis.specs.Runs.{part}
-use Rattle.lexis.specs.Spelling.{less, greater}
 use Rattle.lexis.specs.Tokens.{name}
 use Rattle.lexis.specs.Tokens
 use Rattle.lexis.specs.DataTokens.{data_token_at, word_run}
@@ -14,98 +13,120 @@ use Rattle.refusals.specs.Reading.{Reading, refused, got, refuse}
 use Rattle.refusals.specs.Reading
 use Rattle.refusals.specs.Parsing.{parsed, and_then, first_in}
 use Rattle.dadl.specs.Placed.{Span, span, Block, block, Entries, PlacedContent, string, word, inside}
-use Rattle.dadl.specs.Data.{expect_data, leaf_from, Down, typed, content_from, name_from, members, block_from, outermost, span_of}
-use Rattle.dadl.specs.Clauses.Tape.{row_size, is_string, entry_rows, content_rows, tape_row_of, entries_tape, content_tape, type_start, type_end}
-use Rattle.dadl.specs.declared.tokens.SpanRead.{SpanRead}
-use Rattle.dadl.specs.declared.tokens.SpanRead.TheVariants.{Bad, Spans}
+use Rattle.dadl.specs.Data.{leaf_from, Down, typed, content_from, name_from, members, block_from, outermost, span_of}
+use Rattle.dadl.specs.Clauses.Tape.{row_size, is_block, is_string, is_word, entry_rows, content_rows, tape_row_of, entries_tape, content_tape, type_start, type_end}
+use Rattle.refusals.specs.declared.Refusal.{Refusal}
+use Rattle.std.specs.declared.result.Result.{Result}
+use Rattle.std.specs.declared.result.Result.TheVariants.{Ok, Err}
+use Rattle.dadl.specs.declared.tokens.Part.{Part}
+use Rattle.dadl.specs.declared.tokens.TypeName.{TypeName}
 use Rattle.dadl.specs.declared.tokens.Opening.{Opening}
-use Rattle.dadl.specs.declared.tokens.Opening.TheVariants.{Shut, Opens}
-use Rattle.dadl.specs.declared.contents.ContentStart.{ContentStart}
-use Rattle.dadl.specs.declared.contents.ContentStart.TheVariants as content
+use Rattle.dadl.specs.declared.contents.LeafSort.{LeafSort}
+use Rattle.dadl.specs.declared.contents.LeafSort.TheVariants as leaf
+use Rattle.dadl.specs.declared.contents.Leaf.{Leaf}
+use Rattle.dadl.specs.declared.contents.Content.{Content}
+use Rattle.dadl.specs.declared.contents.Content.TheVariants as content
 use Rattle.dadl.specs.declared.rows.Row.{Row}
-use Rattle.dadl.specs.declared.blocks.RowsRead.{RowsRead}
-use Rattle.dadl.specs.declared.blocks.RowsRead.TheVariants.{Refused, Read}
-use Rattle.dadl.specs.declared.blocks.MemberRead.{MemberRead}
-use Rattle.dadl.specs.declared.blocks.MemberRead.TheVariants.{Not, Member}
-use Rattle.dadl.specs.declared.DataRead.{DataRead}
-use Rattle.dadl.specs.declared.DataRead.TheVariants as read
+use Rattle.dadl.specs.declared.blocks.Rows.{Rows}
+use Rattle.dadl.specs.declared.blocks.Member.{Member}
+use Rattle.dadl.specs.declared.DataText.{DataText}
 
--- a name or a type as a reading
-abbrev pub span_reading : SpanRead → Reading Span
-span_reading (Bad x) = refused x
-span_reading (Spans start end next) = got (span start end) next
+-- the bytes of a token as a part of the text
+abbrev pub part_of : Token → Part
+part_of t = record { start = t.start; end = t.end }
 
-abbrev pub SpanPast : List ℕ → ℕ → SpanRead → Type 0
-SpanPast s from (Bad x) = Unit {0}
-SpanPast s from (Spans start end next) = (from ≤ start) × (start < end) × (end < next) × (next ≤ length s)
+-- a part of the text as the definitions have it
+abbrev pub part_span : Part → Span
+part_span p = span p.start p.end
 
-pub record SpanIs (s : List ℕ) (from : ℕ) (reading : Reading Span) (r : SpanRead) : Type 0 where
-  pub is : span_reading r ≡ reading
-  pub past : SpanPast s from r
+-- a type as a reading
+abbrev pub type_reading : Result TypeName Refusal → Reading Span
+type_reading (Err x) = refused x
+type_reading (Ok t) = got (part_span t.part) t.next
 
--- a type that ends before a place
-pub record SpanBefore (start end from : ℕ) : Type 0 where
-  pub order : start < end
-  pub ahead : end ≤ from
+abbrev pub TypePast : List ℕ → ℕ → Result TypeName Refusal → Type 0
+TypePast s from (Err x) = Unit {0}
+TypePast s from (Ok t) =
+    (from ≤ t.part.start) × (t.part.start < t.part.end) × (t.part.end < t.next) × (t.next ≤ length s)
+
+pub record TypeIs (s : List ℕ) (from : ℕ) (reading : Reading Span) (r : Result TypeName Refusal) : Type 0 where
+  pub is : type_reading r ≡ reading
+  pub past : TypePast s from r
 
 -- a place of the text behind another
 pub record Behind (s : List ℕ) (place from : ℕ) : Type 0 where
   pub order : place < from
   pub inside : from ≤ length s
 
--- a type by its two places, none where the second is 0
-abbrev pub type_span : ℕ → ℕ → Option Span
-type_span start end = cond (eqb end 0) None (Some (span start end))
+-- a type that a block may have
+abbrev pub type_span : Option Part → Option Span
+type_span None = None
+type_span (Some p) = Some (part_span p)
 
 -- an opening, and the block that is read behind it
-abbrev pub open_reading : Down → Opening → Reading Block
-open_reading down (Shut x) = refused x
-open_reading down (Opens place start end next) = first_in (down place (type_span start end) next)
+abbrev pub opened : Down → Opening → Reading Block
+opened down o = first_in (down o.place (type_span o.type_name) o.next)
+
+abbrev pub open_reading : Down → Result Opening Refusal → Reading Block
+open_reading down (Err x) = refused x
+open_reading down (Ok o) = opened down o
+
+-- a type, where there is one, lies in the text
+abbrev pub TypeInside : List ℕ → Option Part → Type 0
+TypeInside s None = Unit {0}
+TypeInside s (Some p) = (p.start ≤ p.end) × (p.end ≤ length s)
 
 -- where an opening's places lie
-abbrev pub OpenPast : List ℕ → ℕ → Opening → Type 0
-OpenPast s from (Shut x) = Unit {0}
-OpenPast s from (Opens place start end next) =
-    (from ≤ place) × (place < next) × (next ≤ length s) × (start ≤ end) × (end ≤ length s)
+pub record Opens (s : List ℕ) (from : ℕ) (o : Opening) : Type 0 where
+  pub low : from ≤ o.place
+  pub order : o.place < o.next
+  pub high : o.next ≤ length s
+  pub type_inside : TypeInside s o.type_name
 
-pub record OpeningIs (s : List ℕ) (from : ℕ) (reading : Down → Reading Block) (r : Opening) : Type 0 where
+abbrev pub OpenPast : List ℕ → ℕ → Result Opening Refusal → Type 0
+OpenPast s from (Err x) = Unit {0}
+OpenPast s from (Ok o) = Opens s from o
+
+pub record OpeningIs (s : List ℕ) (from : ℕ) (reading : Down → Reading Block) (r : Result Opening Refusal) : Type 0 where
   pub is : (down : Down) → open_reading down r ≡ reading down
   pub past : OpenPast s from r
 
-pub record OutermostIs (s : List ℕ) (r : Opening) : Type 0 where
+pub record OutermostIs (s : List ℕ) (r : Result Opening Refusal) : Type 0 where
   pub is : (levels : ℕ) → open_reading (block_from s levels) r ≡ first_in (outermost levels s)
   pub past : OpenPast s 0 r
-
--- the `<` of a block with a type, and the block
-unfoldable pub typed_less : List ℕ → ℕ → ℕ → ℕ → Down → Reading Block
-typed_less s start end from down =
-    first_in (and_then (expect_data s less from) (λ t p. down t.start (Some (span start end)) p))
 
 -- behind `(`: a TYPE, `)`, `<` and a block
 unfoldable pub typed_from : List ℕ → ℕ → Down → Reading Block
 typed_from s from down = first_in (typed s down from)
 
--- a leaf by what it holds
-abbrev pub leaf_of : ℕ → ℕ → Span → PlacedContent
-leaf_of holds place x = cond (eqb holds is_string) (string place x) (word place x)
+-- a leaf by what it is
+abbrev pub sorted_leaf : LeafSort → ℕ → Span → PlacedContent
+sorted_leaf leaf.String place x = string place x
+sorted_leaf leaf.Word place x = word place x
+
+abbrev pub leaf_of : Leaf → PlacedContent
+leaf_of l = sorted_leaf l.sort l.place (part_span l.text)
 
 -- what stands behind `=`, and the block that is read behind its opening
-abbrev pub content_reading : Down → ContentStart → Reading PlacedContent
-content_reading down (content.Faulty x) = refused x
-content_reading down (content.Leaf holds place start end next) = got (leaf_of holds place (span start end)) next
-content_reading down (content.Block place start end next) =
-    Reading.read_then (first_in (down place (type_span start end) next)) (λ d q. got (inside d) q)
+abbrev pub content_reading : Down → Result Content Refusal → Reading PlacedContent
+content_reading down (Err x) = refused x
+content_reading down (Ok (content.Leaf l)) = got (leaf_of l) l.next
+content_reading down (Ok (content.Block o)) = Reading.read_then (opened down o) (λ d q. got (inside d) q)
 
--- where its places lie
-abbrev pub ContentPast : List ℕ → ℕ → ContentStart → Type 0
-ContentPast s from (content.Faulty x) = Unit {0}
-ContentPast s from (content.Leaf holds place start end next) =
-    (0 < holds) × (holds ≤ 2) × (from ≤ place) × (place + 2 ≤ next) × (next ≤ length s) × (start ≤ end)
-    × (end ≤ length s)
-ContentPast s from (content.Block place start end next) =
-    (from ≤ place) × (place < next) × (next ≤ length s) × (start ≤ end) × (end ≤ length s)
+-- where a leaf's places lie
+pub record LeafLies (s : List ℕ) (from : ℕ) (l : Leaf) : Type 0 where
+  pub low : from ≤ l.place
+  pub behind : l.place + 2 ≤ l.next
+  pub high : l.next ≤ length s
+  pub order : l.text.start ≤ l.text.end
+  pub ahead : l.text.end ≤ length s
 
-pub record ContentIs (s : List ℕ) (from : ℕ) (reading : Down → Reading PlacedContent) (r : ContentStart) : Type 0 where
+abbrev pub ContentPast : List ℕ → ℕ → Result Content Refusal → Type 0
+ContentPast s from (Err x) = Unit {0}
+ContentPast s from (Ok (content.Leaf l)) = LeafLies s from l
+ContentPast s from (Ok (content.Block o)) = Opens s from o
+
+pub record ContentIs (s : List ℕ) (from : ℕ) (reading : Down → Reading PlacedContent) (r : Result Content Refusal) : Type 0 where
   pub is : (down : Down) → content_reading down r ≡ reading down
   pub past : ContentPast s from r
 
@@ -122,24 +143,8 @@ less_from s place from down =
     (cond (eqb u.sort word_run) (leaf_from s place u)
     (and_then (down place None from) (λ d q. parsed (inside d) q))))
 
-unfoldable pub typed_content : List ℕ → ℕ → Down → Reading PlacedContent
-typed_content s from down = Reading.read_then (typed_from s from down) (λ d q. got (inside d) q)
-
 unfoldable pub content_of : List ℕ → ℕ → Down → Reading PlacedContent
 content_of s from down = first_in (content_from s down from)
-
--- a leaf whose `>` was read
-abbrev pub DataLeafPast : ℕ → ℕ → ℕ → ℕ → List ℕ → ℕ → ContentStart → Type 0
-DataLeafPast holds place start end s from (content.Faulty x) = Unit {0}
-DataLeafPast holds place start end s from (content.Leaf h p a e next) =
-    (h ≡ holds) × (p ≡ place) × (a ≡ start) × (e ≡ end) × (from < next) × (next ≤ length s)
-DataLeafPast holds place start end s from (content.Block p a e next) = ⊥
-
-pub record LeafEnds (s : List ℕ) (holds place start end from : ℕ) (r : ContentStart) : Type 0 where
-  pub is : (down : Down)
-      → content_reading down r
-      ≡ Reading.read_then (first_in (expect_data s greater from)) (λ u p. got (leaf_of holds place (span start end)) p)
-  pub past : DataLeafPast holds place start end s from r
 
 -- a place of the text up to another, behind it
 pub record Inside (s : List ℕ) (start end : ℕ) : Type 0 where
@@ -188,6 +193,19 @@ pub record Earlier (s tape : List ℕ) (first end : ℕ) : Type 0 where
   pub chain : Chain s tape first end (earlier_names s tape first end)
   pub room : row_size * end ≤ length tape
 
+-- the name of a token and its `=`, of which the place behind is told
+abbrev pub name_reading : Token → Result ℕ Refusal → Reading Span
+name_reading t (Err x) = refused x
+name_reading t (Ok next) = got (span_of t) next
+
+abbrev pub NamePast : List ℕ → Token → Result ℕ Refusal → Type 0
+NamePast s t (Err x) = Unit {0}
+NamePast s t (Ok next) = (t.end < next) × (next ≤ length s)
+
+pub record NameIs (s : List ℕ) (t : Token) (reading : Reading Span) (r : Result ℕ Refusal) : Type 0 where
+  pub is : name_reading t r ≡ reading
+  pub past : NamePast s t r
+
 -- a member's content, once its name is read; the names before it are `seen`
 unfoldable pub member_reading : List ℕ → List (List ℕ) → Token → Down → Reading PlacedContent
 member_reading s seen t down = first_in (and_then (name_from s seen t) (λ w p. content_from s down p))
@@ -195,18 +213,17 @@ member_reading s seen t down = first_in (and_then (name_from s seen t) (λ w p. 
 -- a row's numbers
 abbrev pub row_numbers : Row → ℕ → List ℕ
 row_numbers r next =
-    r.holds ∷ r.name_start ∷ r.name_end ∷ r.place ∷ r.type_start ∷ r.type_end ∷ r.start ∷ r.end ∷ next
+    r.holds ∷ r.name.start ∷ r.name.end ∷ r.place ∷ r.type_name.start ∷ r.type_name.end ∷ r.start ∷ r.end ∷ next
     ∷ []
 
 -- a row that its place on the tape and the numbers there hold
 pub record RowFits (n : ℕ) (r : Row) (next : ℕ) (tape : List ℕ) : Type 0 where
   pub room : row_size * n + row_size ≤ length tape
-  pub holds : r.holds < 65_536
-  pub name_start : r.name_start < 65_536
-  pub name_end : r.name_end < 65_536
+  pub name_start : r.name.start < 65_536
+  pub name_end : r.name.end < 65_536
   pub place : r.place < 65_536
-  pub type_start : r.type_start < 65_536
-  pub type_end : r.type_end < 65_536
+  pub type_start : r.type_name.start < 65_536
+  pub type_end : r.type_name.end < 65_536
   pub start : r.start < 65_536
   pub end : r.end < 65_536
   pub link : next < 65_536
@@ -215,58 +232,61 @@ pub record RowFits (n : ℕ) (r : Row) (next : ℕ) (tape : List ℕ) : Type 0 w
 abbrev pub link_of : ℕ → ℕ → ℕ
 link_of sort rows = cond (eqb sort name) rows 0
 
+-- what a leaf's row says that its member holds
+abbrev pub holds_of : LeafSort → ℕ
+holds_of leaf.String = is_string
+holds_of leaf.Word = is_word
+
+-- a type's places, 0 and 0 where there is none
+abbrev pub type_part : Option Part → Part
+type_part None = record { start = 0; end = 0 }
+type_part (Some p) = p
+
 -- the row of a leaf
-abbrev pub leaf_row : Token → ℕ → ℕ → ℕ → ℕ → Row
-leaf_row t holds place start end = record {
-  holds = holds;
-  name_start = t.start;
-  name_end = t.end;
-  place = place;
-  type_start = 0;
-  type_end = 0;
-  start = start;
-  end = end;
+abbrev pub leaf_row : Token → Leaf → Row
+leaf_row t l = record {
+  holds = holds_of l.sort;
+  name = part_of t;
+  place = l.place;
+  type_name = record { start = 0; end = 0 };
+  start = l.text.start;
+  end = l.text.end;
 }
 
 -- the row of a block with so many rows inside it
-abbrev pub block_row : Token → ℕ → ℕ → ℕ → ℕ → Row
-block_row t place start end rows = record {
-  holds = 0;
-  name_start = t.start;
-  name_end = t.end;
-  place = place;
-  type_start = start;
-  type_end = end;
+abbrev pub block_row : Token → Opening → ℕ → Row
+block_row t o rows = record {
+  holds = is_block;
+  name = part_of t;
+  place = o.place;
+  type_name = type_part o.type_name;
   start = 0;
   end = rows;
 }
 
--- an answer, and the tape where it is one of success
-pub record RowsWrote (A : Type 0) : Type 0 where
-  pub answer : A
+-- an answer, and the tape where it is one of success; after a refusal nothing is said of the tape
+pub record Wrote (A : Type 0) : Type 0 where
+  pub answer : Result A Refusal
   pub tape : List ℕ
 
-abbrev pub member_wrote : MemberRead → List ℕ → RowsWrote MemberRead
-member_wrote (Not x) tape = record { answer = Not x; tape = [] }
-member_wrote (Member rows after) tape = record { answer = Member rows after; tape = tape }
+abbrev pub data_wrote : {A : Type 0} → Result A Refusal → List ℕ → Wrote A
+data_wrote (Err x) tape = record { answer = Err x; tape = [] }
+data_wrote (Ok a) tape = record { answer = Ok a; tape = tape }
 
--- what finishing a member's row answers and writes
-abbrev pub finished_rows : List ℕ → ℕ → Row → ℕ → ℕ → List ℕ → RowsWrote MemberRead
-finished_rows s n row rows from tape = record {
-  answer = Member rows (data_token_at s from);
-  tape = sets tape (row_size * n) (row_numbers row (link_of (data_token_at s from).sort rows));
-}
+-- what finishing a member's row answers
+abbrev pub finished : List ℕ → ℕ → ℕ → Member
+finished s end from = record { end = end; after = data_token_at s from }
 
--- a row that can be finished_rows
+-- a row that can be finished
 pub record Finish (s : List ℕ) (n : ℕ) (row : Row) (rows from : ℕ) (tape : List ℕ) : Type 0 where
   pub inside : from ≤ length s
   pub fits : RowFits n row rows tape
 
 -- what reading a member at row n answers, and its rows on the tape
-abbrev pub member_written : List ℕ → Token → ℕ → List ℕ → Reading PlacedContent → RowsWrote MemberRead
-member_written s t n tape (refused x) = record { answer = Not x; tape = [] }
+abbrev pub member_written : List ℕ → Token → ℕ → List ℕ → Reading PlacedContent → Wrote Member
+member_written s t n tape (refused x) = record { answer = Err x; tape = [] }
 member_written s t n tape (got c q) = record {
-  answer = Member (n + 1 + content_rows c) (data_token_at s q);
+  answer = Ok (finished s (n + 1 + content_rows c) q);
   tape =
       sets (sets tape (row_size * (n + 1)) (content_tape c (n + 1))) (row_size * n)
       (tape_row_of (span_of t) c (link_of (data_token_at s q).sort (n + 1 + content_rows c)));
@@ -287,19 +307,17 @@ pub record MemberRoom (s : List ℕ) (levels : ℕ) (t : Token) (n : ℕ) (tape 
   pub long : row_size * (length s + 20) ≤ 4 * length tape
 
 pub record MemberIs (s : List ℕ) (levels : ℕ) (t : Token) (first n : ℕ) (before after : List ℕ)
-    (r : MemberRead) : Type 0 where
-  pub is : member_wrote r after
+    (r : Result Member Refusal) : Type 0 where
+  pub is : data_wrote r after
       ≡ member_written s t n before (member_reading s (earlier_names s before first n) t (block_from s levels))
 
 -- what reading members from row n on answers, and their rows on the tape
-abbrev pub rows_wrote : RowsRead → List ℕ → RowsWrote RowsRead
-rows_wrote (Refused x) tape = record { answer = Refused x; tape = [] }
-rows_wrote (Read rows place) tape = record { answer = Read rows place; tape = tape }
-
-abbrev pub entries_written : ℕ → List ℕ → Reading Entries → RowsWrote RowsRead
-entries_written n tape (refused x) = record { answer = Refused x; tape = [] }
-entries_written n tape (got ms p) =
-    record { answer = Read (n + entry_rows ms) p; tape = sets tape (row_size * n) (entries_tape ms n) }
+abbrev pub entries_written : ℕ → List ℕ → Reading Entries → Wrote Rows
+entries_written n tape (refused x) = record { answer = Err x; tape = [] }
+entries_written n tape (got ms p) = record {
+  answer = Ok (record { end = n + entry_rows ms; place = p });
+  tape = sets tape (row_size * n) (entries_tape ms n);
+}
 
 -- the members of a block of at most so many levels, from behind its `<` on
 unfoldable pub entries_from : List ℕ → ℕ → ℕ → ℕ → Reading Entries
@@ -307,34 +325,30 @@ entries_from s zero place from = refuse TooDeep place
 entries_from s (suc levels) place from = first_in (members s (block_from s levels) (length s + 1) [] from)
 
 -- members that were read take a byte for `>` and four for each row
-abbrev pub RowsPast : List ℕ → ℕ → ℕ → RowsRead → Type 0
-RowsPast s from n (Refused x) = Unit {0}
-RowsPast s from n (Read rows place) = (n ≤ rows) × (4 * rows + from + 1 ≤ 4 * n + place) × (place ≤ length s)
+abbrev pub RowsPast : List ℕ → ℕ → ℕ → Result Rows Refusal → Type 0
+RowsPast s from n (Err x) = Unit {0}
+RowsPast s from n (Ok rows) =
+    (n ≤ rows.end) × (4 * rows.end + from + 1 ≤ 4 * n + rows.place) × (rows.place ≤ length s)
 
 pub record RowsIs (s : List ℕ) (from n : ℕ) (before : List ℕ) (reading : Reading Entries) (after : List ℕ)
-    (r : RowsRead) : Type 0 where
-  pub is : rows_wrote r after ≡ entries_written n before reading
+    (r : Result Rows Refusal) : Type 0 where
+  pub is : data_wrote r after ≡ entries_written n before reading
   pub past : RowsPast s from n r
 
 -- a tape with room for the rows of a text that is not too long: fewer than one for each four bytes, and five
 pub record TapeRoom (s tape : List ℕ) : Type 0 where
   pub room : length s ≤ text_limit → row_size * (length s + 20) ≤ 4 * length tape
 
--- the answer once the text's end is read, or another token is found there
-abbrev pub end_answer : ℕ → ℕ → ℕ → ℕ → Reading Token → DataRead
-end_answer place start end rows (refused x) = read.Refused x
-end_answer place start end rows (got t q) = read.Read place start end rows q
-
--- what reading a data text answers, and the rows of its members on the tape from row 0 on; after a refusal nothing is said of the tape
-abbrev pub data_wrote : DataRead → List ℕ → RowsWrote DataRead
-data_wrote (read.Refused x) tape = record { answer = read.Refused x; tape = [] }
-data_wrote (read.Read place start end rows last) tape =
-    record { answer = read.Read place start end rows last; tape = tape }
-
-abbrev pub data_written : List ℕ → Reading Block → RowsWrote DataRead
-data_written tape (refused x) = record { answer = read.Refused x; tape = [] }
-data_written tape (got (block place type ms) last) =
-    record {
-      answer = read.Read place (type_start type) (type_end type) (entry_rows ms) last;
-      tape = sets tape 0 (entries_tape ms 0);
-    }
+-- what reading a data text answers, and the rows of its members on the tape from row 0 on
+abbrev pub data_written : List ℕ → Reading Block → Wrote DataText
+data_written tape (refused x) = record { answer = Err x; tape = [] }
+data_written tape (got (block place type ms) last) = record {
+  answer = Ok (record {
+    place = place;
+    type_start = type_start type;
+    type_end = type_end type;
+    rows = entry_rows ms;
+    end = last;
+  });
+  tape = sets tape 0 (entries_tape ms 0);
+}
