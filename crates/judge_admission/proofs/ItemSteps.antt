@@ -212,16 +212,17 @@ module _ (records pool w : List ℕ) (n : ℕ) where
       by (Rows.single sort) e = refl
       by (range sort) e = refl
 
-  word_none : (k : ℕ) → (k ≡ 3 → ⊥) → (k ≡ 4 → ⊥) → (k ≡ 5 → ⊥) → (k ≡ 6 → ⊥) → (k ≡ 7 → ⊥) → (k ≡ 8 → ⊥)
-      → (k ≡ 9 → ⊥) → unsuited ≡ finding_under (leaf_of_shape records pool n (shape_of k)) false w
-  word_none k h3 h4 h5 h6 h7 h8 h9 = by (shape_of k) (kind_shape k)
+  word_none : (k : ℕ) → (k ≡ 3 → ⊥) → (k ≡ 4 → ⊥) → (k ≡ 6 → ⊥) → (k ≡ 7 → ⊥) → (k ≡ 8 → ⊥) → (k ≡ 9 → ⊥)
+      → unsuited ≡ finding_under (leaf_of_shape records pool n (shape_of k)) false w
+  unfolding word_under
+  word_none k h3 h4 h6 h7 h8 h9 = by (shape_of k) (kind_shape k)
     where
       by : (s : Shape) → (is_known s ≡ true → k ≡ kind_of s)
           → unsuited ≡ finding_under (leaf_of_shape records pool n s) false w
       by table_header e = refl
       by object e = refl
       by attribute e = refl
-      by text e = absurd (h5 (e refl))
+      by text e = refl
       by (Rows.single booleans) e = absurd (h3 (e refl))
       by (Rows.single date_pattern) e = absurd (h6 (e refl))
       by (Rows.single time_pattern) e = absurd (h8 (e refl))
@@ -253,13 +254,9 @@ module _ (records pool w : List ℕ) (first : ℕ) (e : Entry) (q : record_of e 
     string_kind r f h z g = shape_read text f (ap shape_of h) (rw y (g ∙ ap found z))
 
   module _ (y : s ≡ false) where
-    pub word_not : (e.kind ≡ 3 → ⊥) → (e.kind ≡ 4 → ⊥) → (e.kind ≡ 5 → ⊥) → (e.kind ≡ 6 → ⊥) → (e.kind ≡ 7 → ⊥)
-        → (e.kind ≡ 8 → ⊥) → (e.kind ≡ 9 → ⊥) → unsuited ≡ finding_under (record_leaf records pool first) s w
-    word_not h3 h4 h5 h6 h7 h8 h9 = shape_read (shape_of e.kind) unsuited refl (rw y (word_none records pool w first e.kind h3 h4 h5 h6 h7 h8 h9))
-
-    pub word-string : e.kind ≡ 5 → unsuited ≡ finding_under (record_leaf records pool first) s w
-    unfolding shape_of word_under
-    word-string h = shape_read text unsuited (ap shape_of h) (rw y refl)
+    pub word_not : (e.kind ≡ 3 → ⊥) → (e.kind ≡ 4 → ⊥) → (e.kind ≡ 6 → ⊥) → (e.kind ≡ 7 → ⊥) → (e.kind ≡ 8 → ⊥)
+        → (e.kind ≡ 9 → ⊥) → unsuited ≡ finding_under (record_leaf records pool first) s w
+    word_not h3 h4 h6 h7 h8 h9 = shape_read (shape_of e.kind) unsuited refl (rw y (word_none records pool w first e.kind h3 h4 h6 h7 h8 h9))
 
     pub word-integer : (f : Finding) → e.kind ≡ 4
         → f ≡ word_under (ranges integers (ranges_from integers records first)) w
@@ -404,4 +401,4 @@ module _ (records pool : List ℕ) (first : ℕ) (e : Entry) (i : ItemsGood reco
   unfolding shape_of
   chained_dates h = chained_by 7 refl h
 
-pub ruleset kind_steps = (string_not, string_kind, word_not, word-string, word-integer, word-date, word_boolean, word-date_pattern, word_time_pattern, word_duration_pattern)
+pub ruleset kind_steps = (string_not, string_kind, word_not, word-integer, word-date, word_boolean, word-date_pattern, word_time_pattern, word_duration_pattern)
