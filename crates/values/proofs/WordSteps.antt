@@ -16,12 +16,21 @@ use Rattle.values.proofs.ShapeSteps.{exactly_same}
 use Rattle.values.proofs.IntegerSteps.{short_reads}
 
 -- True and False
+module _ (w : List ℕ) where
+  pub true_is : exactly (bytes "True") w ≡ same (bytes "True") w
+  unfolding all
+  true_is = exactly_same (bytes "True") w refl
+
+  pub false_is : exactly (bytes "False") w ≡ same (bytes "False") w
+  unfolding all
+  false_is = exactly_same (bytes "False") w refl
+
 module _ (w : List ℕ) (r : Bool) (h : r ≡ exactly (bytes "True") w) where
-  as_true : exactly (bytes "True") w ≡ same (bytes "True") w
+  pub as_true : exactly (bytes "True") w ≡ same (bytes "True") w
   unfolding all
   as_true = exactly_same (bytes "True") w refl
 
-  as_false : exactly (bytes "False") w ≡ same (bytes "False") w
+  pub as_false : exactly (bytes "False") w ≡ same (bytes "False") w
   unfolding all
   as_false = exactly_same (bytes "False") w refl
 

@@ -4,7 +4,7 @@ ghost use Rattle.values.specs.Integers.{integer_of, negative, not_negative, twos
 ghost use Rattle.values.specs.Clauses.Answers.{digits_from, plain_number, short_integer};
 
 use crate::shapes::digit_value;
-use lexis::runs::{Class, past_run};
+use lexis::runs::{Digit, past_run};
 use lexis::sorts::is_digit;
 
 // 0 as a distance.
@@ -14,6 +14,7 @@ const NOUGHT: u32 = 2_147_483_648;
 pub const GREATEST: u32 = 4_294_967_295;
 
 // The number that digits spell, up to 2,147,483,648: a longer run is left as soon as it is larger.
+#[tactic(auto, using(crate::proofs::IntegerSteps::digits_end, crate::proofs::IntegerSteps::digits_other, crate::proofs::IntegerSteps::digits_large, crate::proofs::IntegerSteps::digits_on))]
 fn digits(ds: &[u8]) -> Option<u32>
     ensures { result ≡ digits_from 0 ds.now }
 {
@@ -28,6 +29,7 @@ fn digits(ds: &[u8]) -> Option<u32>
 }
 
 // The same of digits without a needless zero in front.
+#[tactic(auto, using(crate::proofs::IntegerSteps::plain_empty, crate::proofs::IntegerSteps::plain_zero, crate::proofs::IntegerSteps::plain_one, crate::proofs::IntegerSteps::plain_more))]
 fn plain_number(ds: &[u8]) -> Option<u32>
     ensures { result ≡ plain_number ds.now }
 {
@@ -38,22 +40,24 @@ fn plain_number(ds: &[u8]) -> Option<u32>
 }
 
 // An integer from the digits behind `-`.
+#[tactic(auto, using(crate::proofs::IntegerSteps::plain_most, crate::proofs::IntegerSteps::negative_none, crate::proofs::IntegerSteps::negative_nought, crate::proofs::IntegerSteps::negative_some))]
 fn negative(ds: &[u8]) -> Option<u32>
     ensures { result ≡ negative ds.now }
 {
     let n = plain_number(ds)?;
-    if 1 <= n { Some(NOUGHT - n) } else { None }
+    (1 <= n).then_some(NOUGHT - n)
 }
 
-// An integer from digits without `-`.
+// An integer from digits without `-`: above the greatest the sum is no u32.
+#[tactic(auto, using(crate::proofs::IntegerSteps::unsigned_none, crate::proofs::IntegerSteps::unsigned_there))]
 fn not_negative(ds: &[u8]) -> Option<u32>
     ensures { result ≡ not_negative ds.now }
 {
-    let n = plain_number(ds)?;
-    if n <= 2_147_483_647 { Some(NOUGHT + n) } else { None }
+    NOUGHT.checked_add(plain_number(ds)?)
 }
 
 // The integer that bytes spell, as a distance.
+#[tactic(auto, using(crate::proofs::IntegerSteps::integer_minus, crate::proofs::IntegerSteps::integer_digits, crate::proofs::IntegerSteps::integer_empty))]
 pub fn integer_of(w: &[u8]) -> Option<u32>
     ensures { result ≡ integer_of w.now }
 {
@@ -67,47 +71,37 @@ pub fn integer_of(w: &[u8]) -> Option<u32>
 const SHORT: usize = 9;
 
 // The bytes spell an integer with few digits and no `-`, which is then in the range.
+#[tactic(auto, using(crate::proofs::IntegerSteps::digits_all), unfolding(crate::specs::Clauses::Answers::short_integer))]
 pub fn short_integer(w: &[u8]) -> bool
     ensures { result ≡ short_integer w.now }
 {
-    if w.len() == 0 {
-        return false;
+    match w {
+        [] | [b'0', _, ..] => false,
+        _ => w.len() <= SHORT && past_run::<Digit>(w, 0) == w.len(),
     }
-    if SHORT < w.len() {
-        return false;
-    }
-    if past_run(w, 0, Class::Digit) != w.len() {
-        return false;
-    }
-    if w[0] != b'0' {
-        return true;
-    }
-    w.len() == 1
 }
 
 // A distance as 32 bits of two's complement, and back.
 pub fn twos_complement(x: u32) -> u32
     ensures { result ≡ twos_complement x }
 {
-    if x < NOUGHT { x + NOUGHT } else { x - NOUGHT }
+    x.wrapping_add(NOUGHT)
 }
 
 // How far d lies from 0.
 fn magnitude(d: u32) -> u32
     ensures { result ≡ magnitude d }
 {
-    if NOUGHT <= d { d - NOUGHT } else { NOUGHT - d }
+    d.abs_diff(NOUGHT)
 }
 
 // Both a - d and a + d lie in the range.
+#[tactic(auto, unfolding(crate::specs::Integers::inside))]
 pub fn inside(a: u32, d: u32) -> bool
     ensures { result ≡ inside a d }
 {
     let n = magnitude(d);
-    if a < n {
-        return false;
-    }
-    n <= GREATEST - a
+    n <= a && n <= GREATEST - a
 }
 
 // The ends of an interval, as distances.
@@ -118,19 +112,21 @@ pub struct Ends {
 }
 
 // The ends of |a+/-d|.
+#[tactic(auto, unfolding(crate::specs::Integers::inside, crate::specs::Integers::around))]
 pub fn around(a: u32, d: u32) -> Ends
     requires { inside a d ≡ true }
     ensures { pair result.low result.high ≡ around a d }
 {
     let n = magnitude(d);
     if NOUGHT <= d {
-        return Ends {
+        Ends {
             low: a - n,
             high: a + n,
-        };
-    }
-    Ends {
-        low: a + n,
-        high: a - n,
+        }
+    } else {
+        Ends {
+            low: a + n,
+            high: a - n,
+        }
     }
 }

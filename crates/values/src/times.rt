@@ -31,60 +31,38 @@ fn up_to(w: &[u8], at: usize, most: u32) -> bool
 }
 
 // A zone with `+`.
+#[tactic(auto, using(crate::proofs::TimeSteps::no_minutes))]
 fn east(z: &[u8]) -> bool
     ensures { result ≡ east_zone z.now }
 {
     if exactly(b"+dd", z) {
-        return up_to(z, 1, MOST_EAST);
+        up_to(z, 1, MOST_EAST)
+    } else {
+        exactly(b"+dd:dd", z) && up_to(z, 1, MOST_EAST) && up_to(z, 4, LAST_MINUTE)
     }
-    if !exactly(b"+dd:dd", z) {
-        return false;
-    }
-    if !up_to(z, 1, MOST_EAST) {
-        return false;
-    }
-    up_to(z, 4, LAST_MINUTE)
 }
 
 // A zone with `-`, which nought never has.
+#[tactic(auto, using(crate::proofs::TimeSteps::no_minutes))]
 fn west(z: &[u8]) -> bool
     ensures { result ≡ west_zone z.now }
 {
     if exactly(b"-dd", z) {
-        let h = two_digits(z, 1);
-        if MOST_WEST < h {
-            return false;
-        }
-        return 1 <= h;
+        up_to(z, 1, MOST_WEST) && 1 <= two_digits(z, 1)
+    } else {
+        exactly(b"-dd:dd", z)
+            && up_to(z, 1, MOST_WEST)
+            && up_to(z, 4, LAST_MINUTE)
+            && 1 <= two_digits(z, 1) + two_digits(z, 4)
     }
-    if !exactly(b"-dd:dd", z) {
-        return false;
-    }
-    let h = two_digits(z, 1);
-    if MOST_WEST < h {
-        return false;
-    }
-    let m = two_digits(z, 4);
-    if LAST_MINUTE < m {
-        return false;
-    }
-    1 <= h + m
 }
 
 // No zone, or a good one.
+#[tactic(auto, using(crate::proofs::TimeSteps::zulu_is), unfolding(crate::specs::Times::zone))]
 pub fn zone(z: &[u8]) -> bool
     ensures { result ≡ zone z.now }
 {
-    if z.len() == 0 {
-        return true;
-    }
-    if exactly(b"Z", z) {
-        return true;
-    }
-    if east(z) {
-        return true;
-    }
-    west(z)
+    z.is_empty() || exactly(b"Z", z) || east(z) || west(z)
 }
 
 // hh
@@ -92,10 +70,7 @@ fn hour_time(w: &[u8]) -> bool
     requires { 2 ≤ length w.now }
     ensures { result ≡ hour_time w.now }
 {
-    if !up_to(w, 0, LAST_HOUR) {
-        return false;
-    }
-    zone(&w[2..])
+    up_to(w, 0, LAST_HOUR) && zone(&w[2..])
 }
 
 // hh:mm
@@ -103,13 +78,7 @@ fn minute_time(w: &[u8]) -> bool
     requires { 5 ≤ length w.now }
     ensures { result ≡ minute_time w.now }
 {
-    if !up_to(w, 0, LAST_HOUR) {
-        return false;
-    }
-    if !up_to(w, 3, LAST_MINUTE) {
-        return false;
-    }
-    zone(&w[5..])
+    up_to(w, 0, LAST_HOUR) && up_to(w, 3, LAST_MINUTE) && zone(&w[5..])
 }
 
 // hh:mm:ss
@@ -117,19 +86,14 @@ fn second_time(w: &[u8]) -> bool
     requires { 8 ≤ length w.now }
     ensures { result ≡ second_time w.now }
 {
-    if !up_to(w, 0, LAST_HOUR) {
-        return false;
-    }
-    if !up_to(w, 3, LAST_MINUTE) {
-        return false;
-    }
-    if !up_to(w, 6, LAST_SECOND) {
-        return false;
-    }
-    zone(&w[8..])
+    up_to(w, 0, LAST_HOUR)
+        && up_to(w, 3, LAST_MINUTE)
+        && up_to(w, 6, LAST_SECOND)
+        && zone(&w[8..])
 }
 
 // How many of hours, minutes and seconds the time has that bytes spell, whole or from the hour on, with or without a zone.
+#[tactic(auto, using(crate::proofs::TimeSteps::shaped_reaches), unfolding(crate::specs::Times::time_of))]
 pub fn time_of(w: &[u8]) -> Option<u8>
     ensures { result ≡ time_of w.now }
 {

@@ -9,6 +9,7 @@ use crate::shapes::exactly;
 use crate::times::time_of;
 
 // The Boolean that bytes spell: 1 for True and 2 for False.
+#[tactic(auto, using(crate::proofs::WordSteps::true_is, crate::proofs::WordSteps::false_is), unfolding(crate::specs::Words::boolean_of))]
 pub fn boolean_of(w: &[u8]) -> Option<u8>
     ensures { result ≡ boolean_of w.now }
 {
@@ -22,6 +23,7 @@ pub fn boolean_of(w: &[u8]) -> Option<u8>
 }
 
 // The word reads as a Boolean, an integer, a date, a time or a duration; a short integer is told first, since most words are one.
+#[tactic(auto, using(crate::proofs::IntegerSteps::short_reads), unfolding(crate::specs::Words::good))]
 pub fn good(w: &[u8]) -> bool
     ensures { result ≡ good w.now }
 {
