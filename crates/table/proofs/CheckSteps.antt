@@ -112,27 +112,26 @@ module _ (bs : List ℕ) (f : Frame) (n : ℕ) (i : Reached bs f n) where
     one_more : f.count - n ≡ suc (f.count - (n + 1))
     one_more = omega arith
 
-    pub reach_fault : not r ≡ true
-        → Some (refusal BrokenRecord n)
-        ≡ broken_record (broken (image_of bs) 1 (image_of bs).records (drop record_size bs))
+    pub reach_fault : (w : Refusal) → r ≡ false → w ≡ refusal BrokenRecord n
+        → Some w ≡ broken_record (broken (image_of bs) 1 (image_of bs).records (drop record_size bs))
     unfolding broken
-    reach_fault g = ap broken_record (rw (one_more, ← e, not-true r g) at i.is)
+    reach_fault w g k = ap Some k ∙ ap broken_record (rw (one_more, ← e, g) at i.is)
 
-    pub reach_next : not r ≡ false → Reached bs f (n + 1)
+    pub reach_next : r ≡ true → Reached bs f (n + 1)
     unfolding broken
     reach_next g =
         let s : record_size * n + record_size ≡ record_size * (n + 1) = omega arith in
-        record { low = omega arith; high = omega arith; opened = i.opened; is = rw (one_more, ← e, not-false r g, drop-drop record_size (record_size * n) bs, s, ← (add-one n)) at i.is }
+        record { low = omega arith; high = omega arith; opened = i.opened; is = rw (one_more, ← e, g, drop-drop record_size (record_size * n) bs, s, ← (add-one n)) at i.is }
 
 -- the whole check
 module _ (bs : List ℕ) (b : Bool) (e : b ≡ framed bs) where
-  pub no_table : not b ≡ true → Some (refusal NotATable 0) ≡ table_fault bs
+  pub no_table : (w : Refusal) → b ≡ false → w ≡ refusal NotATable 0 → Some w ≡ table_fault bs
   unfolding table_fault
-  no_table h = rw (← e, not-true b h)
+  no_table w h k = rw (← e, h, k)
 
-  module _ (h : not b ≡ false) where
+  module _ (h : b ≡ true) where
     passed : framed bs ≡ true
-    passed = sym e ∙ not-false b h
+    passed = sym e ∙ h
 
     pub long_enough : record_size ≤ length bs
     long_enough = (framed_is bs passed).long

@@ -80,10 +80,10 @@ part_read bs f n at start e o h ea q es =
 -- the name of a record in a table that passes the check
 module _ (bs : List ℕ) (f : Frame) (n k : ℕ) (h : Bool) (ek : k ≡ kind_at (image_of bs) n)
     (eh : h ≡ among k (object_kind ∷ attribute_kind ∷ text_kind ∷ [])) where
-  pub name_refused : not h ≡ true → refused (refusal NoName n) ≡ name_outcome (image_of bs) n
-  name_refused g = rw (← ek, ← eh, g)
+  pub name_refused : (w : Refusal) → h ≡ false → w ≡ refusal NoName n → refused w ≡ name_outcome (image_of bs) n
+  name_refused w g k = rw (← ek, ← eh, g, k)
 
-  module _ (g : not h ≡ false) where
+  module _ (g : h ≡ true) where
     pub name-found : (p : NamePart) → slice_of p ≡ name_slice (image_of bs) n
         → gave (slice_of p) ≡ name_outcome (image_of bs) n
     name-found p q = rw (← ek, ← eh, g) (ap gave q)
@@ -92,7 +92,7 @@ module _ (bs : List ℕ) (f : Frame) (n k : ℕ) (h : Bool) (ek : k ≡ kind_at 
         → Opened bs f × ((1 ≤ n) × (n < f.count))
     name-inside t q =
         let o = sound_open bs t f q in
-        let l : 1 ≤ kind_at (image_of bs) n = rw (← ek) (kind_some k (sym eh ∙ not-false h g)) in
+        let l : 1 ≤ kind_at (image_of bs) n = rw (← ek) (kind_some k (sym eh ∙ g)) in
         (o, (number_some (image_of bs) n l, rw (count_opened bs f o) at (kind_inside (image_of bs) n l)))
 
 -- what a check that was passed says of its table

@@ -65,6 +65,7 @@ fn record_right(table: &[u8], frame: Frame, n: RecordNumber) -> bool
 }
 
 // Refuses the lowest record at fault, if there is one.
+#[tactic(auto, using(crate::proofs::CheckSteps::check_steps))]
 fn check_records(table: &[u8], frame: Frame) -> Result<(), Refusal>
     requires { Opened table.now frame }
     ensures { fault_of result
@@ -81,6 +82,7 @@ fn check_records(table: &[u8], frame: Frame) -> Result<(), Refusal>
 }
 
 // Whether bytes are a table, and else why not.
+#[tactic(auto, using(crate::proofs::CheckSteps::check_steps))]
 pub fn check(table: &[u8]) -> Result<(), Refusal>
     ensures { fault_of result ≡ table_fault table.now }
 {

@@ -32,6 +32,7 @@ fn has_name(kind: u8) -> bool
 }
 
 // Where the name of a record lies that has one.
+#[tactic(auto, using(crate::proofs::NameSteps::name_steps))]
 fn name_part(table: &[u8], frame: Frame, n: RecordNumber) -> NamePart
     requires opened { Opened table.now frame }
     requires le_n { (1 ≤ n.0) × (n.0 < frame.count) }
@@ -45,6 +46,7 @@ fn name_part(table: &[u8], frame: Frame, n: RecordNumber) -> NamePart
 }
 
 // The name of a record, in a table that passes the check.
+#[tactic(auto, using(crate::proofs::NameSteps::name_steps))]
 fn name_in(table: &[u8], n: RecordNumber) -> Result<NamePart, Refusal>
     requires { table_fault table.now ≡ None }
     ensures { answer_of result ≡ name_outcome (image_of table.now) n.0 }
@@ -57,6 +59,7 @@ fn name_in(table: &[u8], n: RecordNumber) -> Result<NamePart, Refusal>
 }
 
 // Where the name of a record lies in a table, and else why it has none.
+#[tactic(auto, using(crate::proofs::NameSteps::name_steps))]
 pub fn name_refusal(table: &[u8], record: u32) -> Result<NamePart, Refusal>
     ensures { answer_of result ≡ name_answer table.now «record» }
 {
@@ -65,6 +68,7 @@ pub fn name_refusal(table: &[u8], record: u32) -> Result<NamePart, Refusal>
 }
 
 // The name of a record, which is the part of the table itself; with a refusal, an empty part.
+#[tactic(auto, using(crate::proofs::NameSteps::name_steps))]
 pub fn name<'a>(table: &'a [u8], record: u32) -> &'a [u8]
     ensures { result.now ≡ slice_bytes table.now (name_answer table.now «record») }
 {

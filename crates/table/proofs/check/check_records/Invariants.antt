@@ -1,0 +1,6 @@
+-- The loop of `table::check::check_records`. Assumes nothing.
+use Rattle.table.proofs.CheckSteps.{Reached}
+use Rattle.table.proofs.check.check_records.Given as goal
+
+abbrev pub invariant-loop-n : goal.invariant-loop-n
+invariant-loop-n l = Reached l.table l.frame l.n
