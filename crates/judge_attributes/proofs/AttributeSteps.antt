@@ -112,6 +112,22 @@ module _ (s : List ℕ) (rows : ℕ) (tape : List ℕ) (n : ℕ) where
       by true = refl
       by false = refl
 
+-- what a value takes and what a row holds are both a block, or neither is
+blocks_agree : (kind holds : ℕ) → not (beq (eqb kind 1) (eqb holds 0)) ≡ false → eqb kind 1 ≡ eqb holds 0
+blocks_agree kind holds d = by (eqb kind 1) (eqb holds 0) d
+  where
+    by : (x y : Bool) → not (beq x y) ≡ false → x ≡ y
+    by true true e = refl
+    by true false e = absurd (false≢true (sym e))
+    by false true e = absurd (false≢true (sym e))
+    by false false e = refl
+
+both_blocks : (kind holds : ℕ) → not (beq (eqb kind 1) (eqb holds 0)) ≡ false → holds ≡ 0 → kind ≡ 1
+both_blocks kind holds d h = eqb-true kind 1 (blocks_agree kind holds d ∙ rw h)
+
+no_block : (kind holds : ℕ) → not (beq (eqb kind 1) (eqb holds 0)) ≡ false → (holds ≡ 0 → ⊥) → kind ≡ 1 → ⊥
+no_block kind holds d h = eqb-false kind 1 (blocks_agree kind holds d ∙ ne_eqb holds 0 h)
+
 -- a member's value, by the object or the items with a number
 module _ (records pool s tape : List ℕ) (rows : ℕ) (value : RecordNumber) (row : ℕ)
     (w : Walk records pool s tape rows) where
@@ -137,10 +153,11 @@ module _ (records pool s tape : List ℕ) (rows : ℕ) (value : RecordNumber) (r
 
       module _ (z : row < rows) (holds : ℕ) (eh : holds ≡ row_number (row_at tape row) 0) where
         -- a block under an object is still to be judged
-        pub value_nested : kind ≡ 1 → holds ≡ 0 → (b : Block) → b ≡ block_on tape row
+        pub value_nested : not (beq (eqb kind 1) (eqb holds 0)) ≡ false → holds ≡ 0 → (b : Block) → b ≡ block_on tape row
             → ValueIs (image_from records pool) s rows tape value.0 row (Ok (Some (record { object = value; block = b })))
         unfolding ContentWithin
-        value_nested ek ez b eb =
+        value_nested ea ez b eb =
+            let ek = both_blocks kind holds ea ez in
             let c = content_block s rows tape row (sym eh ∙ ez) in
             let g = w.good.rows row z in
             let d : datum_on s rows tape (block_on tape row) ≡ datum_on s rows tape b = ap (datum_on s rows tape) (sym eb) in
@@ -187,7 +204,7 @@ module _ (records pool s tape : List ℕ) (rows : ℕ) (value : RecordNumber) (r
               by false true a b e = value_block (eqb-false kind 1 a) (eqb-true holds 0 b)
               by false false a b e = absurd (false≢true e)
 
-        module _ (ek : kind ≡ 1 → ⊥) (ez : holds ≡ 0 → ⊥) where
+        module _ (ea : not (beq (eqb kind 1) (eqb holds 0)) ≡ false) (ez : holds ≡ 0 → ⊥) where
           pub value_items : ItemsGood records pool value.0
           value_items = items_there records pool w.checked value.0 (kind_at (image_from records pool) value.0) refl (kind_some (kind_at (image_from records pool) value.0) refl)
 
@@ -199,7 +216,7 @@ module _ (records pool s tape : List ℕ) (rows : ℕ) (value : RecordNumber) (r
               ≡ judge_value (value_in (tree_at (image_from records pool) value.0)) (content_on s rows tape row)
           unfolding judge_value
           judged =
-              let i = leaf_there records pool w.checked value.0 (items_kind ek) in
+              let i = leaf_there records pool w.checked value.0 (items_kind (no_block kind holds ea ez)) in
               rw i.tree (sym (leaf_under_items s rows tape row records pool i.leaf value.0 i.number i.there (λ f. ez (eh ∙ f))))
 
           pub value_admitted : valid ≡ leaf_verdict records pool s value.0 (row_at tape row)

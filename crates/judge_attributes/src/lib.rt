@@ -88,6 +88,7 @@ fn told(a: Admission, first: RecordNumber, place: usize) -> Verdict
 }
 
 // The string or word of a row, by the items from a record on.
+#[tactic(auto, using(crate::proofs::AttributeSteps::value_told, judge_tape::proofs::MemberSteps::value_order, judge_tape::proofs::MemberSteps::value_ends))]
 fn judge_items(
     records: &[u8],
     pool: &[u8],
@@ -112,6 +113,7 @@ fn judge_items(
 }
 
 // The same, unless the memo knows that it is admitted.
+#[tactic(auto, using(crate::proofs::AttributeSteps::first_lies, crate::proofs::AttributeSteps::value_known))]
 fn judge_leaf(
     records: &[u8],
     pool: &[u8],
@@ -140,6 +142,7 @@ fn judge_leaf(
 }
 
 // The block of a row.
+#[tactic(auto, using(crate::proofs::AttributeSteps::block_read))]
 fn block_at(tape: &[u16], row: usize) -> Block
     requires { row_size * row + row_size ≤ length tape.now }
     ensures { result ≡ block_on tape.now row }

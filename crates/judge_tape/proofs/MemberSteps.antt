@@ -147,5 +147,5 @@ module _ (s : List ℕ) (rows : ℕ) (tape : List ℕ) (n start end : ℕ) (g : 
   pub value_order : start ≤ end
   value_order = let r = (g.rows n l.there).value l.leaf in omega arith
 
-  pub value-ends : end ≤ length s
-  value-ends = let r = (g.rows n l.there).value l.leaf in omega arith
+  pub value_ends : end ≤ length s
+  value_ends = let r = (g.rows n l.there).value l.leaf in omega arith
