@@ -6,3 +6,9 @@ pub mod TextTape
 pub mod DataCauses
 pub mod Computes
 pub mod Examples
+mod TokenSteps
+mod ContentSteps
+mod NameSteps
+mod EarlierNames
+mod BlockSteps
+pub mod DataSteps

@@ -51,6 +51,7 @@ fn finish(s: &[u8], tape: &mut [u16], n: usize, row: Row, end: usize, from: usiz
 }
 
 // A block from behind its `<` on, of at most so many levels: its members from row n on.
+#[tactic(auto, using(crate::proofs::BlockSteps::block_deep, crate::proofs::BlockSteps::block_inner, crate::proofs::BlockSteps::block_members))]
 #[cycle(read_block_read_member_read_members)]
 pub fn read_block(
     s: &[u8],
@@ -70,6 +71,7 @@ pub fn read_block(
 }
 
 // The members of a block and its `>`; the blocks inside have at most so many levels.
+#[tactic(auto, using(crate::proofs::BlockSteps::members_start, crate::proofs::BlockSteps::members_close, crate::proofs::BlockSteps::members_fault, crate::proofs::BlockSteps::member_room, crate::proofs::BlockSteps::member_earlier, crate::proofs::BlockSteps::member_less, crate::proofs::BlockSteps::member_next, crate::proofs::BlockSteps::member_not))]
 #[cycle(read_block_read_member_read_members)]
 fn read_members(
     s: &[u8],
@@ -97,6 +99,7 @@ fn read_members(
 }
 
 // A member of a block whose first row is `first`; its own row is n.
+#[tactic(auto, using(crate::proofs::BlockSteps::member_faulty, crate::proofs::BlockSteps::leaf_finish, crate::proofs::BlockSteps::leaf_member, crate::proofs::BlockSteps::block_room, crate::proofs::BlockSteps::block_refused, crate::proofs::BlockSteps::block_count, crate::proofs::BlockSteps::block_finish, crate::proofs::BlockSteps::block_member))]
 #[cycle(read_block_read_member_read_members)]
 fn read_member(
     s: &[u8],

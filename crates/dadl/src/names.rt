@@ -41,6 +41,7 @@ fn repeated(s: &[u8], tape: &[u16], first: usize, end: usize, name: &[u8]) -> bo
 }
 
 // A member's NAME and `=`: the place behind. The names before it are those of the rows from `first` on up to `end`.
+#[tactic(auto, using(crate::proofs::NameSteps::name_long, crate::proofs::NameSteps::name_again, crate::proofs::NameSteps::name_unclosed, crate::proofs::NameSteps::name_closed))]
 fn name_from(
     s: &[u8],
     tape: &[u16],
@@ -64,6 +65,7 @@ fn name_from(
 }
 
 // A member up to its leaf's end, or up to the opening of its block.
+#[tactic(auto, using(crate::proofs::NameSteps::member_bad, crate::proofs::NameSteps::member_next, crate::proofs::NameSteps::member_content))]
 pub fn member_start(
     s: &[u8],
     tape: &[u16],

@@ -46,6 +46,7 @@ pub struct Opening {
 }
 
 // A token of the sort asked for.
+#[tactic(auto, using(crate::proofs::TokenSteps::expect_is))]
 pub fn expect_data(s: &[u8], sort: u8, from: usize) -> Result<Token, Refusal>
     requires { from ≤ length s.now }
     ensures { ExpectIs s.now sort from (first_in (expect_data s.now sort from)) result }
@@ -54,6 +55,7 @@ pub fn expect_data(s: &[u8], sort: u8, from: usize) -> Result<Token, Refusal>
 }
 
 // Behind `(`: a TYPE and `)`.
+#[tactic(auto, using(crate::proofs::TokenSteps::type_fault, crate::proofs::TokenSteps::type_long, crate::proofs::TokenSteps::type_unclosed, crate::proofs::TokenSteps::type_closed))]
 fn type_from(s: &[u8], from: usize) -> Result<TypeName, Refusal>
     requires { from ≤ length s.now }
     ensures { TypeIs s.now from (first_in (type_from s.now from)) result }
@@ -73,6 +75,7 @@ fn type_from(s: &[u8], from: usize) -> Result<TypeName, Refusal>
 }
 
 // Behind `(`: a TYPE, `)` and `<`.
+#[tactic(auto, using(crate::proofs::TokenSteps::typed_bad, crate::proofs::TokenSteps::typed_next, crate::proofs::TokenSteps::less_missing, crate::proofs::TokenSteps::less_there))]
 pub fn typed_opening(s: &[u8], from: usize) -> Result<Opening, Refusal>
     requires { from ≤ length s.now }
     ensures { OpeningIs s.now from (typed_from s.now from) result }
@@ -87,6 +90,7 @@ pub fn typed_opening(s: &[u8], from: usize) -> Result<Opening, Refusal>
 }
 
 // The outermost block's type and `<`.
+#[tactic(auto, using(crate::proofs::TokenSteps::outermost_typed, crate::proofs::TokenSteps::outermost_opens, crate::proofs::TokenSteps::outermost_shut))]
 pub fn outermost_opening(s: &[u8]) -> Result<Opening, Refusal>
     ensures { OutermostIs s.now result }
 {
