@@ -22,6 +22,7 @@ use table::records::{Entry, RecordNumber};
 const MEMO_ROOM: usize = (TEXT_LIMIT / MEMBER_SIZE + 1) * RECORD_LIMIT / 8;
 
 // A block's type, if written, is the object's own.
+#[tactic(auto, using(crate::proofs::WalkSteps::type_none, crate::proofs::WalkSteps::type_same))]
 fn type_suits(pool: &[u8], s: &[u8], rows: usize, e: Entry, block: Block) -> bool
     requires b_in_bounds { e.a + e.b ≤ length pool.now }
     requires block_good { BlockGood (length s.now) rows block }
