@@ -2,6 +2,8 @@
 use mathlib.Core.Path.{◌≡◌, refl, sym, ap, ◌∙◌, subst}
 use mathlib.Core.Bool.{true}
 use Rattle.std.specs.Prelude.{Option, None, Some, option_map as map}
+use Rattle.std.specs.declared.result.Result.{Result}
+use Rattle.std.specs.declared.result.Result.TheVariants.{Ok, Err}
 use mathlib.Core.List.{List, ◌∷◌, ◌++◌}
 use Prim.Native.Nat.{ℕ, zero, suc, ◌*◌, ◌-◌, ◌≤◌}
 use native.Mathlib.Nat.{zero-add}
@@ -18,14 +20,13 @@ use Rattle.refusals.specs.declared.Cause.TheVariants.{NotAnObject}
 use Rattle.meaning.specs.Data.{datum}
 use Rattle.meaning.specs.Data
 use Rattle.meaning.specs.Judging.{judge_value}
-use Rattle.meaning.specs.Verdicts
+use Rattle.meaning.specs.Verdicts.{Verdict, valid}
 use Rattle.dadl.specs.Placed.{Span, block, spelled_span, spelled_block, spelled_entries}
 use Rattle.dadl.specs.Data.{block_of}
 use Rattle.dadl.specs.Clauses.Tape.{entry_rows, entries_tape, type_start, type_end}
 use Rattle.dadl.specs.Clauses.Rows.{TapeGood, linked}
 use Rattle.dadl.specs.Clauses.Answers.{TapeRoom, data_wrote, data_written}
-use Rattle.dadl.specs.declared.DataRead.{DataRead}
-use Rattle.dadl.specs.declared.DataRead.TheVariants as read
+use Rattle.dadl.specs.declared.DataText.{DataText}
 use Rattle.dadl.proofs.TapeLaws.{at_start, entries_length, entries_back}
 use Rattle.dadl.proofs.GoodTapes.{TypeLies, each_ended}
 use Rattle.dadl.proofs.TextTape.{datum_got, datum_refused, text_lies, text_room, text_good}
@@ -39,9 +40,6 @@ use Rattle.table.specs.Trees.{nothing, value_in, trees_of, tree_at, object_in, o
 use Rattle.table.specs.Clauses.Answers.{fault_of}
 use Rattle.table.specs.declared.records.Frame.{Frame}
 use Rattle.table.specs.declared.records.RecordNumber.{RecordNumber}
-use Rattle.table.specs.declared.check.CheckAnswer.{CheckAnswer}
-use Rattle.table.specs.declared.check.CheckAnswer.TheVariants.{Passed}
-use Rattle.table.specs.declared.check.CheckAnswer.TheVariants.{Refused as NotPassed}
 use Rattle.table.proofs.CheckLaws.{check_sound, kind_record}
 use Rattle.table.proofs.TreeLaws.{length-trees_of}
 use Rattle.table.proofs.NameSteps.{sound_open, passed_none}
@@ -49,19 +47,14 @@ use Rattle.table.proofs.WalkLaws.{node_by, node_of, tree_node}
 use Rattle.table.proofs.UseLaws.{kind_shape}
 use Rattle.judge.specs.Judge.{under_root, judge_answer}
 use Rattle.judge_admission.specs.Clauses.Items.{image_from, TableGood}
-use Rattle.judge_attributes.specs.Clauses.Answers.{verdict_in}
+use Rattle.judge_attributes.specs.Clauses.Answers.{failed}
 use Rattle.judge_tape.specs.Clauses.Rows.{type_on, datum_on, BlockGood, DatumWithin}
 use Rattle.judge_attributes.specs.Clauses.Attributes.{block_under}
 use Rattle.judge.specs.Clauses.Walk.{Under}
 use Rattle.judge_tape.specs.declared.members.Block as members
-use Rattle.judge_attributes.specs.declared.Verdict.{Verdict}
+use Rattle.judge_attributes.specs.declared.Failure.{Failure}
 use Rattle.judge_admission.proofs.TableLaws.{object_tree}
 use Rattle.judge.proofs.Depth.{text_within}
-
--- a verdict, as an answer
-pub answer_by : (v x : Verdict) (a : Outcome Refusal Verdicts.Verdict) → v ≡ x → a ≡ gave (verdict_in x)
-    → a ≡ gave (verdict_in v)
-answer_by v x a h e = rw h e
 
 -- a type that lies in the text is read back from its places
 type_back : (s : List ℕ) (t : Option Span) → TypeLies (length s) t
@@ -74,91 +67,90 @@ type_order size None h = (omega arith, omega arith)
 type_order size (Some x) h = (omega arith, omega arith)
 
 -- what a text that is read leaves to judge
-abbrev outermost : ℕ → ℕ → ℕ → ℕ → members.Block
-outermost place start end rows = record { place = place; type_start = start; type_end = end; first = 0; inside = rows }
+abbrev outermost : DataText → members.Block
+outermost x = record { place = x.place; type_start = x.type_start; type_end = x.type_end; first = 0; inside = x.rows }
 
-module _ (s tape after : List ℕ) (place start end rows last : ℕ) (room : TapeRoom s tape)
-    (d : IsData tape after place start end rows last (block_of level_limit s)) where
+module _ (s tape after : List ℕ) (x : DataText) (room : TapeRoom s tape)
+    (d : IsData tape after x (block_of level_limit s)) where
   -- the rows of the members begin the tape
   tape_begins : after ≡ entries_tape d.ms 0 ++ drop (length (entries_tape d.ms 0)) tape
   tape_begins =
-      let a = accepted level_limit s (block place d.type d.ms) last d.is in
-      let r = text_room level_limit s place d.type d.ms last d.is in
+      let a = accepted level_limit s (block x.place d.type d.ms) x.end d.is in
+      let r = text_room level_limit s x.place d.type d.ms x.end d.is in
       let m = room.room a.short in
       let l = entries_length d.ms 0 in
       d.written ∙ sets-eq (entries_tape d.ms 0) tape 0 (omega arith) ∙ ap (λ k. entries_tape d.ms 0 ++ drop k tape) (zero-add (length (entries_tape d.ms 0)))
 
-  tape_good : TapeGood (length s) rows after
-  tape_good = rw (d.count, tape_begins) (text_good level_limit s place d.type d.ms last d.is (drop (length (entries_tape d.ms 0)) tape))
+  tape_good : TapeGood (length s) x.rows after
+  tape_good = rw (d.count, tape_begins) (text_good level_limit s x.place d.type d.ms x.end d.is (drop (length (entries_tape d.ms 0)) tape))
 
-  rows_few : rows ≤ 4_096
+  rows_few : x.rows ≤ 4_096
   rows_few =
-      let a = accepted level_limit s (block place d.type d.ms) last d.is in
-      let r = text_room level_limit s place d.type d.ms last d.is in
+      let a = accepted level_limit s (block x.place d.type d.ms) x.end d.is in
+      let r = text_room level_limit s x.place d.type d.ms x.end d.is in
       let l = a.short in
       rw d.count (omega arith)
 
-  members_back : linked s rows after rows 0 ≡ spelled_entries d.ms s
+  members_back : linked s x.rows after x.rows 0 ≡ spelled_entries d.ms s
   members_back =
       rw (d.count, tape_begins)
       (entries_back s (entry_rows d.ms) (entries_tape d.ms 0 ++ drop (length (entries_tape d.ms 0)) tape) d.ms 0
-      (each_ended (length s) d.ms (text_lies level_limit s place d.type d.ms last d.is)) (at_start (entries_tape d.ms 0) _) (omega arith))
+      (each_ended (length s) d.ms (text_lies level_limit s x.place d.type d.ms x.end d.is)) (at_start (entries_tape d.ms 0) _) (omega arith))
 
   -- the block that the walk takes is the text's
-  datum_back : datum_on s rows after (outermost place start end rows) ≡ spelled_block (block place d.type d.ms) s
+  datum_back : datum_on s x.rows after (outermost x) ≡ spelled_block (block x.place d.type d.ms) s
   unfolding spelled_block
   datum_back =
-      let a = accepted level_limit s (block place d.type d.ms) last d.is in
-      let t : type_on s start end ≡ map (spelled_span s) d.type = rw (d.type_starts, d.type_ends) (type_back s d.type a.lies.1) in
-      λ j. datum place (t j) (members_back j)
+      let a = accepted level_limit s (block x.place d.type d.ms) x.end d.is in
+      let t : type_on s x.type_start x.type_end ≡ map (spelled_span s) d.type = rw (d.type_starts, d.type_ends) (type_back s d.type a.lies.1) in
+      λ j. datum x.place (t j) (members_back j)
 
-  block_good : BlockGood (length s) rows (outermost place start end rows)
+  block_good : BlockGood (length s) x.rows (outermost x)
   block_good =
-      let a = accepted level_limit s (block place d.type d.ms) last d.is in
+      let a = accepted level_limit s (block x.place d.type d.ms) x.end d.is in
       let o = type_order (length s) d.type a.lies.1 in
       record { order = rw (d.type_starts, d.type_ends) o.0; ahead = rw d.type_ends o.1; begins = record { there = λ h. h } }
 
-  datum_within : DatumWithin (datum_on s rows after (outermost place start end rows)) level_limit
-  datum_within = subst (λ x. DatumWithin x level_limit) (sym datum_back) (text_within level_limit s (block place d.type d.ms) last d.is)
+  datum_within : DatumWithin (datum_on s x.rows after (outermost x)) level_limit
+  datum_within = subst (λ x. DatumWithin x level_limit) (sym datum_back) (text_within level_limit s (block x.place d.type d.ms) x.end d.is)
 
 -- a text by an object
 module _ (records pool s : List ℕ) (root : RecordNumber) (t : TableGood records pool)
-    (k : kind_at (image_from records pool) root.0 ≡ 1) (tape after : List ℕ) (x : DataRead)
+    (k : kind_at (image_from records pool) root.0 ≡ 1) (tape after : List ℕ) (x : Result DataText Refusal)
     (ex : data_wrote x after ≡ data_written tape (block_of level_limit s)) where
-  pub text_refused : (why : Refusal) → x ≡ read.Refused why
+  pub text_refused : (why : Refusal) → x ≡ Err why
       → refused why ≡ under_root root.0 s (object_at (image_from records pool) root.0)
   text_refused why h =
       let e = datum_refused level_limit s why (is_data_refused tape after why (block_of level_limit s) (rw h at ex)) in
       rw (object_tree records pool t root.0 k, e)
 
-  module _ (place start end rows last : ℕ) (h : x ≡ read.Read place start end rows last) where
-    is : IsData tape after place start end rows last (block_of level_limit s)
-    is = is_data tape after place start end rows last (block_of level_limit s) (rw h at ex)
+  module _ (d : DataText) (h : x ≡ Ok d) where
+    is : IsData tape after d (block_of level_limit s)
+    is = is_data tape after d (block_of level_limit s) (rw h at ex)
 
     module _ (room : TapeRoom s tape) where
-      pub text_under : Under records pool s after rows 16 root.0
-          (record { place = place; type_start = start; type_end = end; first = 0; inside = rows })
+      pub text_under : Under records pool s after d.rows 16 root.0
+          (record { place = d.place; type_start = d.type_start; type_end = d.type_end; first = 0; inside = d.rows })
       text_under = record {
-        walk = record { checked = t; good = tape_good s tape after place start end rows last room is; few = rows_few s tape after place start end rows last room is };
+        walk = record { checked = t; good = tape_good s tape after d room is; few = rows_few s tape after d room is };
         kind = k;
-        good = block_good s tape after place start end rows last room is;
+        good = block_good s tape after d room is;
         row = record { there = omega arith; holds = λ h. absurd (omega arith); is = λ h. absurd (omega arith) };
-        within = datum_within s tape after place start end rows last room is;
+        within = datum_within s tape after d room is;
       }
 
-      pub text_judged : (v : Verdict) (a : Outcome Refusal Verdicts.Verdict)
-          → verdict_in v
-          ≡ block_under (image_from records pool) s rows after root.0
-          (record { place = place; type_start = start; type_end = end; first = 0; inside = rows })
-          → a ≡ gave (verdict_in v)
-          → a ≡ under_root root.0 s (object_at (image_from records pool) root.0)
+      pub text_judged : (v : Verdict)
+          → v
+          ≡ block_under (image_from records pool) s d.rows after root.0
+          (record { place = d.place; type_start = d.type_start; type_end = d.type_end; first = 0; inside = d.rows })
+          → gave v ≡ under_root root.0 s (object_at (image_from records pool) root.0)
       unfolding judge_value
-      text_judged v a ev ea =
-          let e = datum_got level_limit s (block place is.type is.ms) last is.is in
-          let b = datum_back s tape after place start end rows last room is in
+      text_judged v ev =
+          let e = datum_got level_limit s (block d.place is.type is.ms) d.end is.is in
+          let b = datum_back s tape after d room is in
           let o = object_tree records pool t root.0 k in
-          let f : verdict_in v ≡ judge_value (value_in (tree_at (image_from records pool) root.0)) (Data.block (spelled_block (block place is.type is.ms) s)) = ev ∙ ap (λ x. judge_value (value_in (tree_at (image_from records pool) root.0)) (Data.block x)) b in
-          ea ∙ ap gave (rw o at f) ∙ rw (o, e)
+          let f : v ≡ judge_value (value_in (tree_at (image_from records pool) root.0)) (Data.block (spelled_block (block d.place is.type is.ms) s)) = ev ∙ ap (λ x. judge_value (value_in (tree_at (image_from records pool) root.0)) (Data.block x)) b in
+          ap gave (rw o at f) ∙ rw (o, e)
 
 -- what is no object of a checked table
 no_object : (m : Image) (n : ℕ) (r : Record) → (r.kind ≡ 1 → ⊥) → object_in (node_of m n r) ≡ None
@@ -210,19 +202,19 @@ module _ (bs text : List ℕ) (root : RecordNumber) (t : table_fault bs ≡ None
         → kind_at (image_from (take (end - 0) (drop 0 bs)) (take (length bs - end) (drop end bs))) root.0 ≡ 1
     parts_kind h = rw parts_are (sym ek ∙ h)
 
-    pub parts_judged : (a : Outcome Refusal Verdicts.Verdict)
+    pub parts_judged : (a : Outcome Refusal Verdict)
         → a ≡ under_root root.0 text
         (object_at (image_from (take (end - 0) (drop 0 bs)) (take (length bs - end) (drop end bs))) root.0)
         → a ≡ under_root root.0 text (object_at (image_of bs) root.0)
     parts_judged a h = rw parts_are at h
 
 -- the check goes before
-module _ (bs text : List ℕ) (root : ℕ) (c : CheckAnswer) (ec : fault_of c ≡ table_fault bs) where
-  pub table_refused : (why : Refusal) → c ≡ NotPassed why → refused why ≡ judge_answer bs root text
+module _ {A : Type 0} (bs text : List ℕ) (root : ℕ) (c : Result A Refusal) (ec : fault_of c ≡ table_fault bs) where
+  pub table_refused : (why : Refusal) → c ≡ Err why → refused why ≡ judge_answer bs root text
   unfolding judge_answer
   table_refused why h = rw (← ec, h)
 
-  pub table_judged : (a : Outcome Refusal Verdicts.Verdict) → c ≡ Passed
+  pub table_judged : (x : A) (a : Outcome Refusal Verdict) → c ≡ Ok x
       → a ≡ under_root root text (object_at (image_of bs) root) → a ≡ judge_answer bs root text
   unfolding judge_answer
-  table_judged a h q = rw (passed_none bs c ec h) q
+  table_judged x a h q = rw (passed_none bs c x ec h) q

@@ -1,6 +1,9 @@
 -- Steps of the walk: a block's type, then its attributes in table order. Assumes nothing.
 use mathlib.Core.Path.{◌≡◌, refl, sym, ap, ◌∙◌}
 use mathlib.Core.Bool.{Bool, true, false, not, cond, ◌&&◌, ◌||◌, false≢true}
+use Rattle.std.specs.Prelude.{Option, None, Some}
+use Rattle.std.specs.declared.result.Result.{Result}
+use Rattle.std.specs.declared.result.Result.TheVariants.{Ok, Err}
 use mathlib.Core.List.{List, [], ◌∷◌}
 use Prim.Native.Nat.{ℕ, zero, suc, ◌+◌, ◌*◌, ◌-◌, ◌≤◌, ◌<◌}
 use native.Mathlib.Omega.{arith}
@@ -11,8 +14,7 @@ use Rattle.lexis.specs.Runs.{same}
 use Rattle.lexis.proofs.Cases.{and_left, and_right}
 use Rattle.values.proofs.Common.{by_order}
 use Rattle.meaning.specs.Data.{Datum, datum, Members}
-use Rattle.meaning.specs.Verdicts.{valid, fails}
-use Rattle.meaning.specs.Verdicts
+use Rattle.meaning.specs.Verdicts.{Verdict, valid, fails}
 use Rattle.meaning.specs.Judging.{then_judge, type_suits, judge, judge_attributes, judge_value}
 use Rattle.table.specs.Records.{field, record_in}
 use Rattle.table.specs.Rows.{shape_of}
@@ -23,7 +25,7 @@ use Rattle.table.specs.declared.records.Entry.{Entry}
 use Rattle.table.specs.declared.records.RecordNumber.{RecordNumber}
 use Rattle.table.proofs.UseLaws.{LinkRight}
 use Rattle.judge_admission.specs.Clauses.Items.{name_of, Lies, image_from, TableGood}
-use Rattle.judge_attributes.specs.Clauses.Answers.{verdict_in}
+use Rattle.judge_attributes.specs.Clauses.Answers.{failed}
 use Rattle.judge_tape.specs.Clauses.Rows.{type_on, members_on, datum_on, DatumWithin, MembersWithin}
 use Rattle.judge_attributes.specs.Clauses.Attributes.{judge_first, AttributeAt, block_under, Leads, AttributeAnswerIs}
 use Rattle.judge.specs.Clauses.Walk.{Under}
@@ -31,10 +33,7 @@ use Rattle.judge_tape.specs.Clauses.Memo.{marked, Marks, base_of, VisitOf, admit
 use Rattle.judge_tape.specs.declared.members.Block.{Block}
 use Rattle.judge_tape.specs.declared.memo.Visit.{Visit}
 use Rattle.judge_attributes.specs.declared.Failure.{Failure}
-use Rattle.judge_attributes.specs.declared.Verdict.{Verdict}
-use Rattle.judge_attributes.specs.declared.Verdict.TheVariants.{Valid, Fails}
-use Rattle.judge_attributes.specs.declared.AttributeAnswer.{AttributeAnswer}
-use Rattle.judge_attributes.specs.declared.AttributeAnswer.TheVariants.{Told, Nested}
+use Rattle.judge_attributes.specs.declared.Nested.{Nested}
 use Rattle.judge_admission.proofs.TableLaws.{by_kind, number_lies, link_there, name_there, object_tree, attribute_tree}
 use Rattle.judge_admission.proofs.ItemSteps.{left}
 use Rattle.judge_tape.proofs.MemoSteps.{left_some}
@@ -130,9 +129,9 @@ module _ (records pool s tape : List ℕ) (rows levels : ℕ) (object : RecordNu
       unfolding judge_value judge
       block_is = rw (object_tree records pool u.walk.checked object.0 u.kind, ← q, er)
 
-      pub type_differs_lem : not r ≡ true → (v : Verdict) → verdict_in v ≡ fails 21 object.0 b.place
-          → verdict_in v ≡ block_under (image_from records pool) s rows tape object.0 b
-      type_differs_lem h v ev = ev ∙ (rw (not-true r h) at block_is)
+      pub type_differs_lem : not r ≡ true → (f : Failure) → failed f ≡ fails 21 object.0 b.place
+          → failed f ≡ block_under (image_from records pool) s rows tape object.0 b
+      type_differs_lem h f ev = ev ∙ (rw (not-true r h) at block_is)
 
       pub attributes-start : not r ≡ false → (memo : List ℕ) → MemoGood records pool s tape rows memo → (v : Visit)
           → VisitOf records b v → (after : List ℕ) → Marks memo (base_of records b) after
@@ -222,17 +221,16 @@ module _ (records pool s tape : List ℕ) (rows levels object : ℕ) (b : Block)
     attribute_lies = number_there z
 
     -- one that fails is told
-    first_fails : (x : Verdict) (f : Failure) → x ≡ Fails f
-        → verdict_in x
-        ≡ judge_first (attributes_in (tree_at (image_from records pool) n)) b.place (members_on s rows tape b)
-        → verdict_in (Fails f) ≡ block_under (image_from records pool) s rows tape object b
+    first_fails : (f : Failure)
+        → failed f ≡ judge_first (attributes_in (tree_at (image_from records pool) n)) b.place (members_on s rows tape b)
+        → failed f ≡ block_under (image_from records pool) s rows tape object b
     unfolding judge_attributes
-    first_fails v f ev ef =
+    first_fails f ef =
         let t = attribute_tree records pool good n here_kind in
-        ap verdict_in (sym ev) ∙ fails_first _ _ (rw t at ef) ∙ (rw t at i.is) ∙ i.whole
+        fails_first _ _ (rw t at ef) ∙ (rw t at i.is) ∙ i.whole
       where
-        fails_first : (x y : Verdicts.Verdict) → verdict_in v ≡ x → verdict_in v ≡ then_judge x y
-        fails_first x y h = rw (← h, ev)
+        fails_first : (x y : Verdict) → failed f ≡ x → failed f ≡ then_judge x y
+        fails_first x y h = rw (← h)
 
     module _ (a : Entry) (qa : record_of a ≡ record_in records n) where
       pub attribute_at : AttributeAt records pool n a
@@ -250,7 +248,7 @@ module _ (records pool s tape : List ℕ) (rows levels object : ℕ) (b : Block)
           (λ k. let y : a.d ≡ 0 = omega arith in rw y (omega arith))
           (λ k. let x = (next_link_lem k).above in rw (ne_eqb a.d 0 (λ y. omega arith)) (omega arith)))
 
-      module _ (step : AttributeAnswer) (ar : AttributeAnswerIs (image_from records pool) s rows tape n b step)
+      module _ (step : Result (Option Nested) Failure) (ar : AttributeAnswerIs (image_from records pool) s rows tape n b step)
           (behind : List ℕ) (g : MemoGood records pool s tape rows behind) (lb : length behind ≡ length memo) where
         -- one that holds leads to the next
         first_holds : valid ≡ judge_first (attributes_in (tree_at (image_from records pool) n)) b.place
@@ -271,32 +269,36 @@ module _ (records pool s tape : List ℕ) (rows levels object : ℕ) (b : Block)
               whole = i.whole;
             }
           where
-            valid_first : (x y : Verdicts.Verdict) → valid ≡ x → y ≡ then_judge x y
+            valid_first : (x y : Verdict) → valid ≡ x → y ≡ then_judge x y
             valid_first x y h = rw (← h)
 
-        pub told_valid : (x : Verdict) → step ≡ Told x → x ≡ Valid
+        pub told_valid : (o : Option Nested) → step ≡ Ok o → o ≡ None
             → InAttributes records pool s tape rows levels object b v start behind first a.d
-        told_valid x h k = first_holds (ap verdict_in (sym k) ∙ (rw h at ar.is)) behind g refl
+        told_valid o h k = first_holds (rw (h ∙ ap Ok k) at ar.is) behind g refl
 
-        pub told_fails : (x : Verdict) (f : Failure) → step ≡ Told x → x ≡ Fails f
-            → verdict_in (Fails f) ≡ block_under (image_from records pool) s rows tape object b
-        told_fails x f h k = first_fails x f k (rw h at ar.is)
+        pub told_fails : (f : Failure) → step ≡ Err f
+            → failed f ≡ block_under (image_from records pool) s rows tape object b
+        told_fails f h = first_fails f (rw h at ar.is)
 
-        module _ (inner : RecordNumber) (part : Block) (y : step ≡ Nested inner part) where
+        -- one whose value is a block is judged inside it
+        module _ (o : Option Nested) (inner : Nested) (u : step ≡ Ok o) (w : o ≡ Some inner) where
+          y : step ≡ Ok (Some inner)
+          y = u ∙ ap Ok w
+
           leads : Leads (image_from records pool) s rows tape (λ l. MembersWithin (members_on s rows tape b) l)
-              (Nested inner part)
+              (Ok (Some inner))
           leads = rw y at ar.leads
 
-          pub nested_under : Under records pool s tape rows (levels - 1) inner.0 part
+          pub nested_under : Under records pool s tape rows (levels - 1) inner.object.0 inner.block
           nested_under = record { walk = i.under.walk; kind = leads.0; good = leads.1; row = leads.2; within = leads.3 (levels - 1) (within-less (datum_on s rows tape b) levels i.under.within).1 }
 
-          module _ (x : Verdict)
-              (ex : verdict_in x ≡ block_under (image_from records pool) s rows tape inner.0 part) where
-            pub nested_valid : x ≡ Valid → (after : List ℕ) → MemoGood records pool s tape rows after
-                → length after ≡ length behind
-                → InAttributes records pool s tape rows levels object b v start after first a.d
-            nested_valid k = first_holds (ap verdict_in (sym k) ∙ ex ∙ (rw y at ar.is))
+          pub nested_valid : valid ≡ block_under (image_from records pool) s rows tape inner.object.0 inner.block
+              → (after : List ℕ) → MemoGood records pool s tape rows after
+              → length after ≡ length behind
+              → InAttributes records pool s tape rows levels object b v start after first a.d
+          nested_valid ex = first_holds (ex ∙ (rw y at ar.is))
 
-            pub nested_fails : (f : Failure) → x ≡ Fails f
-                → verdict_in (Fails f) ≡ block_under (image_from records pool) s rows tape object b
-            nested_fails f k = first_fails x f k (ex ∙ (rw y at ar.is))
+          pub nested_fails : (f : Failure)
+              → failed f ≡ block_under (image_from records pool) s rows tape inner.object.0 inner.block
+              → failed f ≡ block_under (image_from records pool) s rows tape object b
+          nested_fails f ex = first_fails f (ex ∙ (rw y at ar.is))

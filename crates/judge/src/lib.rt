@@ -9,21 +9,20 @@ ghost use Rattle.dadl.specs.Clauses.Answers.{TapeRoom};
 ghost use Rattle.table.specs.Records.{image_of};
 ghost use Rattle.table.specs.Check.{kind_at, table_fault};
 ghost use Rattle.table.specs.Trees.{object_at};
-ghost use Rattle.refusals.specs.Outcomes.{gave};
 ghost use Rattle.judge.specs.Judge.{under_root, judge_answer};
 ghost use Rattle.judge_admission.specs.Clauses.Items.{image_from, TableGood};
-ghost use Rattle.judge_attributes.specs.Clauses.Answers.{verdict_in};
+ghost use Rattle.judge.specs.declared.Denial.TheVariants.{Refused, Failed};
 ghost use Rattle.judge.specs.Clauses.Answers.{answer_of};
 ghost use Rattle.judge.specs.Clauses.Walk.{short_text};
 
 use crate::walk::judge_block;
 use dadl::rows::{MEMBER_SIZE, ROW_SIZE};
-use dadl::{DataRead, read_data};
-use judge_attributes::Verdict;
+use dadl::read_data;
+use judge_attributes::Failure;
 use judge_tape::members::Block;
 use refusals::limits::{LEVEL_LIMIT, RECORD_LIMIT, TEXT_LIMIT};
 use refusals::{Cause, Refusal};
-use table::check::{CheckAnswer, check};
+use table::check::check;
 use table::layout::OBJECT_KIND;
 use table::records::{RecordNumber, frame_of, kind_at};
 
@@ -39,33 +38,26 @@ const SHORT_TAPE: usize = ROW_SIZE * (SHORT_TEXT / MEMBER_SIZE + 5);
 
 const LONG_TAPE: usize = ROW_SIZE * (TEXT_LIMIT / MEMBER_SIZE + 5);
 
-// What judging answers: that the text is valid, why text, table or root are refused, or a reason with the record and the
-// data place that fail.
+// Why a text isn't valid: text, table or root are refused, or a reason with the record and the data place that fail.
 #[derive(Clone, Copy)]
-pub enum JudgeResult {
-    Valid,
+pub enum Denial {
     Refused(Refusal),
-    Failed {
-        reason: u8,
-        record: RecordNumber,
-        place: usize,
-    },
+    Failed(Failure),
 }
 
-// A verdict, as an answer.
-fn answer(v: Verdict) -> JudgeResult
-    ensures { answer_of result ≡ gave (verdict_in v) }
-{
-    match v {
-        Verdict::Valid => JudgeResult::Valid,
-        Verdict::Fails(failure) => {
-            let record = failure.record;
-            JudgeResult::Failed {
-                reason: failure.reason,
-                record,
-                place: failure.place,
-            }
-        }
+impl From<Refusal> for Denial {
+    ghost from_gives = { λ refusal denial. denial ≡ Refused refusal };
+
+    fn from(refusal: Refusal) -> Denial {
+        Denial::Refused(refusal)
+    }
+}
+
+impl From<Failure> for Denial {
+    ghost from_gives = { λ failure denial. denial ≡ Failed failure };
+
+    fn from(failure: Failure) -> Denial {
+        Denial::Failed(failure)
     }
 }
 
@@ -76,7 +68,7 @@ fn judge_on(
     root: RecordNumber,
     text: &[u8],
     tape: &mut [u16],
-) -> JudgeResult
+) -> Result<(), Denial>
     requires table_good { TableGood records.now pool.now }
     requires root_value { kind_at (image_from records.now pool.now) root.0 ≡ 1 }
     requires tape_room { TapeRoom text.now tape.old }
@@ -84,45 +76,33 @@ fn judge_on(
         ≡ under_root root.0 text.now
         (object_at (image_from records.now pool.now) root.0) }
 {
-    match read_data(text, LEVEL_LIMIT, tape) {
-        DataRead::Refused(why) => {
-            return JudgeResult::Refused(why);
-        }
-        DataRead::Read {
-            place,
-            type_start,
-            type_end,
-            rows,
-            end: _,
-        } => {
-            let block = Block {
-                place,
-                type_start,
-                type_end,
-                first: 0,
-                inside: rows,
-            };
-            let mut memo = [0u8; 0];
-            let mut visits = VISITS;
-            let v = judge_block(
-                records,
-                pool,
-                text,
-                tape,
-                rows,
-                &mut memo,
-                &mut visits,
-                LEVEL_LIMIT,
-                root,
-                block,
-            );
-            return answer(v);
-        }
-    }
+    let data = read_data(text, LEVEL_LIMIT, tape)?;
+    let block = Block {
+        place: data.place,
+        type_start: data.type_start,
+        type_end: data.type_end,
+        first: 0,
+        inside: data.rows,
+    };
+    let mut memo = [0u8; 0];
+    let mut visits = VISITS;
+    judge_block(
+        records,
+        pool,
+        text,
+        tape,
+        data.rows,
+        &mut memo,
+        &mut visits,
+        LEVEL_LIMIT,
+        root,
+        block,
+    )?;
+    Ok(())
 }
 
 // The same with a small tape, for a short text.
-fn judge_short(records: &[u8], pool: &[u8], root: RecordNumber, text: &[u8]) -> JudgeResult
+fn judge_short(records: &[u8], pool: &[u8], root: RecordNumber, text: &[u8]) -> Result<(), Denial>
     requires table_good { TableGood records.now pool.now }
     requires root_value { kind_at (image_from records.now pool.now) root.0 ≡ 1 }
     requires text_len_bound { length text.now ≤ short_text }
@@ -135,7 +115,7 @@ fn judge_short(records: &[u8], pool: &[u8], root: RecordNumber, text: &[u8]) -> 
 }
 
 // The same with the tape of the longest text.
-fn judge_long(records: &[u8], pool: &[u8], root: RecordNumber, text: &[u8]) -> JudgeResult
+fn judge_long(records: &[u8], pool: &[u8], root: RecordNumber, text: &[u8]) -> Result<(), Denial>
     requires table_good { TableGood records.now pool.now }
     requires root_value { kind_at (image_from records.now pool.now) root.0 ≡ 1 }
     ensures { answer_of result
@@ -147,17 +127,14 @@ fn judge_long(records: &[u8], pool: &[u8], root: RecordNumber, text: &[u8]) -> J
 }
 
 // A data text by the object with a number, in a table that passes the check.
-fn judge_checked(table: &[u8], root: RecordNumber, text: &[u8]) -> JudgeResult
+fn judge_checked(table: &[u8], root: RecordNumber, text: &[u8]) -> Result<(), Denial>
     requires { table_fault table.now ≡ None }
     ensures { answer_of result
         ≡ under_root root.0 text.now (object_at (image_of table.now) root.0) }
 {
     let frame = frame_of(table);
     if kind_at(table, frame, root) != OBJECT_KIND {
-        return JudgeResult::Refused(Refusal {
-            cause: Cause::NotAnObject,
-            place: root.0 as usize,
-        });
+        return Err(Denial::Refused(Cause::NotAnObject.at(root.0 as usize)));
     }
     let end = RecordNumber(frame.count).start();
     let records = &table[0..end];
@@ -170,11 +147,9 @@ fn judge_checked(table: &[u8], root: RecordNumber, text: &[u8]) -> JudgeResult
 
 // A data text by the object of a table with a number: the table is checked first, then the root, then the text is read,
 // and then judged.
-pub fn judge(table: &[u8], root: u32, text: &[u8]) -> JudgeResult
+pub fn judge(table: &[u8], root: u32, text: &[u8]) -> Result<(), Denial>
     ensures { answer_of result ≡ judge_answer table.now root text.now }
 {
-    match check(table) {
-        CheckAnswer::Refused(why) => JudgeResult::Refused(why),
-        CheckAnswer::Passed => judge_checked(table, RecordNumber(root), text),
-    }
+    check(table)?;
+    judge_checked(table, RecordNumber(root), text)
 }

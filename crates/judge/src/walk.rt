@@ -11,7 +11,7 @@ ghost use Rattle.judge_tape.specs.Clauses.Memo.{MemoGood};
 
 use dadl::rows::MEMBER_SIZE;
 use judge_admission::{entry_at, name_of};
-use judge_attributes::{AttributeAnswer, Verdict, fails, judge_attribute};
+use judge_attributes::{Nested, Reason, Verdict, judge_attribute};
 use judge_tape::members::Block;
 use judge_tape::memo::{enter, is_admitted, mark_chain, may_visit};
 use lexis::runs::same_bytes;
@@ -21,10 +21,8 @@ use table::records::{Entry, RecordNumber};
 // Bytes of the memo: a bit for each pair of a row, or the outermost block, and a record.
 const MEMO_ROOM: usize = (TEXT_LIMIT / MEMBER_SIZE + 1) * RECORD_LIMIT / 8;
 
-// Document 01's reason for a type that differs.
-const TYPE_DIFFERS: u8 = 21;
-
 // A block's type, if written, is the object's own.
+#[tactic(auto, using(crate::proofs::WalkSteps::type_none, crate::proofs::WalkSteps::type_same))]
 fn type_suits(pool: &[u8], s: &[u8], rows: usize, e: Entry, block: Block) -> bool
     requires b_in_bounds { e.a + e.b ≤ length pool.now }
     requires block_good { BlockGood (length s.now) rows block }
@@ -32,12 +30,7 @@ fn type_suits(pool: &[u8], s: &[u8], rows: usize, e: Entry, block: Block) -> boo
         ≡ type_suits (name_of pool.now (record_of e))
         (type_on s.now block.type_start block.type_end) }
 {
-    let start = block.type_start;
-    let end = block.type_end;
-    if end == 0 {
-        return true;
-    }
-    same_bytes(name_of(pool, e), &s[start..end])
+    block.type_end == 0 || same_bytes(name_of(pool, e), &s[block.type_start..block.type_end])
 }
 
 // A block by the object with a number: its type, then each attribute in table order, up to the first failure; a block
@@ -66,7 +59,7 @@ pub fn judge_block(
 {
     let e = entry_at(records, object);
     if !type_suits(pool, s, rows, e, block) {
-        return fails(TYPE_DIFFERS, object, block.place);
+        return Err(Reason::TypeDiffers.at(object, block.place));
     }
     let visit = enter(records, memo, block);
     let mut n = e.e;
@@ -75,7 +68,10 @@ pub fn judge_block(
             return judge_with_memo(records, pool, s, tape, rows, levels, object, block);
         }
         let a = entry_at(records, RecordNumber(n));
-        match judge_attribute(
+        if let Some(Nested {
+            object: inner,
+            block: part,
+        }) = judge_attribute(
             records,
             pool,
             s,
@@ -85,19 +81,8 @@ pub fn judge_block(
             RecordNumber(n),
             a,
             block,
-        ) {
-            AttributeAnswer::Told(v) => match v {
-                Verdict::Valid => {
-                    n = a.d;
-                }
-                Verdict::Fails(failure) => {
-                    return Verdict::Fails(failure);
-                }
-            },
-            AttributeAnswer::Nested {
-                object: inner,
-                block: part,
-            } => match judge_block(
+        )? {
+            judge_block(
                 records,
                 pool,
                 s,
@@ -108,18 +93,12 @@ pub fn judge_block(
                 levels - 1,
                 inner,
                 part,
-            ) {
-                Verdict::Valid => {
-                    n = a.d;
-                }
-                Verdict::Fails(failure) => {
-                    return Verdict::Fails(failure);
-                }
-            },
+            )?;
         }
+        n = a.d;
     }
     mark_chain(records, memo, visit, e.e);
-    Verdict::Valid
+    Ok(())
 }
 
 // The same with a memo that has a bit for each pair of a row and a record.

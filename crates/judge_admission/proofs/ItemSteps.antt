@@ -14,21 +14,7 @@ use Rattle.lexis.specs.Runs.{same}
 use Rattle.values.proofs.Common.{by_order}
 use Rattle.values.specs.Integers.{integer_of}
 use Rattle.values.specs.Dates.{date_of}
-use Rattle.values.specs.Times.{time_of}
-use Rattle.values.specs.Durations.{duration_of}
-use Rattle.values.specs.Patterns.{fits_date, fits_time, fits_duration}
-use Rattle.values.specs.Words.{boolean_of}
-use Rattle.values.specs.Clauses.Answers.{boolean_answer, integer_answer, date_answer, time_answer, duration_answer}
-use Rattle.values.specs.declared.integers.Number.{Number}
-use Rattle.values.specs.declared.integers.Number.TheVariants as number
-use Rattle.values.specs.declared.dates.Day.{Day}
-use Rattle.values.specs.declared.dates.Day.TheVariants as day
-use Rattle.values.specs.declared.times.Parts.{Parts}
-use Rattle.values.specs.declared.times.Parts.TheVariants as parts
-use Rattle.values.specs.declared.durations.Duration.{Duration}
-use Rattle.values.specs.declared.durations.Duration.TheVariants as duration
-use Rattle.values.specs.declared.words.Boolean.{Boolean}
-use Rattle.values.specs.declared.words.Boolean.TheVariants as boolean
+use Rattle.values.specs.declared.dates.Date.{Date}
 use Rattle.meaning.specs.Constraints.{RangeSort, integers, dates, SingleSort, booleans, date_pattern, time_pattern, duration_pattern, Range, single, ranges}
 use Rattle.meaning.specs.Findings.{Finding, unsuited, refuted, admitted, found, try}
 use Rattle.meaning.specs.Sorts.{in_range, in_some, single_row, range_row, text_kind}
@@ -55,9 +41,9 @@ module _ (sort : RangeSort) (e : Entry) (v low : ℕ) (el : low ≡ (range_row s
   pub range_below : v < low → false ≡ in_range v (record_range sort 0 (record_of e))
   range_below h = rw (← el, lt-leb low v h)
 
-  pub range-above : (high : ℕ) → low ≤ v → high ≡ (range_row sort).end e.b
+  pub range_above : (high : ℕ) → low ≤ v → high ≡ (range_row sort).end e.b
       → leb v high ≡ in_range v (record_range sort 0 (record_of e))
-  range-above high h eh = rw (← el, ← eh, le-leb low v h)
+  range_above high h eh = rw (← el, ← eh, le-leb low v h)
 
 -- what a walk over items still has to do
 abbrev pub left : List ℕ → ℕ → ℕ
@@ -83,8 +69,8 @@ unfolding record_items
 items_some records fuel n h = rw (ne_eqb n 0 h)
 
 module _ {records : List ℕ} {kind : ℕ} {has : List ℕ → Bool} {first : ℕ} where
-  pub items-start : Chained records kind first → InItems records kind has first first
-  items-start c = record { fuel = length records; enough = λ h. omega arith; low = λ h. omega arith; here = c.here; is = refl }
+  pub items_start : Chained records kind first → InItems records kind has first first
+  items_start c = record { fuel = length records; enough = λ h. omega arith; low = λ h. omega arith; here = c.here; is = refl }
 
   module _ {n : ℕ} (i : InItems records kind has first n) where
     pub items_end : n ≡ 0 → has [] ≡ has (record_items records (length records) first)
@@ -112,8 +98,8 @@ module _ {records : List ℕ} {kind : ℕ} {has : List ℕ → Bool} {first : �
         up : 0 < next → (n < next) × OfKind records kind next
         up = rw (← e) at (c.up n (i.low (omega arith)) (i.here (omega arith)))
 
-        pub items-less : left records next < left records n
-        items-less =
+        pub items_less : left records next < left records n
+        items_less =
             let l = items_lies in
             rw (ne_eqb n 0 h)
             (by_order next 0
@@ -148,9 +134,9 @@ module _ (records : List ℕ) (sort : RangeSort) (v first n : ℕ) (i : InRanges
     is_test : r ≡ in_range v (range_in sort records n)
     is_test = t ∙ ap (λ x. in_range v (record_range sort 0 x)) q
 
-    pub ranges-found : r ≡ true → true ≡ in_some v (ranges_from sort records first)
+    pub ranges_found : r ≡ true → true ≡ in_some v (ranges_from sort records first)
     unfolding in_ranges in_some
-    ranges-found y =
+    ranges_found y =
         let w = items_now i h in
         ap (λ b. b || in_ranges sort records v (record_items records w.0 (field (record_in records n) 4))) (sym y ∙ is_test) ∙ w.2
 
@@ -158,8 +144,8 @@ module _ (records : List ℕ) (sort : RangeSort) (v first n : ℕ) (i : InRanges
     unfolding in_ranges in_some
     ranges_next c y = items_next i h c (ap (λ x. field x 4) q) (λ ns. ap (λ b. b || in_ranges sort records v ns) (sym is_test ∙ y))
 
-    pub ranges-less : Chained records (range_row sort).kind first → left records e.e < left records n
-    ranges-less c = items-less i h c (ap (λ x. field x 4) q)
+    pub ranges_less : Chained records (range_row sort).kind first → left records e.e < left records n
+    ranges_less c = items_less i h c (ap (λ x. field x 4) q)
 
 -- a value that is some of the texts with these numbers
 unfoldable pub in_texts : List ℕ → List ℕ → List ℕ → List ℕ → Bool
@@ -192,7 +178,7 @@ module _ (records pool w : List ℕ) (first n : ℕ) (i : InTexts records pool w
       texts_next c y = items_next i h c (ap (λ x. field x 4) q) (λ ns. ap (λ b. b || in_texts records pool w ns) (sym is_text ∙ y))
 
     pub texts_less : Chained records text_kind first → left records e.e < left records n
-    texts_less c = items-less i h c (ap (λ x. field x 4) q)
+    texts_less c = items_less i h c (ap (λ x. field x 4) q)
 
 -- a record, as it is read
 pub entry_read : (records : List ℕ) (n at : ℕ) (e : Entry) → at ≡ record_size * n
@@ -200,91 +186,16 @@ pub entry_read : (records : List ℕ) (n at : ℕ) (e : Entry) → at ≡ record
 entry_read records n at e h q = rw h at q
 
 -- the part of the pool that a name is
-pub name-part : (pool : List ℕ) (e : Entry) → take (e.a + e.b - e.a) (drop e.a pool) ≡ name_of pool (record_of e)
-name-part pool e = rw add-sub_cancel_left
+pub name_part : (pool : List ℕ) (e : Entry) → take (e.a + e.b - e.a) (drop e.a pool) ≡ name_of pool (record_of e)
+name_part pool e = rw add-sub_cancel_left
 
 -- a value that reads as nothing of its kind, and one that is tried
-module _ {A E : Type 0} (answer : E → Option A) (a : E) (o : Option A) (test : A → Bool) (q : answer a ≡ o) where
-  try_none : (e : E) → a ≡ e → answer e ≡ None → unsuited ≡ try o test
-  try_none e h n = ap (λ x. try x test) (sym n ∙ ap answer (sym h) ∙ q)
+module _ {A : Type 0} (o p : Option A) (test : A → Bool) (q : o ≡ p) where
+  pub try_none : o ≡ None → unsuited ≡ try p test
+  try_none h = rw (← q, h)
 
-  try_some : (e : E) (v : A) (f : Finding) → a ≡ e → answer e ≡ Some v → f ≡ found (test v) → f ≡ try o test
-  try_some e v f h n g = g ∙ ap (λ x. try x test) (sym n ∙ ap answer (sym h) ∙ q)
-
--- a word under Booleans
-module _ (w : List ℕ) (flag : ℕ) (a : Boolean) (q : boolean_answer a ≡ boolean_of w) where
-  pub boolean_none : a ≡ boolean.Nothing → unsuited ≡ word_under (single booleans 0 flag) w
-  unfolding word_under
-  boolean_none h = try_none boolean_answer a _ _ q boolean.Nothing h refl
-
-  module _ (v : ℕ) (h : a ≡ boolean.Value v) where
-    pub boolean_both : flag ≡ 3 → admitted ≡ word_under (single booleans 0 flag) w
-    unfolding word_under
-    boolean_both z = try_some boolean_answer a _ _ q (boolean.Value v) v admitted h refl (rw (z, or-true))
-
-    pub boolean_one : (f : Finding) → (flag ≡ 3 → ⊥) → f ≡ found (eqb flag v) → f ≡ word_under (single booleans 0 flag) w
-    unfolding word_under
-    boolean_one f z g = try_some boolean_answer a _ _ q (boolean.Value v) v f h refl (rw (ne_eqb flag 3 z, or-false) g)
-
--- a word under integers
-module _ (w records : List ℕ) (first : ℕ) (a : Number) (q : integer_answer a ≡ integer_of w) where
-  pub integer_none : a ≡ number.Nothing → unsuited ≡ word_under (ranges integers (ranges_from integers records first)) w
-  unfolding word_under
-  integer_none h = try_none integer_answer a _ _ q number.Nothing h refl
-
-  pub integer_some : (v : ℕ) (r : Bool) (f : Finding) → a ≡ number.Value v
-      → r ≡ in_some v (ranges_from integers records first) → f ≡ found r
-      → f ≡ word_under (ranges integers (ranges_from integers records first)) w
-  unfolding word_under
-  integer_some v r f h e g = try_some integer_answer a _ _ q (number.Value v) v f h refl (g ∙ ap found e)
-
--- a word under a date pattern and under date intervals
-module _ (w : List ℕ) (a : Day) (q : date_answer a ≡ date_of w) where
-  pub date_none : (flag : ℕ) → a ≡ day.Nothing → unsuited ≡ word_under (single date_pattern 0 flag) w
-  unfolding word_under
-  date_none flag h = try_none date_answer a _ _ q day.Nothing h refl
-
-  pub dates_none : (l : List Range) → a ≡ day.Nothing → unsuited ≡ word_under (ranges dates l) w
-  unfolding word_under
-  dates_none l h = try_none date_answer a _ _ q day.Nothing h refl
-
-  module _ (parts d : ℕ) (h : a ≡ day.Value parts d) where
-    pub date-fits : (flag : ℕ) (r : Bool) (f : Finding) → r ≡ fits_date flag parts → f ≡ found r
-        → f ≡ word_under (single date_pattern 0 flag) w
-    unfolding word_under
-    date-fits flag r f e g = try_some date_answer a _ _ q (day.Value parts d) (record { parts = parts; day = d }) f h refl (g ∙ ap found e)
-
-    module _ (records : List ℕ) (first : ℕ) where
-      pub date-part : (parts ≡ 3 → ⊥) → refuted ≡ word_under (ranges dates (ranges_from dates records first)) w
-      unfolding word_under
-      date-part z = try_some date_answer a _ _ q (day.Value parts d) (record { parts = parts; day = d }) refuted h refl (rw (ne_eqb parts 3 z))
-
-      pub date_some : (r : Bool) (f : Finding) → parts ≡ 3 → r ≡ in_some d (ranges_from dates records first) → f ≡ found r
-          → f ≡ word_under (ranges dates (ranges_from dates records first)) w
-      unfolding word_under
-      date_some r f z e g = try_some date_answer a _ _ q (day.Value parts d) (record { parts = parts; day = d }) f h refl (rw (eq-eqb parts 3 z) (g ∙ ap found e))
-
--- a word under a time pattern
-module _ (w : List ℕ) (flag : ℕ) (a : Parts) (q : time_answer a ≡ time_of w) where
-  pub time_none : a ≡ parts.Nothing → unsuited ≡ word_under (single time_pattern 0 flag) w
-  unfolding word_under
-  time_none h = try_none time_answer a _ _ q parts.Nothing h refl
-
-  pub time_fits : (n : ℕ) (r : Bool) (f : Finding) → a ≡ parts.Value n → r ≡ fits_time flag n → f ≡ found r
-      → f ≡ word_under (single time_pattern 0 flag) w
-  unfolding word_under
-  time_fits n r f h e g = try_some time_answer a _ _ q (parts.Value n) n f h refl (g ∙ ap found e)
-
--- a word under a Duration pattern
-module _ (w : List ℕ) (flag : ℕ) (a : Duration) (q : duration_answer a ≡ duration_of w) where
-  pub duration_none : a ≡ duration.Nothing → unsuited ≡ word_under (single duration_pattern 0 flag) w
-  unfolding word_under
-  duration_none h = try_none duration_answer a _ _ q duration.Nothing h refl
-
-  pub duration_fits : (n : ℕ) (r : Bool) (f : Finding) → a ≡ duration.Value n → r ≡ fits_duration flag n → f ≡ found r
-      → f ≡ word_under (single duration_pattern 0 flag) w
-  unfolding word_under
-  duration_fits n r f h e g = try_some duration_answer a _ _ q (duration.Value n) n f h refl (g ∙ ap found e)
+  pub try_some : (v : A) (f : Finding) → o ≡ Some v → f ≡ found (test v) → f ≡ try p test
+  try_some v f h g = rw (← q, h) g
 
 -- a string under the leaf of another shape than a string's, and a word under what is no leaf's
 module _ (records pool w : List ℕ) (n : ℕ) where
@@ -301,16 +212,17 @@ module _ (records pool w : List ℕ) (n : ℕ) where
       by (Rows.single sort) e = refl
       by (range sort) e = refl
 
-  word_none : (k : ℕ) → (k ≡ 3 → ⊥) → (k ≡ 4 → ⊥) → (k ≡ 5 → ⊥) → (k ≡ 6 → ⊥) → (k ≡ 7 → ⊥) → (k ≡ 8 → ⊥)
-      → (k ≡ 9 → ⊥) → unsuited ≡ finding_under (leaf_of_shape records pool n (shape_of k)) false w
-  word_none k h3 h4 h5 h6 h7 h8 h9 = by (shape_of k) (kind_shape k)
+  word_none : (k : ℕ) → (k ≡ 3 → ⊥) → (k ≡ 4 → ⊥) → (k ≡ 6 → ⊥) → (k ≡ 7 → ⊥) → (k ≡ 8 → ⊥) → (k ≡ 9 → ⊥)
+      → unsuited ≡ finding_under (leaf_of_shape records pool n (shape_of k)) false w
+  unfolding word_under
+  word_none k h3 h4 h6 h7 h8 h9 = by (shape_of k) (kind_shape k)
     where
       by : (s : Shape) → (is_known s ≡ true → k ≡ kind_of s)
           → unsuited ≡ finding_under (leaf_of_shape records pool n s) false w
       by table_header e = refl
       by object e = refl
       by attribute e = refl
-      by text e = absurd (h5 (e refl))
+      by text e = refl
       by (Rows.single booleans) e = absurd (h3 (e refl))
       by (Rows.single date_pattern) e = absurd (h6 (e refl))
       by (Rows.single time_pattern) e = absurd (h8 (e refl))
@@ -342,13 +254,9 @@ module _ (records pool w : List ℕ) (first : ℕ) (e : Entry) (q : record_of e 
     string_kind r f h z g = shape_read text f (ap shape_of h) (rw y (g ∙ ap found z))
 
   module _ (y : s ≡ false) where
-    pub word_not : (e.kind ≡ 3 → ⊥) → (e.kind ≡ 4 → ⊥) → (e.kind ≡ 5 → ⊥) → (e.kind ≡ 6 → ⊥) → (e.kind ≡ 7 → ⊥)
-        → (e.kind ≡ 8 → ⊥) → (e.kind ≡ 9 → ⊥) → unsuited ≡ finding_under (record_leaf records pool first) s w
-    word_not h3 h4 h5 h6 h7 h8 h9 = shape_read (shape_of e.kind) unsuited refl (rw y (word_none records pool w first e.kind h3 h4 h5 h6 h7 h8 h9))
-
-    pub word-string : e.kind ≡ 5 → unsuited ≡ finding_under (record_leaf records pool first) s w
-    unfolding shape_of word_under
-    word-string h = shape_read text unsuited (ap shape_of h) (rw y refl)
+    pub word_not : (e.kind ≡ 3 → ⊥) → (e.kind ≡ 4 → ⊥) → (e.kind ≡ 6 → ⊥) → (e.kind ≡ 7 → ⊥) → (e.kind ≡ 8 → ⊥)
+        → (e.kind ≡ 9 → ⊥) → unsuited ≡ finding_under (record_leaf records pool first) s w
+    word_not h3 h4 h6 h7 h8 h9 = shape_read (shape_of e.kind) unsuited refl (rw y (word_none records pool w first e.kind h3 h4 h6 h7 h8 h9))
 
     pub word-integer : (f : Finding) → e.kind ≡ 4
         → f ≡ word_under (ranges integers (ranges_from integers records first)) w
@@ -387,32 +295,32 @@ found_back true = refl
 found_back false = refl
 
 module _ (w : List ℕ) (e : Entry) where
-  pub integer_alone_none : (a : Number) → integer_answer a ≡ integer_of w → a ≡ number.Nothing
+  pub integer_alone_none : (a : Option ℕ) → a ≡ integer_of w → a ≡ None
       → false ≡ is_admitted (word_under (ranges integers (record_range integers 0 (record_of e) ∷ [])) w)
   unfolding word_under
-  integer_alone_none a q h = ap is_admitted (try_none integer_answer a _ _ q number.Nothing h refl)
+  integer_alone_none a q h = ap is_admitted (try_none a _ _ q h)
 
-  pub integer_alone : (a : Number) → integer_answer a ≡ integer_of w → (v : ℕ) (r : Bool) → a ≡ number.Value v
+  pub integer_alone : (a : Option ℕ) → a ≡ integer_of w → (v : ℕ) (r : Bool) → a ≡ Some v
       → r ≡ in_range v (record_range integers 0 (record_of e))
       → r ≡ is_admitted (word_under (ranges integers (record_range integers 0 (record_of e) ∷ [])) w)
   unfolding word_under in_some
-  integer_alone a q v r h t = sym (found_back r) ∙ ap is_admitted (try_some integer_answer a _ _ q (number.Value v) v (found r) h refl (rw or-false (ap found t)))
+  integer_alone a q v r h t = sym (found_back r) ∙ ap is_admitted (try_some a _ _ q v (found r) h (rw or-false (ap found t)))
 
-  pub date_alone_none : (a : Day) → date_answer a ≡ date_of w → a ≡ day.Nothing
+  pub date_alone_none : (a : Option Date) → a ≡ date_of w → a ≡ None
       → false ≡ is_admitted (word_under (ranges dates (record_range dates 0 (record_of e) ∷ [])) w)
   unfolding word_under
-  date_alone_none a q h = ap is_admitted (try_none date_answer a _ _ q day.Nothing h refl)
+  date_alone_none a q h = ap is_admitted (try_none a _ _ q h)
 
-  module _ (a : Day) (q : date_answer a ≡ date_of w) (parts d : ℕ) (h : a ≡ day.Value parts d) where
-    pub date_alone_part : (parts ≡ 3 → ⊥)
+  module _ (a : Option Date) (q : a ≡ date_of w) (d : Date) (h : a ≡ Some d) where
+    pub date_alone_part : (d.parts ≡ 3 → ⊥)
         → false ≡ is_admitted (word_under (ranges dates (record_range dates 0 (record_of e) ∷ [])) w)
     unfolding word_under
-    date_alone_part z = ap is_admitted (try_some date_answer a _ _ q (day.Value parts d) (record { parts = parts; day = d }) refuted h refl (rw (ne_eqb parts 3 z)))
+    date_alone_part z = ap is_admitted (try_some a _ _ q d refuted h (rw (ne_eqb d.parts 3 z)))
 
-    pub date_alone : (r : Bool) → parts ≡ 3 → r ≡ in_range d (record_range dates 0 (record_of e))
+    pub date_alone : (r : Bool) → d.parts ≡ 3 → r ≡ in_range d.day (record_range dates 0 (record_of e))
         → r ≡ is_admitted (word_under (ranges dates (record_range dates 0 (record_of e) ∷ [])) w)
     unfolding word_under in_some
-    date_alone r z t = sym (found_back r) ∙ ap is_admitted (try_some date_answer a _ _ q (day.Value parts d) (record { parts = parts; day = d }) (found r) h refl (rw (eq-eqb parts 3 z) (rw or-false (ap found t))))
+    date_alone r z t = sym (found_back r) ∙ ap is_admitted (try_some a _ _ q d (found r) h (rw (eq-eqb d.parts 3 z) (rw or-false (ap found t))))
 
   module _ (pool : List ℕ) (s : Bool) where
     pub alone_named : NamedRecord pool (record_of e) → e.kind ≡ 5 → e.a + e.b ≤ length pool
@@ -493,6 +401,4 @@ module _ (records pool : List ℕ) (first : ℕ) (e : Entry) (i : ItemsGood reco
   unfolding shape_of
   chained_dates h = chained_by 7 refl h
 
-pub ruleset kind_steps = (string_not, string_kind, word_not, word-string, word-integer, word-date, word_boolean, word-date_pattern, word_time_pattern, word_duration_pattern)
-
-pub ruleset value_steps = (boolean_none, boolean_both, boolean_one, integer_none, integer_some, date_none, dates_none, date-fits, date-part, date_some, time_none, time_fits, duration_none, duration_fits)
+pub ruleset kind_steps = (string_not, string_kind, word_not, word-integer, word-date, word_boolean, word-date_pattern, word_time_pattern, word_duration_pattern)

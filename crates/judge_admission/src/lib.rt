@@ -12,14 +12,14 @@ ghost use Rattle.judge_admission.specs.Clauses.Items.{name_of, range_sort, recor
 ghost use Rattle.judge_admission.specs.Clauses.Answers.{finding_of, finding_under, is_admitted, item_admits};
 
 use lexis::runs::same_bytes;
-use table::layout::{KIND_AT, STRING_KIND};
+use table::layout::{BOOLEAN_KIND, DATE_KIND, DATE_PATTERN_KIND, DURATION_PATTERN_KIND, INTEGER_KIND, KIND_AT, STRING_KIND, TIME_PATTERN_KIND};
 use table::records::{Entry, RecordNumber, read};
-use values::dates::{Day, date_of};
-use values::durations::{Duration, duration_of};
-use values::integers::{Number, integer_of, twos_complement};
+use values::dates::date_of;
+use values::durations::duration_of;
+use values::integers::{integer_of, twos_complement};
 use values::patterns::{fits_date, fits_duration, fits_time};
-use values::times::{Parts, time_of};
-use values::words::{Boolean, boolean_of};
+use values::times::time_of;
+use values::words::boolean_of;
 
 // How a value stands to a leaf: it is not of the kind asked, is not admitted, or is.
 #[derive(Clone, Copy)]
@@ -30,6 +30,7 @@ pub enum Admission {
 }
 
 // The record with a number, of the bytes of records.
+#[tactic(auto, using(crate::proofs::ItemSteps::entry_read))]
 pub fn entry_at(records: &[u8], n: RecordNumber) -> Entry
     requires { record_size * n.0 + record_size ≤ length records.now }
     ensures { record_of result ≡ record_in records.now n.0 }
@@ -38,6 +39,7 @@ pub fn entry_at(records: &[u8], n: RecordNumber) -> Entry
 }
 
 // The kind of the record with a number.
+#[tactic(auto, using(crate::proofs::ItemSteps::kind_read_at))]
 pub fn kind_of(records: &[u8], n: RecordNumber) -> u8
     requires { record_size * n.0 + record_size ≤ length records.now }
     ensures { result ≡ (record_in records.now n.0).kind }
@@ -51,32 +53,30 @@ fn tried(good: bool) -> Admission
     ensures { finding_of result ≡ found good }
 {
     if good {
-        return Admission::Admitted;
+        Admission::Admitted
+    } else {
+        Admission::Refuted
     }
-    Admission::Refuted
 }
 
 // An end of an item: of an integer's, as its distance from the lowest integer.
+#[tactic(auto, using(crate::proofs::ItemSteps::end_signed, crate::proofs::ItemSteps::end_plain))]
 fn end_of(signed: bool, x: u32) -> u32
     ensures { result ≡ (range_row (range_sort signed)).end x }
 {
-    if signed {
-        return twos_complement(x);
-    }
-    x
+    if signed { twos_complement(x) } else { x }
 }
 
 // The value lies between the ends of an item.
+#[tactic(auto, using(crate::proofs::ItemSteps::range_below, crate::proofs::ItemSteps::range_above))]
 fn in_range(signed: bool, e: Entry, value: u32) -> bool
     ensures { result ≡ in_range value (record_range (range_sort signed) 0 (record_of e)) }
 {
-    if value < end_of(signed, e.a) {
-        return false;
-    }
-    value <= end_of(signed, e.b)
+    end_of(signed, e.a) <= value && value <= end_of(signed, e.b)
 }
 
 // The value lies in some item of those from a record on, from link to link.
+#[tactic(auto, using(crate::proofs::ItemSteps::items_start, crate::proofs::ItemSteps::items_lies, crate::proofs::ItemSteps::ranges_end, crate::proofs::ItemSteps::ranges_found, crate::proofs::ItemSteps::ranges_next, crate::proofs::ItemSteps::ranges_less))]
 fn in_some(records: &[u8], first: RecordNumber, signed: bool, value: u32) -> bool
     requires { Chained records.now (range_row (range_sort signed)).kind first.0 }
     ensures { result ≡ in_some value (ranges_from (range_sort signed) records.now first.0) }
@@ -93,6 +93,7 @@ fn in_some(records: &[u8], first: RecordNumber, signed: bool, value: u32) -> boo
 }
 
 // The part of the pool that a record's place and length name.
+#[tactic(auto, using(crate::proofs::ItemSteps::name_part))]
 pub fn name_of<'a>(pool: &'a [u8], e: Entry) -> &'a [u8]
     requires { e.a + e.b ≤ length pool.now }
     ensures { result.now ≡ name_of pool.now (record_of e) }
@@ -103,6 +104,7 @@ pub fn name_of<'a>(pool: &'a [u8], e: Entry) -> &'a [u8]
 }
 
 // The value is some item of those from a record on, from link to link.
+#[tactic(auto, using(crate::proofs::ItemSteps::items_start, crate::proofs::ItemSteps::items_lies, crate::proofs::ItemSteps::text_inside, crate::proofs::ItemSteps::texts_end, crate::proofs::ItemSteps::texts_found, crate::proofs::ItemSteps::texts_next, crate::proofs::ItemSteps::texts_less))]
 fn is_some(records: &[u8], pool: &[u8], first: RecordNumber, value: &[u8]) -> bool
     requires chained { Chained records.now 5 first.0 }
     requires spelled { Spelled records.now pool.now first.0 }
@@ -121,124 +123,112 @@ fn is_some(records: &[u8], pool: &[u8], first: RecordNumber, value: &[u8]) -> bo
 }
 
 // A word under Booleans.
+#[tactic(auto, unfolding(meaning::specs::Admission::word_under))]
 fn boolean_under(flag: u8, value: &[u8]) -> Admission
     ensures { finding_of result ≡ word_under (single booleans 0 flag) value.now }
 {
     match boolean_of(value) {
-        Boolean::Value(v) => {
-            if flag == 3 {
-                return Admission::Admitted;
-            }
-            tried(flag == v)
-        }
-        Boolean::Nothing => Admission::Unsuited,
+        Some(v) => tried(flag == v || flag == 3),
+        None => Admission::Unsuited,
     }
 }
 
 // A word under integers.
+#[tactic(auto, unfolding(meaning::specs::Admission::word_under))]
 fn integer_under(records: &[u8], first: RecordNumber, value: &[u8]) -> Admission
     requires { Chained records.now 4 first.0 }
     ensures { finding_of result
         ≡ word_under (ranges integers (ranges_from integers records.now first.0)) value.now }
 {
     match integer_of(value) {
-        Number::Value(v) => tried(in_some(records, first, true, v)),
-        Number::Nothing => Admission::Unsuited,
+        Some(v) => tried(in_some(records, first, true, v)),
+        None => Admission::Unsuited,
     }
 }
 
 // A word under a date pattern.
+#[tactic(auto, unfolding(meaning::specs::Admission::word_under))]
 fn date_pattern_under(flag: u8, value: &[u8]) -> Admission
     ensures { finding_of result ≡ word_under (single date_pattern 0 flag) value.now }
 {
     match date_of(value) {
-        Day::Value { parts, day: _ } => tried(fits_date(flag, parts)),
-        Day::Nothing => Admission::Unsuited,
+        Some(date) => tried(fits_date(flag, date.parts)),
+        None => Admission::Unsuited,
     }
 }
 
 // A word under date intervals, which admit full dates only.
+#[tactic(auto, unfolding(meaning::specs::Admission::word_under))]
 fn date_under(records: &[u8], first: RecordNumber, value: &[u8]) -> Admission
     requires { Chained records.now 7 first.0 }
     ensures { finding_of result
         ≡ word_under (ranges dates (ranges_from dates records.now first.0)) value.now }
 {
     match date_of(value) {
-        Day::Value { parts, day } => {
-            if parts != 3 {
-                return Admission::Refuted;
-            }
-            tried(in_some(records, first, false, day))
-        }
-        Day::Nothing => Admission::Unsuited,
+        Some(date) => tried(date.parts == 3 && in_some(records, first, false, date.day)),
+        None => Admission::Unsuited,
     }
 }
 
 // A word under a time pattern.
+#[tactic(auto, unfolding(meaning::specs::Admission::word_under))]
 fn time_pattern_under(flag: u8, value: &[u8]) -> Admission
     ensures { finding_of result ≡ word_under (single time_pattern 0 flag) value.now }
 {
     match time_of(value) {
-        Parts::Value(parts) => tried(fits_time(flag, parts)),
-        Parts::Nothing => Admission::Unsuited,
+        Some(parts) => tried(fits_time(flag, parts)),
+        None => Admission::Unsuited,
     }
 }
 
 // A word under a Duration pattern.
+#[tactic(auto, unfolding(meaning::specs::Admission::word_under))]
 fn duration_pattern_under(flag: u8, value: &[u8]) -> Admission
     ensures { finding_of result ≡ word_under (single duration_pattern 0 flag) value.now }
 {
     match duration_of(value) {
-        Duration::Value(filled) => tried(fits_duration(flag, filled)),
-        Duration::Nothing => Admission::Unsuited,
+        Some(filled) => tried(fits_duration(flag, filled)),
+        None => Admission::Unsuited,
     }
 }
 
 // A word lies between the ends of an item of integers.
+#[tactic(auto, using(crate::proofs::ItemSteps::alone_steps))]
 fn integer_in(e: Entry, value: &[u8]) -> bool
     ensures { result
         ≡ is_admitted (word_under (ranges integers (record_range integers 0 (record_of e) ∷ [])) value.now) }
 {
     match integer_of(value) {
-        Number::Value(v) => in_range(true, e, v),
-        Number::Nothing => false,
+        Some(v) => in_range(true, e, v),
+        None => false,
     }
 }
 
 // A word is a full date between the ends of an item of dates.
+#[tactic(auto, using(crate::proofs::ItemSteps::alone_steps))]
 fn date_in(e: Entry, value: &[u8]) -> bool
     ensures { result
         ≡ is_admitted (word_under (ranges dates (record_range dates 0 (record_of e) ∷ [])) value.now) }
 {
     match date_of(value) {
-        Day::Value { parts, day } => {
-            if parts != 3 {
-                return false;
-            }
-            in_range(false, e, day)
-        }
-        Day::Nothing => false,
+        Some(date) => date.parts == 3 && in_range(false, e, date.day),
+        None => false,
     }
 }
 
 // An item of a list admits a value by itself.
+#[tactic(auto, using(crate::proofs::ItemSteps::alone_named, crate::proofs::ItemSteps::alone_steps))]
 pub fn item_admits(pool: &[u8], e: Entry, value: &[u8], is_string: bool) -> bool
     requires { NamedRecord pool.now (record_of e) }
     ensures { result ≡ item_admits pool.now (record_of e) is_string value.now }
 {
-    let kind = e.kind;
     if is_string {
-        if kind == STRING_KIND {
-            return same_bytes(value, name_of(pool, e));
-        }
-        return false;
+        return e.kind == STRING_KIND && same_bytes(value, name_of(pool, e));
     }
-    match kind {
-        0..=3 => false,
-        4 => integer_in(e, value),
-        5..=6 => false,
-        7 => date_in(e, value),
-        8..=255 => false,
+    match e.kind {
+        INTEGER_KIND => integer_in(e, value),
+        DATE_KIND => date_in(e, value),
+        _ => false,
     }
 }
 
@@ -256,23 +246,19 @@ pub fn admit(
         value.now }
 {
     let e = entry_at(records, first);
-    let kind = e.kind;
     if is_string {
-        return match kind {
-            0..=4 => Admission::Unsuited,
-            5 => tried(is_some(records, pool, first, value)),
-            6..=255 => Admission::Unsuited,
+        return match e.kind {
+            STRING_KIND => tried(is_some(records, pool, first, value)),
+            _ => Admission::Unsuited,
         };
     }
-    match kind {
-        0..=2 => Admission::Unsuited,
-        3 => boolean_under(e.flag, value),
-        4 => integer_under(records, first, value),
-        5 => Admission::Unsuited,
-        6 => date_pattern_under(e.flag, value),
-        7 => date_under(records, first, value),
-        8 => time_pattern_under(e.flag, value),
-        9 => duration_pattern_under(e.flag, value),
-        10..=255 => Admission::Unsuited,
+    match e.kind {
+        BOOLEAN_KIND => boolean_under(e.flag, value),
+        INTEGER_KIND => integer_under(records, first, value),
+        DATE_PATTERN_KIND => date_pattern_under(e.flag, value),
+        DATE_KIND => date_under(records, first, value),
+        TIME_PATTERN_KIND => time_pattern_under(e.flag, value),
+        DURATION_PATTERN_KIND => duration_pattern_under(e.flag, value),
+        _ => Admission::Unsuited,
     }
 }

@@ -1,13 +1,15 @@
 -- Steps of the functions that tell what an attribute says of a block. Assumes nothing.
 use mathlib.Core.Path.{◌≡◌, refl, sym, ap, ◌∙◌, subst}
-use mathlib.Core.Bool.{Bool, true, false, cond, false≢true}
-use Rattle.std.specs.Prelude.{Some}
+use mathlib.Core.Bool.{Bool, true, false, not, cond, beq, false≢true}
+use Rattle.std.specs.Prelude.{Option, None, Some}
+use Rattle.std.specs.declared.result.Result.{Result}
+use Rattle.std.specs.declared.result.Result.TheVariants.{Ok, Err}
 use mathlib.Core.List.{List, ◌∷◌}
 use Prim.Native.Nat.{ℕ, zero, suc, ◌+◌, ◌-◌, ◌≤◌, ◌<◌}
 use native.Mathlib.Omega.{arith}
 use lib.Dec.{eqb, lit<}
 use lib.ListN.{length, take, drop}
-use borrow.Author.Tests.{ne_eqb}
+use borrow.Author.Tests.{eqb-true, eqb-false, ne_eqb}
 use Rattle.lexis.specs.Bytes.{among}
 use Rattle.lexis.specs.Runs.{part, same}
 use Rattle.lexis.proofs.Cases.{by_cond, either}
@@ -28,18 +30,14 @@ use Rattle.table.specs.declared.records.Entry.{Entry}
 use Rattle.table.specs.declared.records.RecordNumber.{RecordNumber}
 use Rattle.judge_admission.specs.Clauses.Items.{name_of, record_leaf, Lies, ItemsGood, image_from}
 use Rattle.judge_admission.specs.Clauses.Answers.{finding_of, finding_under}
-use Rattle.judge_attributes.specs.Clauses.Answers.{leaf_verdict, verdict_in}
-use Rattle.judge_tape.specs.Clauses.Rows.{content_on, members_on, datum_on, found_row, member_row, Begins, LeafRow, block_on, MembersWithin, ContentWithin, Walk}
+use Rattle.judge_attributes.specs.Clauses.Answers.{leaf_verdict, failed, verdict_in}
+use Rattle.judge_tape.specs.Clauses.Rows.{content_on, members_on, datum_on, member_row, Begins, LeafRow, block_on, MembersWithin, ContentWithin, Walk}
 use Rattle.judge_attributes.specs.Clauses.Attributes.{judge_first, ValueLink, AttributeAt, Leads, ValueIs, AttributeAnswerIs}
 use Rattle.judge_tape.specs.Clauses.Memo.{KnownIs}
 use Rattle.judge_admission.specs.declared.Admission.{Admission}
-use Rattle.judge_tape.specs.declared.members.Found.{Found}
-use Rattle.judge_tape.specs.declared.members.Found.TheVariants.{At, Nothing}
 use Rattle.judge_tape.specs.declared.members.Block.{Block}
-use Rattle.judge_attributes.specs.declared.Verdict as declared
-use Rattle.judge_attributes.specs.declared.Verdict.TheVariants as verdict
-use Rattle.judge_attributes.specs.declared.AttributeAnswer.{AttributeAnswer}
-use Rattle.judge_attributes.specs.declared.AttributeAnswer.TheVariants.{Told, Nested}
+use Rattle.judge_attributes.specs.declared.Failure.{Failure}
+use Rattle.judge_attributes.specs.declared.Nested.{Nested}
 use Rattle.judge_tape.proofs.MemberSteps.{found_on, FoundIs, member_holds}
 use Rattle.judge_admission.proofs.TableLaws.{by_kind, number_lies, kind_there, link_there, name_there, items_there, object_tree, attribute_tree, leaf_there}
 
@@ -114,10 +112,26 @@ module _ (s : List ℕ) (rows : ℕ) (tape : List ℕ) (n : ℕ) where
       by true = refl
       by false = refl
 
+-- what a value takes and what a row holds are both a block, or neither is
+blocks_agree : (kind holds : ℕ) → not (beq (eqb kind 1) (eqb holds 0)) ≡ false → eqb kind 1 ≡ eqb holds 0
+blocks_agree kind holds d = by (eqb kind 1) (eqb holds 0) d
+  where
+    by : (x y : Bool) → not (beq x y) ≡ false → x ≡ y
+    by true true e = refl
+    by true false e = absurd (false≢true (sym e))
+    by false true e = absurd (false≢true (sym e))
+    by false false e = refl
+
+both_blocks : (kind holds : ℕ) → not (beq (eqb kind 1) (eqb holds 0)) ≡ false → holds ≡ 0 → kind ≡ 1
+both_blocks kind holds d h = eqb-true kind 1 (blocks_agree kind holds d ∙ rw h)
+
+no_block : (kind holds : ℕ) → not (beq (eqb kind 1) (eqb holds 0)) ≡ false → (holds ≡ 0 → ⊥) → kind ≡ 1 → ⊥
+no_block kind holds d h = eqb-false kind 1 (blocks_agree kind holds d ∙ ne_eqb holds 0 h)
+
 -- a member's value, by the object or the items with a number
 module _ (records pool s tape : List ℕ) (rows : ℕ) (value : RecordNumber) (row : ℕ)
     (w : Walk records pool s tape rows) where
-  pub value_any : value.0 ≡ 0 → ValueIs (image_from records pool) s rows tape value.0 row (Told verdict.Valid)
+  pub value_any : value.0 ≡ 0 → ValueIs (image_from records pool) s rows tape value.0 row (Ok None)
   unfolding tree_at judge_value
   value_any h = record { is = rw h; leads = tt }
 
@@ -139,10 +153,11 @@ module _ (records pool s tape : List ℕ) (rows : ℕ) (value : RecordNumber) (r
 
       module _ (z : row < rows) (holds : ℕ) (eh : holds ≡ row_number (row_at tape row) 0) where
         -- a block under an object is still to be judged
-        pub value_nested : kind ≡ 1 → holds ≡ 0 → (b : Block) → b ≡ block_on tape row
-            → ValueIs (image_from records pool) s rows tape value.0 row (Nested value b)
+        pub value_nested : not (beq (eqb kind 1) (eqb holds 0)) ≡ false → holds ≡ 0 → (b : Block) → b ≡ block_on tape row
+            → ValueIs (image_from records pool) s rows tape value.0 row (Ok (Some (record { object = value; block = b })))
         unfolding ContentWithin
-        value_nested ek ez b eb =
+        value_nested ea ez b eb =
+            let ek = both_blocks kind holds ea ez in
             let c = content_block s rows tape row (sym eh ∙ ez) in
             let g = w.good.rows row z in
             let d : datum_on s rows tape (block_on tape row) ≡ datum_on s rows tape b = ap (datum_on s rows tape) (sym eb) in
@@ -156,47 +171,61 @@ module _ (records pool s tape : List ℕ) (rows : ℕ) (value : RecordNumber) (r
               );
             }
 
-        module _ (v : declared.Verdict) (place : ℕ) (er : verdict_in v ≡ fails 20 value.0 place)
+        module _ (f : Failure) (place : ℕ) (er : failed f ≡ fails 20 value.0 place)
             (ep : place ≡ row_number (row_at tape row) 3) where
           told_20 : fails 20 value.0
               (row_number (row_at tape row) 3) ≡ judge_value (value_in (tree_at (image_from records pool) value.0))
-              (content_on s rows tape row) → ValueIs (image_from records pool) s rows tape value.0 row (Told v)
-          told_20 f = record { is = er ∙ ap (fails 20 value.0) ep ∙ f; leads = tt }
+              (content_on s rows tape row) → ValueIs (image_from records pool) s rows tape value.0 row (Err f)
+          told_20 h = record { is = er ∙ ap (fails 20 value.0) ep ∙ h; leads = tt }
 
           -- a leaf under an object
-          pub value-leaf : kind ≡ 1 → (holds ≡ 0 → ⊥)
-              → ValueIs (image_from records pool) s rows tape value.0 row (Told v)
+          value_leaf : kind ≡ 1 → (holds ≡ 0 → ⊥) → ValueIs (image_from records pool) s rows tape value.0 row (Err f)
           unfolding judge_value
-          value-leaf ek ez =
+          value_leaf ek ez =
               told_20 (rw (object_tree records pool w.checked value.0 (kind_read ∙ ek))
               (sym (leaf_under_object s rows tape row value.0 _ (λ f. ez (eh ∙ f)))))
 
           -- a block under items
-          pub value_block : (kind ≡ 1 → ⊥) → holds ≡ 0
-              → ValueIs (image_from records pool) s rows tape value.0 row (Told v)
+          value_block : (kind ≡ 1 → ⊥) → holds ≡ 0 → ValueIs (image_from records pool) s rows tape value.0 row (Err f)
           unfolding judge_value
           value_block ek ez =
               let i = leaf_there records pool w.checked value.0 (items_kind ek) in
               told_20 (rw (i.tree, content_block s rows tape row (sym eh ∙ ez), i.number))
 
-        module _ (ek : kind ≡ 1 → ⊥) (ez : holds ≡ 0 → ⊥) where
-          pub value-items : ItemsGood records pool value.0
-          value-items = items_there records pool w.checked value.0 (kind_at (image_from records pool) value.0) refl (kind_some (kind_at (image_from records pool) value.0) refl)
+          -- what is not what is asked for
+          pub value_unsuited : not (beq (eqb kind 1) (eqb holds 0)) ≡ true
+              → ValueIs (image_from records pool) s rows tape value.0 row (Err f)
+          value_unsuited d = by (eqb kind 1) (eqb holds 0) refl refl d
+            where
+              by : (x y : Bool) → eqb kind 1 ≡ x → eqb holds 0 ≡ y → not (beq x y) ≡ true
+                  → ValueIs (image_from records pool) s rows tape value.0 row (Err f)
+              by true true a b e = absurd (false≢true e)
+              by true false a b e = value_leaf (eqb-true kind 1 a) (eqb-false holds 0 b)
+              by false true a b e = value_block (eqb-false kind 1 a) (eqb-true holds 0 b)
+              by false false a b e = absurd (false≢true e)
+
+        module _ (ea : not (beq (eqb kind 1) (eqb holds 0)) ≡ false) (ez : holds ≡ 0 → ⊥) where
+          pub value_items : ItemsGood records pool value.0
+          value_items = items_there records pool w.checked value.0 (kind_at (image_from records pool) value.0) refl (kind_some (kind_at (image_from records pool) value.0) refl)
 
           pub value_row : LeafRow rows tape row
           value_row = record { there = z; leaf = omega arith }
 
           -- a leaf under items
-          pub value-judged : (v : declared.Verdict)
-              → verdict_in v ≡ leaf_verdict records pool s value.0 (row_at tape row)
-              → ValueIs (image_from records pool) s rows tape value.0 row (Told v)
+          judged : leaf_verdict records pool s value.0 (row_at tape row)
+              ≡ judge_value (value_in (tree_at (image_from records pool) value.0)) (content_on s rows tape row)
           unfolding judge_value
-          value-judged v ev =
-              let i = leaf_there records pool w.checked value.0 (items_kind ek) in
-              record {
-                is = ev ∙ rw i.tree (sym (leaf_under_items s rows tape row records pool i.leaf value.0 i.number i.there (λ f. ez (eh ∙ f))));
-                leads = tt;
-              }
+          judged =
+              let i = leaf_there records pool w.checked value.0 (items_kind (no_block kind holds ea ez)) in
+              rw i.tree (sym (leaf_under_items s rows tape row records pool i.leaf value.0 i.number i.there (λ f. ez (eh ∙ f))))
+
+          pub value_admitted : valid ≡ leaf_verdict records pool s value.0 (row_at tape row)
+              → ValueIs (image_from records pool) s rows tape value.0 row (Ok None)
+          value_admitted e = record { is = e ∙ judged; leads = tt }
+
+          pub value_fails : (f : Failure) → failed f ≡ leaf_verdict records pool s value.0 (row_at tape row)
+              → ValueIs (image_from records pool) s rows tape value.0 row (Err f)
+          value_fails f e = record { is = e ∙ judged; leads = tt }
 
 -- a member that is found is no deeper than the members
 pub member_within : (w : List ℕ) (ms : Members) (c : Content) (levels : ℕ) → member_of w ms ≡ Some c
@@ -219,9 +248,11 @@ content_place s rows tape n =
 
 -- the block that a step leads into is within what holds it
 leads_map : (m : Image) (s : List ℕ) (rows : ℕ) (tape : List ℕ) (P Q : ℕ → Type 0)
-    → ((levels : ℕ) → Q levels → P levels) → (r : AttributeAnswer) → Leads m s rows tape P r → Leads m s rows tape Q r
-leads_map m s rows tape P Q f (Told v) h = tt
-leads_map m s rows tape P Q f (Nested o b) h = (h.0, h.1, h.2, λ levels q. h.3 levels (f levels q))
+    → ((levels : ℕ) → Q levels → P levels) → (r : Result (Option Nested) Failure) → Leads m s rows tape P r
+    → Leads m s rows tape Q r
+leads_map m s rows tape P Q f (Ok None) h = tt
+leads_map m s rows tape P Q f (Ok (Some x)) h = (h.0, h.1, h.2, λ levels q. h.3 levels (f levels q))
+leads_map m s rows tape P Q f (Err e) h = tt
 
 -- the members of a block, by an attribute
 module _ (records pool s tape : List ℕ) (rows : ℕ) (n : RecordNumber) (e : Entry) (b : Block)
@@ -236,40 +267,40 @@ module _ (records pool s tape : List ℕ) (rows : ℕ) (n : RecordNumber) (e : E
       λ h. (link_there records pool w.checked n.0 2 a.kind (omega arith) 2 (object_kind ∷ items) (lit< tt) refl h).kind in
       record { kind = rw (← a.is) at k }
 
-  module _ (name : List ℕ) (en : name ≡ name_of pool (record_of e)) (r : Found)
+  module _ (name : List ℕ) (en : name ≡ name_of pool (record_of e)) (r : Option ℕ)
       (begins : Begins rows b.first b.inside)
-      (er : found_row r ≡ member_row s tape rows b.first b.inside name) where
-    f : FoundIs s rows tape (members_on s rows tape b) name (found_row r)
+      (er : r ≡ member_row s tape rows b.first b.inside name) where
+    f : FoundIs s rows tape (members_on s rows tape b) name r
     f = rw er (member_holds s rows tape name w.good b.first b.inside begins)
 
     first_is : judge_member (record { number = n.0; existence = e.flag; name = name_of pool (record_of e) }) b.place
-        (found_on s rows tape (found_row r))
+        (found_on s rows tape r)
         (λ x. judge_value (value_in (tree_at (image_from records pool) e.c)) x)
         ≡ judge_first (attributes_in (tree_at (image_from records pool) n.0))
         b.place (members_on s rows tape b)
     first_is = rw (attribute_tree records pool w.checked n.0 a.kind, ← a.is, f.is, en)
 
-    module _ (h : r ≡ Nothing) where
-      pub member_missing : (v : declared.Verdict) → verdict_in v ≡ fails 22 n.0 b.place → e.flag ≡ 2
-          → AttributeAnswerIs (image_from records pool) s rows tape n.0 b (Told v)
-      member_missing v ev z = record { is = ev ∙ (rw (h, z) at first_is); leads = tt }
+    module _ (h : r ≡ None) where
+      pub member_missing : (f : Failure) → failed f ≡ fails 22 n.0 b.place → e.flag ≡ 2
+          → AttributeAnswerIs (image_from records pool) s rows tape n.0 b (Err f)
+      member_missing f ev z = record { is = ev ∙ (rw (h, z) at first_is); leads = tt }
 
-      pub member_absent : (e.flag ≡ 2 → ⊥)
-          → AttributeAnswerIs (image_from records pool) s rows tape n.0 b (Told verdict.Valid)
+      pub member_absent : (e.flag ≡ 2 → ⊥) → AttributeAnswerIs (image_from records pool) s rows tape n.0 b (Ok None)
       member_absent z = record { is = rw (h, ne_eqb e.flag 2 z) at first_is; leads = tt }
 
-    module _ (row : ℕ) (h : r ≡ At row) where
+    module _ (row : ℕ) (h : r ≡ Some row) where
       pub member_row_lem : row < rows
       member_row_lem = rw h at f.there
 
-      pub member_present : (v : declared.Verdict) (place : ℕ) → verdict_in v ≡ fails 23 n.0 place
+      pub member_present : (x : Failure) (place : ℕ) → failed x ≡ fails 23 n.0 place
           → place ≡ row_number (row_at tape row) 3 → e.flag ≡ 0
-          → AttributeAnswerIs (image_from records pool) s rows tape n.0 b (Told v)
-      member_present v place ev ep z =
+          → AttributeAnswerIs (image_from records pool) s rows tape n.0 b (Err x)
+      member_present x place ev ep z =
           let k : fails 23 n.0 (place_of (content_on s rows tape row)) ≡ judge_first (attributes_in (tree_at (image_from records pool) n.0)) b.place (members_on s rows tape b) = rw (h, z) at first_is in
           record { is = ev ∙ ap (fails 23 n.0) (ep ∙ sym (content_place s rows tape row)) ∙ k; leads = tt }
 
-      pub member_judged : (v : AttributeAnswer) → ValueIs (image_from records pool) s rows tape e.c row v
+      pub member_judged : (v : Result (Option Nested) Failure)
+          → ValueIs (image_from records pool) s rows tape e.c row v
           → (e.flag ≡ 0 → ⊥) → AttributeAnswerIs (image_from records pool) s rows tape n.0 b v
       member_judged v i z =
           let k : Some (content_on s rows tape row) ≡ member_of name (members_on s rows tape b) = rw h at f.is in

@@ -2,64 +2,78 @@
 #![tactic(auto)]
 
 ghost use Rattle.std.specs.Prelude.{◌≡◌, ◌+◌, ◌*◌, ◌≤◌, ◌<◌, length};
-ghost use Rattle.meaning.specs.Verdicts as definitions;
+ghost use Rattle.meaning.specs.Verdicts.{fails};
 ghost use Rattle.meaning.specs.Judging.{verdict_of};
 ghost use Rattle.dadl.specs.Clauses.Tape.{row_size};
 ghost use Rattle.dadl.specs.Clauses.Rows.{row_at, TapeGood};
 ghost use Rattle.judge_admission.specs.Clauses.Items.{image_from, ItemsGood};
 ghost use Rattle.judge_admission.specs.Clauses.Answers.{finding_of};
-ghost use Rattle.judge_attributes.specs.Clauses.Answers.{verdict_in, leaf_verdict};
+ghost use Rattle.judge_attributes.specs.Clauses.Answers.{number_of, failed, verdict_in, leaf_verdict};
 ghost use Rattle.judge_tape.specs.Clauses.Rows.{LeafRow, block_on, Walk, Begins};
 ghost use Rattle.judge_attributes.specs.Clauses.Attributes.{ValueLink, ValueIs, AttributeAt, AttributeAnswerIs};
 ghost use Rattle.judge_tape.specs.Clauses.Memo.{MemoGood};
 
 use judge_admission::{Admission, admit, kind_of, name_of};
-use judge_tape::members::{Block, Found, find_member, number};
+use judge_tape::members::{Block, find_member, number};
 use judge_tape::memo::is_known;
 use meaning::{PROHIBITED, REQUIRED};
 use table::layout::OBJECT_KIND;
 use table::records::{Entry, RecordNumber};
 
-// Document 01's reasons.
-const UNSUITED: u8 = 20;
+// Why a text is not valid.
+#[derive(Clone, Copy)]
+pub enum Reason {
+    Unsuited,
+    TypeDiffers,
+    Missing,
+    Present,
+    NotAdmitted,
+}
 
-const MISSING: u8 = 22;
+impl From<Reason> for u8 {
+    ghost from_gives = { λ reason n. n ≡ number_of reason };
 
-const PRESENT: u8 = 23;
-
-const NOT_ADMITTED: u8 = 24;
+    // Document 01's number of a reason.
+    fn from(reason: Reason) -> u8 {
+        match reason {
+            Reason::Unsuited => 20,
+            Reason::TypeDiffers => 21,
+            Reason::Missing => 22,
+            Reason::Present => 23,
+            Reason::NotAdmitted => 24,
+        }
+    }
+}
 
 // A failure: a reason, with the record and the data place that fail.
 #[derive(Clone, Copy)]
 pub struct Failure {
-    pub reason: u8,
+    pub reason: Reason,
     pub record: RecordNumber,
     pub place: usize,
 }
 
+impl Reason {
+    // The failure for this reason, at a record and a data place.
+    pub fn at(self, record: RecordNumber, place: usize) -> Failure
+        ensures { failed result ≡ fails (number_of self) «record».0 place }
+    {
+        Failure {
+            reason: self,
+            record,
+            place,
+        }
+    }
+}
+
 // A verdict: valid, or the first failure.
-#[derive(Clone, Copy)]
-pub enum Verdict {
-    Valid,
-    Fails(Failure),
-}
+pub type Verdict = Result<(), Failure>;
 
-// What an attribute tells of a block: a verdict, or a block inside it that is still to be judged by an object.
+// A block inside another that is still to be judged, by an object.
 #[derive(Clone, Copy)]
-pub enum AttributeAnswer {
-    Told(Verdict),
-    Nested { object: RecordNumber, block: Block },
-}
-
-// The verdict of a failure.
-pub fn fails(reason: u8, record: RecordNumber, place: usize) -> Verdict
-    ensures { verdict_in result ≡ definitions.fails reason «record».0 place }
-{
-    Verdict::Fails(Failure {
-        reason,
-        record,
-        place,
-    })
+pub struct Nested {
+    pub object: RecordNumber,
+    pub block: Block,
 }
 
 // What an admission tells, at the first item's record.
@@ -67,13 +81,14 @@ fn told(a: Admission, first: RecordNumber, place: usize) -> Verdict
     ensures { verdict_in result ≡ verdict_of first.0 place (finding_of a) }
 {
     match a {
-        Admission::Unsuited => fails(UNSUITED, first, place),
-        Admission::Refuted => fails(NOT_ADMITTED, first, place),
-        Admission::Admitted => Verdict::Valid,
+        Admission::Unsuited => Err(Reason::Unsuited.at(first, place)),
+        Admission::Refuted => Err(Reason::NotAdmitted.at(first, place)),
+        Admission::Admitted => Ok(()),
     }
 }
 
 // The string or word of a row, by the items from a record on.
+#[tactic(auto, using(crate::proofs::AttributeSteps::value_told, judge_tape::proofs::MemberSteps::value_order, judge_tape::proofs::MemberSteps::value_ends))]
 fn judge_items(
     records: &[u8],
     pool: &[u8],
@@ -98,6 +113,7 @@ fn judge_items(
 }
 
 // The same, unless the memo knows that it is admitted.
+#[tactic(auto, using(crate::proofs::AttributeSteps::first_lies, crate::proofs::AttributeSteps::value_known))]
 fn judge_leaf(
     records: &[u8],
     pool: &[u8],
@@ -120,12 +136,13 @@ fn judge_leaf(
         (row_at tape.now row) }
 {
     if is_known(records, pool, s, tape, rows, memo, first, row) {
-        return Verdict::Valid;
+        return Ok(());
     }
     judge_items(records, pool, s, tape, rows, first, row)
 }
 
 // The block of a row.
+#[tactic(auto, using(crate::proofs::AttributeSteps::block_read))]
 fn block_at(tape: &[u16], row: usize) -> Block
     requires { row_size * row + row_size ≤ length tape.now }
     ensures { result ≡ block_on tape.now row }
@@ -139,7 +156,8 @@ fn block_at(tape: &[u16], row: usize) -> Block
     }
 }
 
-// The member of a row, by the object or the items with a number, 0 for any.
+// The member of a row, by the object or the items with a number, 0 for any: a block that is still to be judged, if it is one
+// by an object.
 fn judge_value(
     records: &[u8],
     pool: &[u8],
@@ -149,7 +167,7 @@ fn judge_value(
     memo: &mut [u8],
     value: RecordNumber,
     row: usize,
-) -> AttributeAnswer
+) -> Result<Option<Nested>, Failure>
     requires walk { Walk records.now pool.now s.now tape.now rows }
     requires value_link { ValueLink (image_from records.now pool.now) value.0 }
     requires row_lt_rows { row < rows }
@@ -160,29 +178,24 @@ fn judge_value(
         tape.now value.0 row result }
 {
     if value.0 == 0 {
-        AttributeAnswer::Told(Verdict::Valid)
-    } else {
-        let kind = kind_of(records, value);
-        let holds = number(tape, row, 0);
-        if kind == OBJECT_KIND {
-            if holds == 0 {
-                let block = block_at(tape, row);
-                AttributeAnswer::Nested {
-                    object: value,
-                    block,
-                }
-            } else {
-                AttributeAnswer::Told(fails(UNSUITED, value, number(tape, row, 3)))
-            }
-        } else if holds == 0 {
-            AttributeAnswer::Told(fails(UNSUITED, value, number(tape, row, 3)))
-        } else {
-            AttributeAnswer::Told(judge_leaf(records, pool, s, tape, rows, memo, value, row))
-        }
+        return Ok(None);
     }
+    let takes_block = kind_of(records, value) == OBJECT_KIND;
+    let holds_block = number(tape, row, 0) == 0;
+    if takes_block != holds_block {
+        return Err(Reason::Unsuited.at(value, number(tape, row, 3)));
+    }
+    if holds_block {
+        return Ok(Some(Nested {
+            object: value,
+            block: block_at(tape, row),
+        }));
+    }
+    judge_leaf(records, pool, s, tape, rows, memo, value, row)?;
+    Ok(None)
 }
 
-// The members of a block, by the attribute with a number.
+// The members of a block, by the attribute with a number: a block inside it that is still to be judged, if there is one.
 pub fn judge_attribute(
     records: &[u8],
     pool: &[u8],
@@ -193,7 +206,7 @@ pub fn judge_attribute(
     n: RecordNumber,
     e: Entry,
     block: Block,
-) -> AttributeAnswer
+) -> Result<Option<Nested>, Failure>
     requires walk { Walk records.now pool.now s.now tape.now rows }
     requires attribute_at { AttributeAt records.now pool.now n.0 e }
     requires begins { Begins rows block.first block.inside }
@@ -203,21 +216,10 @@ pub fn judge_attribute(
     ensures attribute_answer_is { AttributeAnswerIs (image_from records.now pool.now) s.now rows
         tape.now n.0 block result }
 {
-    let flag = e.flag;
     match find_member(s, tape, rows, block.first, block.inside, name_of(pool, e)) {
-        Found::Nothing => {
-            if flag == REQUIRED {
-                AttributeAnswer::Told(fails(MISSING, n, block.place))
-            } else {
-                AttributeAnswer::Told(Verdict::Valid)
-            }
-        }
-        Found::At(row) => {
-            if flag == PROHIBITED {
-                AttributeAnswer::Told(fails(PRESENT, n, number(tape, row, 3)))
-            } else {
-                judge_value(records, pool, s, tape, rows, memo, RecordNumber(e.c), row)
-            }
-        }
+        None if e.flag == REQUIRED => Err(Reason::Missing.at(n, block.place)),
+        None => Ok(None),
+        Some(row) if e.flag == PROHIBITED => Err(Reason::Present.at(n, number(tape, row, 3))),
+        Some(row) => judge_value(records, pool, s, tape, rows, memo, RecordNumber(e.c), row),
     }
 }

@@ -18,8 +18,7 @@ use Rattle.dadl.specs.Clauses.Rows.{row_at, TapeGood, linked, walked}
 use Rattle.dadl.specs.Clauses.Answers.{name_at, NameLies}
 use Rattle.dadl.proofs.TapeLaws.{number_at}
 use Rattle.dadl.proofs.GoodTapes.{good_step}
-use Rattle.judge_tape.specs.declared.members.Found.TheVariants.{At, Nothing}
-use Rattle.judge_tape.specs.Clauses.Rows.{content_on, found_row, row_from, member_row, Begins, LeafRow}
+use Rattle.judge_tape.specs.Clauses.Rows.{content_on, row_from, member_row, Begins, LeafRow}
 
 -- a number of a row, as it is read
 pub number_read : (tape : List ℕ) (n i r : ℕ) → i < row_size → r ≡ get_or tape (row_size * n + i) 0
@@ -76,7 +75,7 @@ module _ (s tape : List ℕ) (rows first inside : ℕ) (name : List ℕ) (n : �
   name_at_lem = rw (number_at tape n 1 (omega arith), number_at tape n 2 (omega arith))
 
   module _ (w : List ℕ) (ew : w ≡ name_at s tape n) (r : Bool) (er : r ≡ same name w) where
-    pub rows_found : r ≡ true → found_row (At n) ≡ member_row s tape rows first inside name
+    pub rows_found : r ≡ true → Some n ≡ member_row s tape rows first inside name
     rows_found h = ap (λ b. either b now_or_later.0 (row_number (row_at tape n) 8)) (sym h ∙ er ∙ ap (same name) (ew ∙ name_at_lem)) ∙ now_or_later.2
 
     module _ (h : r ≡ false) (next : ℕ) (en : next ≡ row_number (row_at tape n) 8) where
@@ -84,7 +83,7 @@ module _ (s tape : List ℕ) (rows first inside : ℕ) (name : List ℕ) (n : �
           ≡ member_row s tape rows first inside name
       later = ap₂ (λ b k. either b now_or_later.0 k) (sym h ∙ er ∙ ap (same name) (ew ∙ name_at_lem)) en ∙ now_or_later.2
 
-      pub rows_end : next ≡ 0 → found_row Nothing ≡ member_row s tape rows first inside name
+      pub rows_end : next ≡ 0 → None ≡ member_row s tape rows first inside name
       rows_end z = rw z at later
 
       module _ (z : next ≡ 0 → ⊥) where
@@ -148,5 +147,5 @@ module _ (s : List ℕ) (rows : ℕ) (tape : List ℕ) (n start end : ℕ) (g : 
   pub value_order : start ≤ end
   value_order = let r = (g.rows n l.there).value l.leaf in omega arith
 
-  pub value-ends : end ≤ length s
-  value-ends = let r = (g.rows n l.there).value l.leaf in omega arith
+  pub value_ends : end ≤ length s
+  value_ends = let r = (g.rows n l.there).value l.leaf in omega arith

@@ -2,17 +2,10 @@
 ghost use Rattle.std.specs.Prelude.{◌≡◌, ◌+◌, ◌*◌, ◌≤◌, ◌<◌, length};
 ghost use Rattle.dadl.specs.Clauses.Tape.{row_size, row_number};
 ghost use Rattle.dadl.specs.Clauses.Rows.{row_at, TapeGood};
-ghost use Rattle.judge_tape.specs.Clauses.Rows.{Begins, found_row, member_row};
+ghost use Rattle.judge_tape.specs.Clauses.Rows.{Begins, member_row};
 
 use dadl::rows::row_name;
 use lexis::runs::same_bytes;
-
-// The row of the member that was sought, or that there is none.
-#[derive(Clone, Copy)]
-pub enum Found {
-    At(usize),
-    Nothing,
-}
 
 // A block: the place of its `<`, its type, 0 and 0 where it has none, the row of its first member, and the number of
 // rows inside it, 0 where it has no member.
@@ -43,23 +36,23 @@ pub fn find_member(
     first: usize,
     inside: usize,
     name: &[u8],
-) -> Found
+) -> Option<usize>
     requires tape_good { TapeGood (length s.now) rows tape.now }
     requires begins { Begins rows first inside }
-    ensures { found_row result
+    ensures { result
         ≡ member_row s.now tape.now rows first inside name.now }
 {
     if inside == 0 {
-        return Found::Nothing;
+        return None;
     }
     let mut n = first;
     loop {
         if same_bytes(name, row_name(s, tape, n)) {
-            return Found::At(n);
+            return Some(n);
         }
         let next = number(tape, n, 8);
         if next == 0 {
-            return Found::Nothing;
+            return None;
         }
         n = next;
     }

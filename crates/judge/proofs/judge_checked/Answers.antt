@@ -11,7 +11,8 @@ pub kind_at-requires : goal.kind_at-requires
 kind_at-requires c = search sound_open
 
 pub returns-then-kind_at-ne-OBJECT_KIND : goal.returns-then-kind_at-ne-OBJECT_KIND
-returns-then-kind_at-ne-OBJECT_KIND c = root_none _ _ _ c.requires _ c.frame_of-frame.ensures _ c.kind_at.ensures c.if-kind_at-ne-OBJECT_KIND.true
+returns-then-kind_at-ne-OBJECT_KIND c =
+    rw c.at.ensures (root_none _ _ _ c.requires _ c.frame_of-frame.ensures _ c.kind_at.ensures c.if-kind_at-ne-OBJECT_KIND.true)
 
 pub slice_bounds-records-end : goal.slice_bounds-records-end
 slice_bounds-records-end c = search records_end

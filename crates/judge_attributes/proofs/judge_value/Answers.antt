@@ -1,25 +1,34 @@
 -- `judge_attributes::judge_value` meets its contract. Assumes nothing.
-use borrow.Author.Rules.{rules}
-use Rattle.judge_attributes.proofs.AttributeSteps.{value_any, value_lies, value_some, value_nested, value-leaf, value_block, value-items, value_row, value-judged}
+use Rattle.std.proofs.lemmas.Result.{err_from_is_err_and}
+use Rattle.judge_attributes.proofs.AttributeSteps.{value_any, value_lies, value_some, value_nested, value_unsuited, value_items, value_row, value_admitted, value_fails}
 use Rattle.judge_attributes.proofs.judge_value.Goals as goal
 
-pub kind_of-kind-requires : goal.kind_of-kind-requires
-kind_of-kind-requires c = search value_lies
+pub kind_of-takes_block-requires : goal.kind_of-takes_block-requires
+kind_of-takes_block-requires c = search value_lies
 
-pub judge_leaf-requires : goal.judge_leaf-requires
-judge_leaf-requires c = record { walk = search rules; items_good = search value-items; le_first = search value_some; leaf_row = search value_row; memo_good = search rules }
+pub returns-then-value-eq0-clause-value_is : goal.returns-then-value-eq0-clause-value_is
+returns-then-value-eq0-clause-value_is c = search value_any
 
-pub returns-then-value-eq0 : goal.returns-then-value-eq0
-returns-then-value-eq0 c = record { memo_good_2 = search rules; value_is = search (value_any, value_nested, value-leaf, value_block, value-judged) }
+pub returns-then-takes_block-holds_block-clause-value_is : goal.returns-then-takes_block-holds_block-clause-value_is
+returns-then-takes_block-holds_block-clause-value_is c = search value_unsuited
 
-pub returns-then-holds-eq0 : goal.returns-then-holds-eq0
-returns-then-holds-eq0 c = record { memo_good_2 = search rules; value_is = search (value_any, value_nested, value-leaf, value_block, value-judged) }
+pub returns-then-holds_block-clause-value_is : goal.returns-then-holds_block-clause-value_is
+returns-then-holds_block-clause-value_is c = search value_nested
 
-pub returns-else-holds-eq0 : goal.returns-else-holds-eq0
-returns-else-holds-eq0 c = record { memo_good_2 = search rules; value_is = search (value_any, value_nested, value-leaf, value_block, value-judged) }
+pub judge_leaf-requires-clause-items_good : goal.judge_leaf-requires-clause-items_good
+judge_leaf-requires-clause-items_good c = search value_items
 
-pub returns-then-holds-eq0-2 : goal.returns-then-holds-eq0-2
-returns-then-holds-eq0-2 c = record { memo_good_2 = search rules; value_is = search (value_any, value_nested, value-leaf, value_block, value-judged) }
+pub judge_leaf-requires-clause-leaf_row : goal.judge_leaf-requires-clause-leaf_row
+judge_leaf-requires-clause-leaf_row c = search value_row
 
-pub returns-else-holds-eq0-2 : goal.returns-else-holds-eq0-2
-returns-else-holds-eq0-2 c = record { memo_good_2 = search rules; value_is = search (value_any, value_nested, value-leaf, value_block, value-judged) }
+pub judge_leaf-requires-clause-le_first : goal.judge_leaf-requires-clause-le_first
+judge_leaf-requires-clause-le_first c = search value_some
+
+pub returns-in_err-judge_leaf-clause-value_is : goal.returns-in_err-judge_leaf-clause-value_is
+returns-in_err-judge_leaf-clause-value_is c =
+    let p = err_from_is_err_and c.from_residual.result c.from_residual.ensures.1 in
+    let e = c.in_err-judge_leaf.ensures.result_value in
+    rw (p.1, p.2) (search value_fails)
+
+pub returns-clause-value_is : goal.returns-clause-value_is
+returns-clause-value_is c = let e = c.in_ok-judge_leaf.ensures.result_value in search value_admitted

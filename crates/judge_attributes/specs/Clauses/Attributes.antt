@@ -1,5 +1,8 @@
 -- What an attribute tells of a block: a verdict, or a block inside it that is still to be judged. Assumes nothing.
 use Rattle.std.specs.Prelude.{◌≡◌, true, List, ◌∷◌, ℕ, ◌<◌, length}
+use Rattle.std.specs.Prelude.{Option, None, Some}
+use Rattle.std.specs.declared.result.Result.{Result}
+use Rattle.std.specs.declared.result.Result.TheVariants.{Ok, Err}
 use Rattle.lexis.specs.Bytes.{among}
 use Rattle.meaning.specs.Constraints.{Attributes, attribute}
 use Rattle.meaning.specs.Constraints
@@ -16,10 +19,10 @@ use Rattle.table.specs.Clauses.Answers.{record_of}
 use Rattle.table.specs.declared.records.Entry.{Entry}
 use Rattle.judge_admission.specs.Clauses.Items.{image_from}
 use Rattle.judge_tape.specs.Clauses.Rows.{content_on, members_on, datum_on, BlockGood, OfRow, MembersWithin, ContentWithin, DatumWithin}
-use Rattle.judge_attributes.specs.Clauses.Answers.{verdict_in}
+use Rattle.judge_attributes.specs.Clauses.Answers.{failed}
 use Rattle.judge_tape.specs.declared.members.Block.{Block}
-use Rattle.judge_attributes.specs.declared.AttributeAnswer.{AttributeAnswer}
-use Rattle.judge_attributes.specs.declared.AttributeAnswer.TheVariants.{Told, Nested}
+use Rattle.judge_attributes.specs.declared.Failure.{Failure}
+use Rattle.judge_attributes.specs.declared.Nested.{Nested}
 
 -- the first of attributes alone
 abbrev pub judge_first : Attributes → ℕ → Members → Verdicts.Verdict
@@ -41,23 +44,31 @@ module _ (m : Image) (s : List ℕ) (rows : ℕ) (tape : List ℕ) where
   block_under n b = judge_value (value_in (tree_at m n)) (Data.block (datum_on s rows tape b))
 
   -- the verdict that a step tells, or that of the block that it leads into
-  abbrev pub step_verdict : AttributeAnswer → Verdicts.Verdict
-  step_verdict (Told v) = verdict_in v
-  step_verdict (Nested object b) = block_under object.0 b
+  abbrev pub nested_verdict : Option Nested → Verdicts.Verdict
+  nested_verdict None = valid
+  nested_verdict (Some x) = block_under x.object.0 x.block
+
+  abbrev pub step_verdict : Result (Option Nested) Failure → Verdicts.Verdict
+  step_verdict (Ok x) = nested_verdict x
+  step_verdict (Err f) = failed f
 
   -- a block that a step leads into is under an object, is a row's and can be walked, and is no deeper than what holds it
-  abbrev pub Leads : (ℕ → Type 0) → AttributeAnswer → Type 0
-  Leads Deep (Told v) = Unit {0}
-  Leads Deep (Nested object b) =
-      (kind_at m object.0 ≡ 1) × BlockGood (length s) rows b × OfRow rows tape b
-      × ((levels : ℕ) → Deep levels → DatumWithin (datum_on s rows tape b) levels)
+  abbrev pub LeadsInto : (ℕ → Type 0) → Option Nested → Type 0
+  LeadsInto Deep None = Unit {0}
+  LeadsInto Deep (Some x) =
+      (kind_at m x.object.0 ≡ 1) × BlockGood (length s) rows x.block × OfRow rows tape x.block
+      × ((levels : ℕ) → Deep levels → DatumWithin (datum_on s rows tape x.block) levels)
+
+  abbrev pub Leads : (ℕ → Type 0) → Result (Option Nested) Failure → Type 0
+  Leads Deep (Ok x) = LeadsInto Deep x
+  Leads Deep (Err f) = Unit {0}
 
   -- the value of a member, which has a row, by the object or the items with a number
-  pub record ValueIs (value row : ℕ) (r : AttributeAnswer) : Type 0 where
+  pub record ValueIs (value row : ℕ) (r : Result (Option Nested) Failure) : Type 0 where
     pub is : step_verdict r ≡ judge_value (value_in (tree_at m value)) (content_on s rows tape row)
     pub leads : Leads (λ levels. ContentWithin (content_on s rows tape row) levels) r
 
   -- the members of a block by the attribute with a number
-  pub record AttributeAnswerIs (n : ℕ) (b : Block) (r : AttributeAnswer) : Type 0 where
+  pub record AttributeAnswerIs (n : ℕ) (b : Block) (r : Result (Option Nested) Failure) : Type 0 where
     pub is : step_verdict r ≡ judge_first (attributes_in (tree_at m n)) b.place (members_on s rows tape b)
     pub leads : Leads (λ levels. MembersWithin (members_on s rows tape b) levels) r

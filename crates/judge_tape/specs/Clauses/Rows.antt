@@ -7,8 +7,6 @@ use Rattle.meaning.specs.Data
 use Rattle.dadl.specs.Clauses.Tape.{row_number, content_in, HoldsBlock, HoldsLeaf}
 use Rattle.dadl.specs.Clauses.Rows.{row_at, TapeGood, linked}
 use Rattle.judge_admission.specs.Clauses.Items.{TableGood}
-use Rattle.judge_tape.specs.declared.members.Found.{Found}
-use Rattle.judge_tape.specs.declared.members.Found.TheVariants.{At, Nothing}
 use Rattle.judge_tape.specs.declared.members.Block.{Block}
 
 -- a text's type by its two places, none where the second is 0
@@ -26,11 +24,6 @@ module _ (s : List ℕ) (rows : ℕ) (tape : List ℕ) where
 
   abbrev pub datum_on : Block → Datum
   datum_on b = datum b.place (type_on s b.type_start b.type_end) (members_on b)
-
--- the row that was found
-abbrev pub found_row : Found → Option ℕ
-found_row (At n) = Some n
-found_row Nothing = None
 
 -- the row of the first member with a name, of the members from row n on, from link to link; `fuel` bounds how many
 unfoldable pub row_from : List ℕ → List ℕ → List ℕ → ℕ → ℕ → Option ℕ

@@ -4,6 +4,7 @@ use mathlib.Core.Bool.{not}
 use Prim.Native.Nat.{ℕ}
 use lib.Dec.{lit<}
 use lib.ListN.{length-replicate}
+use Rattle.std.proofs.lemmas.Result.{err_from_is_err_and}
 use Rattle.judge.proofs.WalkSteps.{memo_effort, object_lies, object_name, visit_small, type_differs_lem, attributes-start, visit_near, attributes_end, attributes_chain, attributes_known, attribute_lies, attribute_at, attribute_less, told_valid, told_fails, levels_some, levels_fall, memo_fall, nested_under, nested_valid, nested_fails}
 use Rattle.judge_tape.proofs.MemoLaws.{memo_zeros}
 use Rattle.judge.proofs.walk.+judge_block_judge_with_memo.Goals as goal
@@ -44,24 +45,22 @@ judge_block-judge_attribute-requires-clause-attribute_at t c =
 pub judge_block-judge_attribute-requires-clause-memo_good : goal.judge_block-judge_attribute-requires-clause-memo_good
 judge_block-judge_attribute-requires-clause-memo_good t c = c.loop-object.invariant.known
 
-pub judge_block-loop-object-smaller-in-Valid : goal.judge_block-loop-object-smaller-in-Valid
-judge_block-loop-object-smaller-in-Valid t c =
-    attribute_less _ _ _ _ _ _ _ _ _ _ _ _ _ c.loop-object.invariant _ c.is_admitted.ensures (ap not c.loop-object-test.true) _ c.entry_at-a.ensures
-
-pub judge_block-loop-object-preserved-in-Valid : goal.judge_block-loop-object-preserved-in-Valid
-judge_block-loop-object-preserved-in-Valid t c =
-    told_valid _ _ _ _ _ _ _ _ _ _ _ _ _ c.loop-object.invariant _ c.is_admitted.ensures (ap not c.loop-object-test.true) _ c.entry_at-a.ensures _ c.judge_attribute.ensures.attribute_answer_is _ c.judge_attribute.ensures.memo_good_2 c.judge_attribute.auto.memo _ c.in-Told.is c.in-Valid.is
-
-pub judge_block-returns-in-Fails-clause-result_value : goal.judge_block-returns-in-Fails-clause-result_value
-judge_block-returns-in-Fails-clause-result_value t c =
-    told_fails _ _ _ _ _ _ _ _ _ _ _ _ _ c.loop-object.invariant _ c.is_admitted.ensures (ap not c.loop-object-test.true) _ c.entry_at-a.ensures _ c.judge_attribute.ensures.attribute_answer_is _ c.judge_attribute.ensures.memo_good_2 c.judge_attribute.auto.memo _ _ c.in-Told.is c.in-Fails.is
+pub judge_block-returns-in_err-inner-clause-result_value : goal.judge_block-returns-in_err-inner-clause-result_value
+judge_block-returns-in_err-inner-clause-result_value t c =
+    let p = err_from_is_err_and c.from_residual.result c.from_residual.ensures.1 in
+    rw (p.1, p.2) (told_fails _ _ _ _ _ _ _ _ _ _ _ _ _ c.loop-object.invariant _ c.is_admitted.ensures (ap not c.loop-object-test.true) _ c.entry_at-a.ensures _ c.judge_attribute.ensures.attribute_answer_is _ c.judge_attribute.ensures.memo_good_2 c.judge_attribute.auto.memo _ c.in_err-inner.was)
 
 pub judge_block-overflow_sub-levels : goal.judge_block-overflow_sub-levels
 judge_block-overflow_sub-levels t c = levels_some _ _ _ _ _ _ _ _ _ _ _ _ _ c.loop-object.invariant
 
 pub judge_block-judge_block-requires : goal.judge_block-judge_block-requires
 judge_block-judge_block-requires t c =
-    (levels_fall _ _ _ _ _ _ _ _ _ _ _ _ _ c.loop-object.invariant _ _ t c.decreases, (nested_under _ _ _ _ _ _ _ _ _ _ _ _ _ c.loop-object.invariant _ c.is_admitted.ensures (ap not c.loop-object-test.true) _ c.entry_at-a.ensures _ c.judge_attribute.ensures.attribute_answer_is _ c.judge_attribute.ensures.memo_good_2 c.judge_attribute.auto.memo _ _ c.in-Nested.is, c.judge_attribute.ensures.memo_good_2))
+    (levels_fall _ _ _ _ _ _ _ _ _ _ _ _ _ c.loop-object.invariant _ _ t c.decreases, (nested_under _ _ _ _ _ _ _ _ _ _ _ _ _ c.loop-object.invariant _ c.is_admitted.ensures (ap not c.loop-object-test.true) _ c.entry_at-a.ensures _ c.judge_attribute.ensures.attribute_answer_is _ c.judge_attribute.ensures.memo_good_2 c.judge_attribute.auto.memo _ _ c.in_ok-inner.was c.in-Some.is, c.judge_attribute.ensures.memo_good_2))
+
+pub judge_block-returns-in_err-judge_block-clause-result_value : goal.judge_block-returns-in_err-judge_block-clause-result_value
+judge_block-returns-in_err-judge_block-clause-result_value t c =
+    let p = err_from_is_err_and c.from_residual-in_err-judge_block.result c.from_residual-in_err-judge_block.ensures.1 in
+    rw (p.1, p.2) (nested_fails _ _ _ _ _ _ _ _ _ _ _ _ _ c.loop-object.invariant _ c.is_admitted.ensures (ap not c.loop-object-test.true) _ c.entry_at-a.ensures _ c.judge_attribute.ensures.attribute_answer_is _ c.judge_attribute.ensures.memo_good_2 c.judge_attribute.auto.memo _ _ c.in_ok-inner.was c.in-Some.is _ c.in_err-judge_block.ensures.result_value)
 
 pub judge_block-loop-object-smaller : goal.judge_block-loop-object-smaller
 judge_block-loop-object-smaller t c =
@@ -69,11 +68,15 @@ judge_block-loop-object-smaller t c =
 
 pub judge_block-loop-object-preserved : goal.judge_block-loop-object-preserved
 judge_block-loop-object-preserved t c =
-    nested_valid _ _ _ _ _ _ _ _ _ _ _ _ _ c.loop-object.invariant _ c.is_admitted.ensures (ap not c.loop-object-test.true) _ c.entry_at-a.ensures _ c.judge_attribute.ensures.attribute_answer_is _ c.judge_attribute.ensures.memo_good_2 c.judge_attribute.auto.memo _ _ c.in-Nested.is _ c.judge_block.ensures.result_value c.in-Valid-judge_block.is _ c.judge_block.ensures.memo_good_2 c.judge_block.auto.memo
+    told_valid _ _ _ _ _ _ _ _ _ _ _ _ _ c.loop-object.invariant _ c.is_admitted.ensures (ap not c.loop-object-test.true) _ c.entry_at-a.ensures _ c.judge_attribute.ensures.attribute_answer_is _ c.judge_attribute.ensures.memo_good_2 c.judge_attribute.auto.memo _ c.in_ok-inner.was c.in_default.is
 
-pub judge_block-returns-in-Fails-judge_block-clause-result_value : goal.judge_block-returns-in-Fails-judge_block-clause-result_value
-judge_block-returns-in-Fails-judge_block-clause-result_value t c =
-    nested_fails _ _ _ _ _ _ _ _ _ _ _ _ _ c.loop-object.invariant _ c.is_admitted.ensures (ap not c.loop-object-test.true) _ c.entry_at-a.ensures _ c.judge_attribute.ensures.attribute_answer_is _ c.judge_attribute.ensures.memo_good_2 c.judge_attribute.auto.memo _ _ c.in-Nested.is _ c.judge_block.ensures.result_value _ c.in-Fails-judge_block.is
+pub judge_block-loop-object-smaller-in_ok-judge_block : goal.judge_block-loop-object-smaller-in_ok-judge_block
+judge_block-loop-object-smaller-in_ok-judge_block t c =
+    attribute_less _ _ _ _ _ _ _ _ _ _ _ _ _ c.loop-object.invariant _ c.is_admitted.ensures (ap not c.loop-object-test.true) _ c.entry_at-a.ensures
+
+pub judge_block-loop-object-preserved-in_ok-judge_block : goal.judge_block-loop-object-preserved-in_ok-judge_block
+judge_block-loop-object-preserved-in_ok-judge_block t c =
+    nested_valid _ _ _ _ _ _ _ _ _ _ _ _ _ c.loop-object.invariant _ c.is_admitted.ensures (ap not c.loop-object-test.true) _ c.entry_at-a.ensures _ c.judge_attribute.ensures.attribute_answer_is _ c.judge_attribute.ensures.memo_good_2 c.judge_attribute.auto.memo _ _ c.in_ok-inner.was c.in-Some.is c.in_ok-judge_block.ensures.result_value _ c.judge_block.ensures.memo_good_2 c.judge_block.auto.memo
 
 pub judge_block-mark_chain-requires-clause-chain_good : goal.judge_block-mark_chain-requires-clause-chain_good
 judge_block-mark_chain-requires-clause-chain_good t c = search attributes_chain

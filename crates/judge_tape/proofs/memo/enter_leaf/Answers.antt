@@ -1,6 +1,6 @@
 -- `judge_tape::memo::enter_leaf` meets its contract. Assumes nothing.
 use borrow.Author.Rules.{rules}
-use Rattle.judge_tape.proofs.MemberSteps.{value_order, value-ends}
+use Rattle.judge_tape.proofs.MemberSteps.{value_order, value_ends}
 use Rattle.judge_tape.proofs.ListSteps.{row_listing, row-marked, leaf_again, leaf_first}
 use Rattle.judge_tape.proofs.memo.enter_leaf.Goals as goal
 
@@ -14,7 +14,7 @@ pub slice_bounds-mark_items-start : goal.slice_bounds-mark_items-start
 slice_bounds-mark_items-start c = search value_order
 
 pub slice_bounds-mark_items-end : goal.slice_bounds-mark_items-end
-slice_bounds-mark_items-end c = search value-ends
+slice_bounds-mark_items-end c = search value_ends
 
 pub mark_items-requires : goal.mark_items-requires
 mark_items-requires c = search row_listing
