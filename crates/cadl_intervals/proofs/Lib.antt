@@ -2,4 +2,3 @@
 pub mod Pairs
 pub mod IntervalParts
 pub mod IntervalReading
-pub mod IntervalSteps

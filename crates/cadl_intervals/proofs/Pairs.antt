@@ -14,7 +14,8 @@ use Rattle.lexis.specs.Tokens.{integer, date}
 use Rattle.lexis.proofs.Cases.{by_cond}
 use Rattle.values.specs.Integers.{Pair, pair, inside, around, greatest}
 use Rattle.values.specs.Calendar.{real, day_after, day_before, last_day, month_days, leap}
-use Rattle.values.specs.Dates.{Date, date_of}
+use Rattle.values.specs.declared.dates.Date.{Date}
+use Rattle.values.specs.Dates.{date_of}
 use Rattle.values.proofs.IntegerLaws.{integer_in_range, around-ends}
 use Rattle.values.proofs.CalendarLaws.{real_first, real_last, after_follows, before_follows, nearest_before, after_last}
 use Rattle.values.proofs.DateLaws.{date-good}

@@ -9,7 +9,8 @@ use Rattle.lexis.specs.declared.Token.{Token}
 use Rattle.values.specs.Integers.{integer_of, Pair, pair, inside, around}
 use Rattle.values.specs.Integers
 use Rattle.values.specs.Calendar.{day_after, day_before, first_day, last_day}
-use Rattle.values.specs.Dates.{Date, date_of}
+use Rattle.values.specs.declared.dates.Date.{Date}
+use Rattle.values.specs.Dates.{date_of}
 use Rattle.refusals.specs.declared.Cause.TheVariants.{Impossible, OutOfRange, EmptyInterval}
 use Rattle.refusals.specs.Refusals.{refusal}
 use Rattle.refusals.specs.Parsing.{Parse, flawed, parsed, and_then, soundly, noting, syntax, wanted}

@@ -1,14 +1,15 @@
 // Intervals: their ends as they are written, and the closed pair that they become.
 ghost use Rattle.std.specs.Prelude.{◌≡◌, ◌≤◌, length};
-ghost use Rattle.cadl_intervals.specs.Intervals.{undecided, kind_by, least, most, after, before, ends, empty, closed};
+ghost use Rattle.std.specs.declared.result.Result.TheVariants.{Ok};
+ghost use Rattle.cadl_intervals.specs.Intervals.{kind_by, least, most, after, before, empty, closed};
 ghost use Rattle.cadl_intervals.specs.Clauses.Told.{up_to, above, spread, from, with_literal, between, interval};
-ghost use Rattle.cadl_intervals.specs.Clauses.Answers.{HasAfter, HasBefore, ends_reading, high_end, ends_by, opens_ends, At, Closable, NotEmpty, shut, interval_reading, IntervalIs, closing};
+ghost use Rattle.cadl_intervals.specs.Clauses.Answers.{HasAfter, HasBefore, ends_of, ends_reading, ends_by, opens_ends, At, NotEmpty, shut, interval_reading, IntervalIs};
 ghost use Rattle.refusals.specs.Reading.{got};
 
-use crate::literals::{LiteralRead, literal};
+use crate::literals::read_literal;
 use lexis::tokens::token_at;
 use lexis::{AT_LEAST, AT_MOST, BAR, DATE, DOTS, GREATER, INTEGER, LESS, PLUS_MINUS, Token};
-use refusals::steps::{Expected, expect, syntax_fault};
+use refusals::steps::{expect, syntax_fault};
 use refusals::{Cause, Refusal};
 use values::calendar::{day_after, day_before};
 use values::integers::{GREATEST, around, inside};
@@ -21,37 +22,29 @@ const FIRST_DAY: u32 = 101;
 
 const LAST_DAY: u32 = 99_991_231;
 
-// An interval's kind, its low end, its high end or, where `below` says so, the value that it must stay below, and the place
-// behind them, or the refusal before it. A low end that is moved may lie behind the range's end.
+// A high end: the greatest value, or the value that all stay below.
 #[derive(Clone, Copy)]
-pub enum EndsRead {
-    Faulty(Refusal),
-    Ends {
-        kind: u8,
-        low: u64,
-        high: u32,
-        below: bool,
-        next: usize,
-    },
+enum High {
+    At(u32),
+    Below(u32),
 }
 
-// An interval's kind, its closed pair and the place behind it, or its refusal.
+// An interval's kind, its ends and the place behind them. A low end that is moved may lie behind the range's end.
 #[derive(Clone, Copy)]
-pub enum IntervalRead {
-    Faulty(Refusal),
-    Interval {
-        kind: u8,
-        low: u32,
-        high: u32,
-        next: usize,
-    },
+struct Ends {
+    kind: u8,
+    low: u64,
+    high: High,
+    next: usize,
 }
 
-// A value as a low end.
-fn wide(a: u32) -> u64
-    ensures { result ≡ a }
-{
-    a as u64
+// An interval's kind, its closed pair and the place behind it.
+#[derive(Clone, Copy)]
+pub struct Interval {
+    pub kind: u8,
+    pub low: u32,
+    pub high: u32,
+    pub next: usize,
 }
 
 // The kind of a list: that of its first literal, where it is open.
@@ -59,12 +52,12 @@ fn kind_by(kind: u8, t: Token) -> u8
     ensures { result ≡ kind_by kind t }
 {
     if kind != UNDECIDED {
-        return kind;
+        kind
+    } else if t.sort == DATE {
+        DATE
+    } else {
+        INTEGER
     }
-    if t.sort == DATE {
-        return DATE;
-    }
-    INTEGER
 }
 
 // The least value of a kind.
@@ -87,9 +80,9 @@ fn after(kind: u8, a: u32) -> u64
     ensures { result ≡ after kind a }
 {
     if kind != DATE {
-        return wide(a) + 1;
+        return u64::from(a) + 1;
     }
-    wide(day_after(a))
+    u64::from(day_after(a))
 }
 
 // The value before another.
@@ -97,47 +90,35 @@ fn before(kind: u8, b: u32) -> u32
     requires { HasBefore kind b }
     ensures { result ≡ before kind b }
 {
-    if kind == DATE {
-        return day_before(b);
-    }
-    b - 1
-}
-
-// A literal as the high end.
-fn high_end(s: &[u8], kind: u8, low: u64, below: bool, from: usize) -> EndsRead
-    requires { from ≤ length s.now }
-    ensures { ends_reading result ≡ high_end s.now kind low below from }
-{
-    match literal(s, kind, from) {
-        LiteralRead::Faulty(fault) => {
-            return EndsRead::Faulty(fault);
-        }
-        LiteralRead::Literal { value, next } => {
-            return EndsRead::Ends {
-                kind,
-                low,
-                high: value,
-                below,
-                next,
-            };
-        }
-    }
+    if kind == DATE { day_before(b) } else { b - 1 }
 }
 
 // The high end behind `..`.
-fn up_to(s: &[u8], kind: u8, low: u64, from: usize) -> EndsRead
+fn up_to(s: &[u8], kind: u8, low: u64, from: usize) -> Result<Ends, Refusal>
     requires { from ≤ length s.now }
     ensures { ends_reading result ≡ up_to s.now kind low from }
 {
     let t = token_at(s, from);
     if t.sort == LESS {
-        return high_end(s, kind, low, true, t.end);
+        let b = read_literal(s, kind, t.end)?;
+        return Ok(Ends {
+            kind,
+            low,
+            high: High::Below(b.value),
+            next: b.next,
+        });
     }
-    high_end(s, kind, low, false, from)
+    let b = read_literal(s, kind, from)?;
+    Ok(Ends {
+        kind,
+        low,
+        high: High::At(b.value),
+        next: b.next,
+    })
 }
 
 // What stands behind `|>a`.
-fn above(s: &[u8], kind: u8, a: u32, from: usize) -> EndsRead
+fn above(s: &[u8], kind: u8, a: u32, from: usize) -> Result<Ends, Refusal>
     requires has_after { HasAfter kind a }
     requires from_in_bounds { from ≤ length s.now }
     ensures { ends_reading result ≡ above s.now kind a from }
@@ -147,138 +128,107 @@ fn above(s: &[u8], kind: u8, a: u32, from: usize) -> EndsRead
     if t.sort == DOTS {
         return up_to(s, kind, low, t.end);
     }
-    let high = most(kind);
-    EndsRead::Ends {
+    Ok(Ends {
         kind,
         low,
-        high,
-        below: false,
+        high: High::At(most(kind)),
         next: from,
-    }
+    })
 }
 
 // The d of `+/-`.
-fn spread(s: &[u8], a: u32, from: usize) -> EndsRead
+fn spread(s: &[u8], a: u32, from: usize) -> Result<Ends, Refusal>
     requires { from ≤ length s.now }
     ensures { ends_reading result ≡ spread s.now a from }
 {
     let t = token_at(s, from);
-    match literal(s, INTEGER, from) {
-        LiteralRead::Faulty(fault) => {
-            return EndsRead::Faulty(fault);
-        }
-        LiteralRead::Literal { value, next } => {
-            if !inside(a, value) {
-                return EndsRead::Faulty(Refusal {
-                    cause: Cause::OutOfRange,
-                    place: t.start,
-                });
-            }
-            let e = around(a, value);
-            let low = wide(e.low);
-            return EndsRead::Ends {
-                kind: INTEGER,
-                low,
-                high: e.high,
-                below: false,
-                next,
-            };
-        }
+    let d = read_literal(s, INTEGER, from)?;
+    if !inside(a, d.value) {
+        return Err(Cause::OutOfRange.at(t.start));
     }
+    let ends = around(a, d.value);
+    Ok(Ends {
+        kind: INTEGER,
+        low: u64::from(ends.low),
+        high: High::At(ends.high),
+        next: d.next,
+    })
 }
 
 // What stands behind `|a`.
-fn behind(s: &[u8], kind: u8, a: u32, at: usize) -> EndsRead
+fn behind(s: &[u8], kind: u8, a: u32, at: usize) -> Result<Ends, Refusal>
     requires { at ≤ length s.now }
     ensures { ends_reading result ≡ from s.now kind a at }
 {
     let t = token_at(s, at);
     if t.sort == PLUS_MINUS {
         if kind == DATE {
-            let fault = syntax_fault(t);
-            return EndsRead::Faulty(fault);
+            return Err(syntax_fault(t));
         }
         return spread(s, a, t.end);
     }
-    let low = wide(a);
+    let low = u64::from(a);
     if t.sort == DOTS {
         return up_to(s, kind, low, t.end);
     }
-    EndsRead::Ends {
+    Ok(Ends {
         kind,
         low,
-        high: a,
-        below: false,
+        high: High::At(a),
         next: at,
-    }
+    })
 }
 
 // What a literal behind a mark, or behind none, makes.
-fn ends_by(s: &[u8], mark: u8, kind: u8, a: u32, at: usize) -> EndsRead
+fn ends_by(s: &[u8], mark: u8, kind: u8, a: u32, next: usize) -> Result<Ends, Refusal>
     requires has_after { HasAfter kind a }
-    requires at_in_bounds { at ≤ length s.now }
-    ensures { ends_reading result ≡ ends_by s.now mark kind a at }
+    requires next_in_bounds { next ≤ length s.now }
+    ensures { ends_reading result ≡ ends_by s.now mark kind a next }
 {
-    let low = wide(least(kind));
+    let low = u64::from(least(kind));
     match mark {
-        GREATER => above(s, kind, a, at),
-        LESS => EndsRead::Ends {
+        GREATER => above(s, kind, a, next),
+        LESS => Ok(Ends {
             kind,
             low,
-            high: a,
-            below: true,
-            next: at,
-        },
-        AT_MOST => EndsRead::Ends {
+            high: High::Below(a),
+            next,
+        }),
+        AT_MOST => Ok(Ends {
             kind,
             low,
-            high: a,
-            below: false,
-            next: at,
-        },
-        AT_LEAST => EndsRead::Ends {
+            high: High::At(a),
+            next,
+        }),
+        AT_LEAST => Ok(Ends {
             kind,
-            low: wide(a),
-            high: most(kind),
-            below: false,
-            next: at,
-        },
-        _ => behind(s, kind, a, at),
+            low: u64::from(a),
+            high: High::At(most(kind)),
+            next,
+        }),
+        _ => behind(s, kind, a, next),
     }
 }
 
 // A literal of the kind asked for, or of either where that is open, and what it makes behind a mark.
-fn with_literal(s: &[u8], kind: u8, mark: u8, at: usize) -> EndsRead
+fn with_literal(s: &[u8], kind: u8, mark: u8, at: usize) -> Result<Ends, Refusal>
     requires { at ≤ length s.now }
     ensures { ends_reading result ≡ with_literal s.now kind at (ends_by s.now mark) }
 {
-    let t = token_at(s, at);
-    let k = kind_by(kind, t);
-    match literal(s, k, at) {
-        LiteralRead::Faulty(fault) => {
-            return EndsRead::Faulty(fault);
-        }
-        LiteralRead::Literal { value, next } => {
-            return ends_by(s, mark, k, value, next);
-        }
-    }
+    let k = kind_by(kind, token_at(s, at));
+    let a = read_literal(s, k, at)?;
+    ends_by(s, mark, k, a.value, a.next)
 }
 
 // An interval may begin with the mark.
 fn opens(mark: u8) -> bool
     ensures { result ≡ opens_ends mark }
 {
-    match mark {
-        GREATER => true,
-        LESS => true,
-        AT_MOST => true,
-        AT_LEAST => true,
-        _ => false,
-    }
+    matches!(mark, GREATER | LESS | AT_MOST | AT_LEAST)
 }
 
 // What stands between the bars.
-fn between(s: &[u8], kind: u8, at: usize) -> EndsRead
+fn between(s: &[u8], kind: u8, at: usize) -> Result<Ends, Refusal>
     requires { at ≤ length s.now }
     ensures { ends_reading result ≡ between s.now kind at }
 {
@@ -290,76 +240,41 @@ fn between(s: &[u8], kind: u8, at: usize) -> EndsRead
 }
 
 // No value lies between the ends.
-fn empty(low: u64, high: u32, below: bool) -> bool
-    ensures { result ≡ empty (ends undecided low high below) }
+fn empty(ends: Ends) -> bool
+    ensures { result ≡ empty (ends_of ends) }
 {
-    if below {
-        return wide(high) <= low;
+    match ends.high {
+        High::At(b) => u64::from(b) < ends.low,
+        High::Below(b) => u64::from(b) <= ends.low,
     }
-    wide(high) < low
 }
 
-// The closed pair of ends between which a value lies, and the place behind them.
-fn closed(kind: u8, low: u64, high: u32, below: bool, next: usize) -> IntervalRead
-    requires { NotEmpty kind low high below }
-    ensures { interval_reading result ≡ got (shut kind (closed (ends kind low high below))) next }
+// The closed pair of ends between which a value lies, and the place behind it.
+fn closed(ends: Ends, next: usize) -> Interval
+    requires { NotEmpty ends }
+    ensures { interval_reading (Ok result) ≡ got (shut ends.kind (closed (ends_of ends))) next }
 {
-    let low = low as u32;
-    if below {
-        return IntervalRead::Interval {
-            kind,
-            low,
-            high: before(kind, high),
-            next,
-        };
-    }
-    IntervalRead::Interval {
-        kind,
-        low,
+    let high = match ends.high {
+        High::At(b) => b,
+        High::Below(b) => before(ends.kind, b),
+    };
+    Interval {
+        kind: ends.kind,
+        low: ends.low as u32,
         high,
         next,
     }
 }
 
-// The closing bar, and the closed pair.
-fn close(s: &[u8], kind: u8, low: u64, high: u32, below: bool, from: usize) -> IntervalRead
-    requires { Closable s.now kind low high from }
-    ensures { interval_reading result ≡ closing s.now (ends kind low high below) from }
-{
-    match expect(s, BAR, from) {
-        Expected::Fault(fault) => {
-            return IntervalRead::Faulty(fault);
-        }
-        Expected::Taken(t) => {
-            let place = t.start;
-            if empty(low, high, below) {
-                return IntervalRead::Faulty(Refusal {
-                    cause: Cause::EmptyInterval,
-                    place,
-                });
-            }
-            return closed(kind, low, high, below, t.end);
-        }
-    }
-}
-
 // An interval, from behind its opening bar on.
-pub fn interval(s: &[u8], kind: u8, from: usize) -> IntervalRead
+pub fn read_interval(s: &[u8], kind: u8, from: usize) -> Result<Interval, Refusal>
     requires { At s.now kind from }
     ensures { IntervalIs s.now (interval s.now kind from) result }
 {
-    match between(s, kind, from) {
-        EndsRead::Faulty(fault) => {
-            return IntervalRead::Faulty(fault);
-        }
-        EndsRead::Ends {
-            kind: k,
-            low,
-            high,
-            below,
-            next,
-        } => {
-            return close(s, k, low, high, below, next);
-        }
+    let ends = between(s, kind, from)?;
+    let bar = expect(s, BAR, ends.next)?;
+    if empty(ends) {
+        return Err(Cause::EmptyInterval.at(bar.start));
     }
+    Ok(closed(ends, bar.end))
 }

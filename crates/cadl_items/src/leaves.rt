@@ -5,11 +5,11 @@ ghost use Rattle.lexis.specs.Clauses.Answers.{TokenIs};
 ghost use Rattle.cadl_items.specs.Leaves.{is_boolean, boolean_flag};
 ghost use Rattle.cadl_items.specs.Clauses.Told.{leaf};
 ghost use Rattle.cadl_items.specs.Clauses.Answers.{LeafRoom, LeafIs};
-ghost use Rattle.cadl_items.specs.Clauses.Items.{ListRoom, second_by, booleans_by, EveryIs, OneIs, roomed, single_leaf, ranges_leaf, string_leaf};
+ghost use Rattle.cadl_items.specs.Clauses.Items.{ListRoom, second_by, booleans_by, EveryIs, OneIs, room, pattern, single_leaf, ranges_leaf, string_leaf};
 
-use crate::ranges::{RangesRead, read_ranges};
+use crate::ranges::read_ranges;
 use crate::spans::SCRATCH_ROOM;
-use crate::strings::{StringsRead, read_strings};
+use crate::strings::read_strings;
 use lexis::tokens::token_at;
 use lexis::{
     BAR, COMMA, DATE, DATE_PATTERN, DURATION_PATTERN, FALSE_WORD, INTEGER, STRING, TIME_PATTERN,
@@ -51,11 +51,10 @@ pub enum RangeSort {
     Dates,
 }
 
-// A leaf's flag, or the number of its items, which stand in the scratch, and the place behind it; or its refusal. Item i stands at 2i and 2i + 1:
-// an integer's low and high end as distances, a date's packed, a string's start and end in the text without its quotes.
+// A leaf's flag, or the number of its items, which stand in the scratch, and the place behind it. Item i stands at 2i and 2i + 1: an integer's low and
+// high end as distances, a date's packed, a string's start and end in the text without its quotes.
 #[derive(Clone, Copy)]
-pub enum LeafRead {
-    Faulty(Refusal),
+pub enum Leaf {
     Single {
         sort: SingleSort,
         flag: u8,
@@ -76,10 +75,7 @@ pub enum LeafRead {
 fn is_boolean(t: Token) -> bool
     ensures { result ≡ is_boolean t }
 {
-    if t.sort == TRUE_WORD {
-        return true;
-    }
-    t.sort == FALSE_WORD
+    matches!(t.sort, TRUE_WORD | FALSE_WORD)
 }
 
 // The flag of one Boolean.
@@ -90,30 +86,26 @@ fn boolean_flag(t: Token) -> u8
 }
 
 // The second Boolean, behind a comma.
-fn second_boolean(s: &[u8], flag: u8, from: usize) -> LeafRead
+fn second_boolean(s: &[u8], flag: u8, from: usize) -> Result<Leaf, Refusal>
     requires { from ≤ length s.now }
     ensures { EveryIs s.now (second_by s.now flag from) result }
 {
     let t = token_at(s, from);
     if !is_boolean(t) {
-        let fault = syntax_fault(t);
-        return LeafRead::Faulty(fault);
+        return Err(syntax_fault(t));
     }
     if boolean_flag(t) == flag {
-        return LeafRead::Faulty(Refusal {
-            cause: Cause::Overlap,
-            place: t.start,
-        });
+        return Err(Cause::Overlap.at(t.start));
     }
-    LeafRead::Single {
+    Ok(Leaf::Single {
         sort: SingleSort::Booleans,
         flag: BOTH,
         next: t.end,
-    }
+    })
 }
 
 // Booleans, the first of which is the token.
-fn boolean_list(s: &[u8], t: Token) -> LeafRead
+fn boolean_list(s: &[u8], t: Token) -> Result<Leaf, Refusal>
     requires { t.end ≤ length s.now }
     ensures { EveryIs s.now (booleans_by s.now t) result }
 {
@@ -122,112 +114,102 @@ fn boolean_list(s: &[u8], t: Token) -> LeafRead
     if u.sort == COMMA {
         return second_boolean(s, flag, u.end);
     }
-    LeafRead::Single {
+    Ok(Leaf::Single {
         sort: SingleSort::Booleans,
         flag,
         next: t.end,
-    }
+    })
 }
 
-// The leaf, if there is room for its record.
-fn roomed(number: usize, place: usize, leaf: LeafRead) -> LeafRead
-    ensures { result ≡ roomed number place leaf }
+// There is room for a leaf's record.
+fn room(number: usize, place: usize) -> Result<(), Refusal>
+    ensures { result ≡ room number place }
 {
     if number == RECORD_LIMIT {
-        return LeafRead::Faulty(Refusal {
-            cause: Cause::TooManyRecords,
-            place,
-        });
+        return Err(Cause::TooManyRecords.at(place));
     }
-    leaf
+    Ok(())
+}
+
+// A pattern.
+fn pattern_leaf(number: usize, t: Token, sort: SingleSort, flag: u8) -> Result<Leaf, Refusal>
+    ensures { result ≡ pattern number t sort flag }
+{
+    room(number, t.start)?;
+    Ok(Leaf::Single {
+        sort,
+        flag,
+        next: t.end,
+    })
 }
 
 // A leaf of one record: Booleans or a pattern, whose first token is t.
-fn single_leaf(s: &[u8], number: usize, t: Token) -> LeafRead
+fn single_leaf(s: &[u8], number: usize, t: Token) -> Result<Leaf, Refusal>
     requires { t.end ≤ length s.now }
     ensures { OneIs s.now number (single_leaf s.now number t) result }
 {
-    if is_boolean(t) {
-        let leaf = boolean_list(s, t);
-        return roomed(number, t.start, leaf);
-    }
     let sort = t.sort;
     match sort {
+        TRUE_WORD | FALSE_WORD => {
+            room(number, t.start)?;
+            boolean_list(s, t)
+        }
         FIRST_DATE_PATTERN..=LAST_DATE_PATTERN => {
-            let flag = sort - DATE_PATTERN;
-            let leaf = LeafRead::Single {
-                sort: SingleSort::DatePattern,
-                flag,
-                next: t.end,
-            };
-            return roomed(number, t.start, leaf);
+            pattern_leaf(number, t, SingleSort::DatePattern, sort - DATE_PATTERN)
         }
         FIRST_TIME_PATTERN..=LAST_TIME_PATTERN => {
-            let flag = sort - TIME_PATTERN;
-            let leaf = LeafRead::Single {
-                sort: SingleSort::TimePattern,
-                flag,
-                next: t.end,
-            };
-            return roomed(number, t.start, leaf);
+            pattern_leaf(number, t, SingleSort::TimePattern, sort - TIME_PATTERN)
         }
-        FIRST_DURATION_PATTERN..=LAST_DURATION_PATTERN => {
-            let flag = sort - DURATION_PATTERN;
-            let leaf = LeafRead::Single {
-                sort: SingleSort::DurationPattern,
-                flag,
-                next: t.end,
-            };
-            return roomed(number, t.start, leaf);
-        }
-        _ => {
-            let fault = syntax_fault(t);
-            return LeafRead::Faulty(fault);
-        }
+        FIRST_DURATION_PATTERN..=LAST_DURATION_PATTERN => pattern_leaf(
+            number,
+            t,
+            SingleSort::DurationPattern,
+            sort - DURATION_PATTERN,
+        ),
+        _ => Err(syntax_fault(t)),
     }
 }
 
 // A list of integers or of dates.
-fn range_leaf(s: &[u8], number: usize, from: usize, scratch: &mut [u32; SCRATCH_ROOM]) -> LeafRead
+fn range_leaf(
+    s: &[u8],
+    number: usize,
+    from: usize,
+    scratch: &mut [u32; SCRATCH_ROOM],
+) -> Result<Leaf, Refusal>
     requires { ListRoom s.now number from }
     ensures { LeafIs s.now number from (ranges_leaf s.now number from) scratch.new
         result }
 {
-    match read_ranges(s, number, from, scratch) {
-        RangesRead::Faulty(fault) => {
-            return LeafRead::Faulty(fault);
-        }
-        RangesRead::Ranges { kind, count, next } => {
-            if kind == DATE {
-                return LeafRead::Ranges {
-                    sort: RangeSort::Dates,
-                    count,
-                    next,
-                };
-            }
-            return LeafRead::Ranges {
-                sort: RangeSort::Integers,
-                count,
-                next,
-            };
-        }
-    }
+    let list = read_ranges(s, number, from, scratch)?;
+    let sort = if list.kind == DATE {
+        RangeSort::Dates
+    } else {
+        RangeSort::Integers
+    };
+    Ok(Leaf::Ranges {
+        sort,
+        count: list.count,
+        next: list.next,
+    })
 }
 
 // A list of strings.
-fn string_leaf(s: &[u8], number: usize, from: usize, scratch: &mut [u32; SCRATCH_ROOM]) -> LeafRead
+fn string_leaf(
+    s: &[u8],
+    number: usize,
+    from: usize,
+    scratch: &mut [u32; SCRATCH_ROOM],
+) -> Result<Leaf, Refusal>
     requires { LeafRoom s.now number from }
     ensures { LeafIs s.now number from (string_leaf s.now number from) scratch.new
         result }
 {
-    match read_strings(s, number, from, scratch) {
-        StringsRead::Faulty(fault) => {
-            return LeafRead::Faulty(fault);
-        }
-        StringsRead::Strings { count, next } => {
-            return LeafRead::Strings { count, next };
-        }
-    }
+    let list = read_strings(s, number, from, scratch)?;
+    Ok(Leaf::Strings {
+        count: list.count,
+        next: list.next,
+    })
 }
 
 // A leaf from a place on, whose first token is t, given the next record's number.
@@ -237,15 +219,13 @@ pub fn read_leaf(
     from: usize,
     t: Token,
     scratch: &mut [u32; SCRATCH_ROOM],
-) -> LeafRead
+) -> Result<Leaf, Refusal>
     requires leaf_room { LeafRoom s.now number from }
     requires token_is { TokenIs s.now from (content_token_at s.now from) t }
     ensures { LeafIs s.now number from (leaf s.now number from) scratch.new result }
 {
-    let sort = t.sort;
-    match sort {
-        INTEGER => range_leaf(s, number, from, scratch),
-        BAR => range_leaf(s, number, from, scratch),
+    match t.sort {
+        INTEGER | BAR => range_leaf(s, number, from, scratch),
         STRING => string_leaf(s, number, from, scratch),
         _ => single_leaf(s, number, t),
     }

@@ -1,5 +1,5 @@
 -- The steps of reading a token where a value may stand, and where it lies. Assumes nothing.
-use mathlib.Core.Path.{◌≡◌, refl, ap, ◌∙◌}
+use mathlib.Core.Path.{◌≡◌, refl, sym, ap, ◌∙◌}
 use mathlib.Core.Bool.{Bool, true, false, cond, not, ◌&&◌}
 use mathlib.Core.List.{List}
 use Prim.Native.Nat.{ℕ, ◌+◌, ◌-◌, ◌≤◌, ◌<◌}
@@ -16,7 +16,9 @@ use Rattle.lexis.specs.Durations.{slots_of, pattern_slots, duration_pattern}
 use Rattle.lexis.specs.Tokens.{token, type_name, spelling, token_at, duration_flag, pattern_or, content_token_at}
 use Rattle.lexis.specs.Clauses.Answers.{TokenIs, FlagIs, TypeThere}
 use Rattle.lexis.specs.declared.Token.{Token}
+use Rattle.std.specs.Prelude.{Option, Some, None}
 use Rattle.lexis.proofs.Cases.{by_cond, and_left}
+use Rattle.lexis.proofs.Options.{none_zero, some_above}
 use Rattle.lexis.proofs.Places.{Found, token-found}
 use Rattle.lexis.proofs.TokenSteps.{promised}
 
@@ -38,16 +40,21 @@ module _ (s : List ℕ) (t : Token) (d : TypeThere s t) where
   unfolding pattern_slots slots_of
   type_other n = rw (first_of_part s t.start t.end d.order, ne_eqb (byte_at s t.start) (byte "P") n) refl
 
-  module _ (flag : ℕ) (q : FlagIs (pattern_slots (part s t.start t.end)) flag) where
-    pub type_no_pattern : flag < 1 → t ≡ pattern_or s t (pattern_slots (spelling s t))
-    type_no_pattern l = rw (← q.is, lt-leb 1 flag l) refl
+  module _ (o : Option ℕ) (q : FlagIs (pattern_slots (part s t.start t.end)) o) where
+    pub type_no_pattern : o ≡ None → t ≡ pattern_or s t (pattern_slots (spelling s t))
+    type_no_pattern n = rw (none_zero (pattern_slots (part s t.start t.end)) (sym n ∙ q.is)) refl
 
-    module _ (l : 1 ≤ flag) (r : Bool) (p : r ≡ eqb (token_at s t.end).sort close_brace) where
+    module _ (flag : ℕ) (e : o ≡ Some flag) (r : Bool) (p : r ≡ eqb (token_at s t.end).sort close_brace) where
+      is_flag : (flag ≡ pattern_slots (part s t.start t.end)) × (1 ≤ pattern_slots (part s t.start t.end))
+      is_flag =
+          let f = some_above (pattern_slots (part s t.start t.end)) flag (sym e ∙ q.is) in
+          (f.0, omega (arith, f.1))
+
       pub type_stays : not r ≡ true → t ≡ pattern_or s t (pattern_slots (spelling s t))
-      type_stays e = rw (← q.is, le-leb 1 flag l, ← p, not-true r e) refl
+      type_stays n = rw (le-leb 1 (pattern_slots (part s t.start t.end)) is_flag.1, ← p, not-true r n) refl
 
       pub type_pattern : not r ≡ false → token (duration_pattern + flag) t.start t.end ≡ pattern_or s t (pattern_slots (spelling s t))
-      type_pattern e = rw (← q.is, le-leb 1 flag l, ← p, not-false r e) refl
+      type_pattern n = rw (le-leb 1 (pattern_slots (part s t.start t.end)) is_flag.1, ← p, not-false r n, is_flag.0) refl
 
 -- a TYPE that was read
 pub type_there : (s : List ℕ) (from : ℕ) (t : Token) → TokenIs s from (token_at s from) t → t.sort ≡ type_name

@@ -15,24 +15,12 @@ use Rattle.lexis.specs.Runs.{past, byte_at, part, all}
 use Rattle.lexis.specs.Spelling.{Literal, word_sort, keywords, booleans}
 use Rattle.lexis.specs.Tokens.{token, no_token, spelled, quoted, text_end, type_name, name}
 use Rattle.lexis.specs.DataTokens.{data_marks, name_sort, run, data_token_on, data_token_at, type_token_at}
-use Rattle.lexis.specs.Clauses.Answers.{PlaceIs, WordEnds, TokenIs, run_mark, sorting}
+use Rattle.lexis.specs.Clauses.Answers.{PlaceIs, WordEnds, TokenIs, run_mark}
 use Rattle.lexis.specs.declared.Token.{Token}
 use Rattle.lexis.proofs.Places.{past_between, drop_in}
 use Rattle.lexis.proofs.ByteLaws.{run-word}
 use Rattle.lexis.proofs.DataPlaces.{data_token-found, type_token-found}
 use Rattle.lexis.proofs.TokenSteps.{promised}
-
--- a run that may be a NAME or a TYPE
-module _ (ls : List Literal) (w : List ℕ) (sort : ℕ) (whole : Bool) (p : whole ≡ all word_byte w) where
-  pub name-broken : not whole ≡ true → 1 ≡ name_sort ls sort w
-  name-broken n = rw (← p, not-true whole n)
-
-  module _ (k : ℕ) (q : k ≡ word_sort ls w sort) (e : not whole ≡ false) where
-    pub name-spelled : (k ≡ sort → ⊥) → 1 ≡ name_sort ls sort w
-    name-spelled n = rw (← p, not-false whole e, ← q, ne_eqb k sort n)
-
-    pub name_is_lem : k ≡ sort → sort ≡ name_sort ls sort w
-    name_is_lem m = rw (← p, not-false whole e, ← q, eq-eqb k sort m)
 
 -- a byte of words is one of runs
 word_runs : (b : ℕ) → word_byte b ≡ true → run_byte b ≡ true
@@ -132,22 +120,6 @@ module _ (s : List ℕ) (at w : ℕ) (p : PlaceIs s at (past word_byte at (drop 
     pub run_is : (sorted : List ℕ → ℕ → ℕ) (k : ℕ) → k ≡ sorted (part s at end) (byte_at s at)
         → token k at end ≡ run sorted s at
     run_is sorted k e = rw (e, run_end)
-
--- the sort of a run
-module _ (behind : Bool) (w : List ℕ) (first : ℕ) (k : Bool) where
-  pub sorting_type : (r : ℕ) → k ≡ is capital first → behind ≡ true → k ≡ true → r ≡ name_sort booleans type_name w
-      → r ≡ sorting behind w first
-  sorting_type r q b e p = rw (b, ← q, e) p
-
-  pub sorting_none : k ≡ is capital first → behind ≡ true → k ≡ false → 1 ≡ sorting behind w first
-  sorting_none q b e = rw (b, ← q, e)
-
-  pub sorting-name : (r : ℕ) → k ≡ is small first → behind ≡ false → k ≡ true → r ≡ name_sort keywords name w
-      → r ≡ sorting behind w first
-  sorting-name r q b e p = rw (b, ← q, e) p
-
-  pub sorting-word : k ≡ is small first → behind ≡ false → k ≡ false → 26 ≡ sorting behind w first
-  sorting-word q b e = rw (b, ← q, e)
 
 -- the token that starts at a place
 module _ (sorted : List ℕ → ℕ → ℕ) (s : List ℕ) (at : ℕ) where

@@ -1,5 +1,6 @@
 -- The laws and examples of the definitions.
 pub mod Cases
+pub mod Options
 pub mod Places
 pub mod DataPlaces
 pub mod Parts

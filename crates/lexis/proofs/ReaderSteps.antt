@@ -8,8 +8,8 @@ use lib.ListN.{length, drop_of_length-le}
 use borrow.Author.Tests.{le-leb}
 use Rattle.lexis.specs.Blanks.{skip, token_start}
 use Rattle.lexis.specs.Tokens.{token, text_end, token_on, token_at}
-use Rattle.lexis.specs.DataTokens.{data_token_on, data_token_at, type_token_at}
-use Rattle.lexis.specs.Clauses.Answers.{PlaceIs, sorting, behind_of, token_by}
+use Rattle.lexis.specs.DataTokens.{run_sort, type_sort, data_token_on, data_token_at, type_token_at}
+use Rattle.lexis.specs.Clauses.Answers.{PlaceIs, token_by}
 use Rattle.lexis.specs.declared.Token.{Token}
 use Rattle.lexis.specs.declared.reader.Tokens.{Tokens}
 use Rattle.lexis.specs.declared.reader.Tokens.TheVariants.{Constraint, Data, Behind}
@@ -27,14 +27,10 @@ module _ (s : List ℕ) (from : ℕ) where
     unfolding token_at
     next_constraint e q = rw e (rw p.is at q)
 
-    -- the choice is one of the last two
-    pub next_data : (b : Bool) → (k ≡ Constraint → ⊥) → b ≡ behind_of k → t ≡ data_token_on (sorting b) s at
-        → t ≡ token_by k s from
-    unfolding data_token_at type_token_at
-    next_data b n e q = by_kind k n (rw (p.is, e) at q)
-      where
-        by_kind : (k : Tokens) → (k ≡ Constraint → ⊥)
-            → t ≡ data_token_on (sorting (behind_of k)) s (token_start s from) → t ≡ token_by k s from
-        by_kind Constraint n q = absurd (n refl)
-        by_kind Data n q = q
-        by_kind Behind n q = q
+    pub next_data : k ≡ Data → t ≡ data_token_on run_sort s at → t ≡ token_by k s from
+    unfolding data_token_at
+    next_data e q = rw e (rw p.is at q)
+
+    pub next_behind : k ≡ Behind → t ≡ data_token_on type_sort s at → t ≡ token_by k s from
+    unfolding type_token_at
+    next_behind e q = rw e (rw p.is at q)

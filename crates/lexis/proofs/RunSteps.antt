@@ -6,6 +6,7 @@ use Prim.Native.Nat.{ℕ, suc, ◌+◌, ◌-◌, ◌≤◌, ◌<◌}
 use native.Mathlib.Omega.{arith}
 use native.Mathlib.Nat.{add-zero}
 use lib.Dec.{eqb}
+use lib.Pointwise.{pointwise}
 use lib.ListN.{length, drop, length-drop, drop_of_length-le, get_or-eq_default}
 use lib.Seq.{get_or-drop}
 use borrow.Author.Tests.{eq-eqb, ne_eqb, not-true, not-false}
@@ -13,9 +14,7 @@ use Rattle.lexis.specs.Text.{byte}
 use Rattle.lexis.specs.Bytes.{within, among, marks, sort_of, is, blank, digit, small, capital, mark, other, word_byte, string_byte, run_byte, line_end}
 use Rattle.lexis.specs.Runs.{past, byte_at, same, starts_with, shaped, allows}
 use Rattle.lexis.specs.Blanks.{skip, opens_comment, token_start}
-use Rattle.lexis.specs.Clauses.Answers.{PlaceIs, test_of, comment_open, token_here, admits, begins_by}
-use Rattle.lexis.specs.declared.runs.Class.{Class}
-use Rattle.lexis.specs.declared.runs.Class.TheVariants.{Digit, Word, Text, Run}
+use Rattle.lexis.specs.Clauses.Answers.{PlaceIs, comment_open, token_here, begins_by}
 use Rattle.lexis.proofs.Places.{drop_in}
 
 -- behind the text's end stands 0
@@ -33,9 +32,12 @@ pub run_first : (test : ℕ → Bool) (s : List ℕ) (from : ℕ) → from ≤ l
 run_first test s from h = record { low = omega arith; high = h; is = refl }
 
 module _ (test : ℕ → Bool) (s : List ℕ) (from x at : ℕ) (inv : InRun test s from x at) where
-  pub run_end : length s ≤ at → PlaceIs s from x at
+  pub run_end : length s ≤ at → PlaceIs s from x (length s)
   unfolding past
-  run_end h = record { is = rw (drop_of_length-le s h) at inv.is; low = inv.low; high = inv.high }
+  run_end h =
+      let here : at ≡ length s = let k = inv.high in omega arith in
+      let low = inv.low in
+      record { is = sym here ∙ (rw (drop_of_length-le s h) at inv.is); low = omega arith; high = omega arith }
 
   module _ (r : Bool) (h : at < length s) (q : r ≡ test (byte_at s at)) where
     pub run_out : not r ≡ true → PlaceIs s from x at
@@ -118,8 +120,15 @@ pub blanks_first : (s : List ℕ) (from : ℕ) → from ≤ length s → InBlank
 blanks_first s from h = record { low = omega arith; high = h; is = refl }
 
 module _ (s : List ℕ) (from x at : ℕ) (inside : Bool) (inv : InBlanks s from x at inside) where
-  pub blanks_end : length s ≤ at → PlaceIs s from x at
-  blanks_end h = record { is = sym (skip_end inside at) ∙ (rw (drop_of_length-le s h) at inv.is); low = inv.low; high = inv.high }
+  pub blanks_end : length s ≤ at → PlaceIs s from x (length s)
+  blanks_end h =
+      let here : at ≡ length s = let k = inv.high in omega arith in
+      let low = inv.low in
+      record {
+        is = sym here ∙ sym (skip_end inside at) ∙ (rw (drop_of_length-le s h) at inv.is);
+        low = omega arith;
+        high = omega arith;
+      }
 
   module _ (r : Bool) (h : at < length s) (t : r ≡ token_here inside (byte_at s at) (drop (at + 1) s)) where
     pub blanks_out : r ≡ true → PlaceIs s from x at
@@ -132,17 +141,6 @@ module _ (s : List ℕ) (from x at : ℕ) (inside : Bool) (inv : InBlanks s from
     blanks_on after e q =
         let k = skip_more inside at (byte_at s at) (drop (at + 1) s) (sym t ∙ e) in
         record { low = omega arith; high = omega arith; is = rw q (sym k ∙ (rw (drop_in s at h) at inv.is)) }
-
--- a byte of a spelling and a byte of the text
-module _ (shape : Bool) (w b : ℕ) where
-  pub admits_same : not shape ≡ true → eqb w b ≡ admits shape w b
-  admits_same e = rw (not-true shape e)
-
-  pub admits-digit : (r : Bool) → not shape ≡ false → w ≡ byte "d" → r ≡ is digit b → r ≡ admits shape w b
-  admits-digit r e k q = rw (not-false shape e, eq-eqb w (byte "d") k) q
-
-  pub admits-other : not shape ≡ false → (w ≡ byte "d" → ⊥) → eqb w b ≡ admits shape w b
-  admits-other e n = rw (not-false shape e, ne_eqb w (byte "d") n)
 
 and_none : (x y : Bool) → false ≡ y → false ≡ (x && y)
 and_none true y h = h
@@ -200,6 +198,14 @@ shaped_begins [] bs r q = q
 shaped_begins (x ∷ w) [] r q = q
 shaped_begins (x ∷ w) (b ∷ bs) r q = q ∙ ap (λ k. allows x b && k) (shaped_begins w bs (begins_by allows w bs) refl)
 
+-- the library's equality of slices
+pub same_pointwise : (a b : List ℕ) → pointwise eqb a b ≡ same a b
+unfolding same
+same_pointwise [] [] = refl
+same_pointwise [] (y ∷ b) = refl
+same_pointwise (x ∷ a) [] = refl
+same_pointwise (x ∷ a) (y ∷ b) = ap (λ k. eqb x y && k) (same_pointwise a b)
+
 -- runs of two lengths differ
 pub same_long : (a b : List ℕ) → (length a ≡ length b → ⊥) → false ≡ same a b
 unfolding same
@@ -232,17 +238,3 @@ module _ (a b : List ℕ) (i : ℕ) (inv : InBoth a b i) where
 
     pub both_on : byte_at a i ≡ byte_at b i → InBoth a b (i + 1)
     both_on e = record { high = omega arith; long = inv.long; is = rw (step, eq-eqb (byte_at a i) (byte_at b i) e) at inv.is }
-
--- the test of each class
-module _ (k : Class) (b : ℕ) (r : Bool) where
-  pub class_digit : k ≡ Digit → r ≡ is digit b → r ≡ test_of k b
-  class_digit e q = rw e q
-
-  pub class_word : k ≡ Word → r ≡ word_byte b → r ≡ test_of k b
-  class_word e q = rw e q
-
-  pub class_text : k ≡ Text → r ≡ string_byte b → r ≡ test_of k b
-  class_text e q = rw e q
-
-  pub class_run : k ≡ Run → r ≡ run_byte b → r ≡ test_of k b
-  class_run e q = rw e q

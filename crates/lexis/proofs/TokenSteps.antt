@@ -12,9 +12,11 @@ use Rattle.lexis.specs.Bytes.{is, sort_of, digit, string_byte}
 use Rattle.lexis.specs.Runs.{past, byte_at, starts_with, shaped}
 use Rattle.lexis.specs.Spelling.{mark_spellings, keywords, element_sign, booleans, date_pattern_spellings, time_pattern_spellings, code_start, date_shape}
 use Rattle.lexis.specs.Tokens.{token, no_token, spelled, word, number, sign, quoted, code_end, bracket, special, token_on, token_at, text_end, type_name, name, integer, date, string, code}
-use Rattle.lexis.specs.Clauses.Answers.{PlaceIs, TokenIs}
+use Rattle.lexis.specs.Clauses.Answers.{unless_zero, PlaceIs, TokenIs}
 use Rattle.lexis.specs.declared.Token.{Token}
+use Rattle.std.specs.Prelude.{Option, Some, None}
 use Rattle.lexis.proofs.Cases.{and_left}
+use Rattle.lexis.proofs.Options.{above_some, none_zero, some_above}
 use Rattle.lexis.proofs.Places.{Found, drop_in, starts_long, token-found}
 use Rattle.lexis.proofs.ReadBack.{on_sort, starting}
 
@@ -81,26 +83,27 @@ pub code_first : (s : List ℕ) (from : ℕ) → from ≤ length s → InCode s 
 code_first s from h = record { high = h; is = refl }
 
 module _ (s : List ℕ) (x at : ℕ) (some : Bool) (inv : InCode s x at some) where
-  pub code_none : length s ≤ at → 0 ≡ x
+  pub code_none : length s ≤ at → None ≡ unless_zero x
   unfolding code_end
-  code_none h = rw (drop_of_length-le s h) at inv.is
+  code_none h = ap unless_zero (rw (drop_of_length-le s h) at inv.is)
 
   module _ (h : at < length s) (r : Bool) (q : r ≡ (eqb (byte_at s at) (byte "]") && some)) where
-    pub code_close : r ≡ true → at + 1 ≡ x
+    pub code_close : r ≡ true → Some (at + 1) ≡ unless_zero x
     unfolding code_end sort_of
     code_close e =
         let f = sym q ∙ e in
         let b = eqb-true (byte_at s at) (byte "]") (and_left (eqb (byte_at s at) (byte "]")) some f) in
-        ended (byte_at s at) (drop (at + 1) s) b f ∙ (rw (drop_in s at h) at inv.is)
+        let is = ended (byte_at s at) (drop (at + 1) s) b f ∙ (rw (drop_in s at h) at inv.is) in
+        above_some (at + 1) (λ z. omega arith) ∙ ap unless_zero is
       where
         ended : (b : ℕ) (bs : List ℕ)
             → b ≡ byte "]" → (eqb b (byte "]") && some) ≡ true → at + 1 ≡ code_end some at (b ∷ bs)
         ended b bs e f = rw (f, e)
 
     module _ (k : Bool) (g : k ≡ (is digit (byte_at s at) || eqb (byte_at s at) (byte ".") && some)) where
-      pub code_stop : r ≡ false → not k ≡ true → 0 ≡ x
+      pub code_stop : r ≡ false → not k ≡ true → None ≡ unless_zero x
       unfolding code_end
-      code_stop e n = rw (drop_in s at h, ← g, not-true k n, ← q, e) at inv.is
+      code_stop e n = ap unless_zero (rw (drop_in s at h, ← g, not-true k n, ← q, e) at inv.is)
 
       pub code_on : (d : Bool) → not k ≡ false → d ≡ is digit (byte_at s at) → InCode s x (at + 1) d
       unfolding code_end
@@ -117,12 +120,16 @@ module _ (s : List ℕ) (at : ℕ) (r : Bool) (q : r ≡ starts_with code_start 
   pub bracket_not : (t : Token) → not r ≡ true → t ≡ no_token at → t ≡ bracket s at
   bracket_not t e p = rw (← q, not-true r e) p
 
-  module _ (end : ℕ) (p : end ≡ code_end false (at + 3) (drop (at + 3) s)) (e : not r ≡ false) where
-    pub bracket_open : (t : Token) → end ≡ 0 → t ≡ no_token at → t ≡ bracket s at
-    bracket_open t z k = rw (← q, not-false r e, ← p, eq-eqb end 0 z) k
+  module _ (o : Option ℕ) (p : o ≡ unless_zero (code_end false (at + 3) (drop (at + 3) s))) (e : not r ≡ false) where
+    pub bracket_open : (t : Token) → o ≡ None → t ≡ no_token at → t ≡ bracket s at
+    bracket_open t n k =
+        let z = none_zero (code_end false (at + 3) (drop (at + 3) s)) (sym n ∙ p) in
+        rw (← q, not-false r e, z) k
 
-    pub bracket-code : (end ≡ 0 → ⊥) → token code at end ≡ bracket s at
-    bracket-code n = rw (← q, not-false r e, ← p, ne_eqb end 0 n)
+    pub bracket-code : (end : ℕ) → o ≡ Some end → token code at end ≡ bracket s at
+    bracket-code end n =
+        let z = some_above (code_end false (at + 3) (drop (at + 3) s)) end (sym n ∙ p) in
+        rw (← q, not-false r e, ne_eqb (code_end false (at + 3) (drop (at + 3) s)) 0 z.1, z.0)
 
 -- a byte of no sort but `other`
 module _ (s : List ℕ) (at : ℕ) (t : Token) where

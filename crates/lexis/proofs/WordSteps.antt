@@ -6,11 +6,9 @@ use Prim.Native.Nat.{ℕ}
 use lib.ListN.{drop}
 use Rattle.lexis.specs.Bytes.{word_byte}
 use Rattle.lexis.specs.Runs.{past, part, same}
-use Rattle.lexis.specs.Spelling.{Literal, literal_of, word_sort, keywords, booleans}
+use Rattle.lexis.specs.Spelling.{Literal, literal_of, word_sort}
 use Rattle.lexis.specs.Tokens.{token, word}
-use Rattle.lexis.specs.Clauses.Answers.{PlaceIs, words_of}
-use Rattle.lexis.specs.declared.spellings.Words.{Words}
-use Rattle.lexis.specs.declared.spellings.Words.TheVariants.{Keywords, Booleans}
+use Rattle.lexis.specs.Clauses.Answers.{PlaceIs}
 
 -- a spelling before others
 pub sort_first : (l : Literal) (ls : List Literal) (w : List ℕ) (a b k : ℕ) → a ≡ word_sort (l ∷ []) w b
@@ -28,14 +26,7 @@ module _ (w spelling : List ℕ) (sort k : ℕ) (r : Bool) (q : r ≡ same spell
   unfolding word_sort
   sort_other e = rw (← q, e)
 
-module _ (f : Words) (w : List ℕ) (sort r : ℕ) where
-  pub sort_keywords : f ≡ Keywords → r ≡ word_sort keywords w sort → r ≡ word_sort (words_of f) w sort
-  sort_keywords e q = rw e q
-
-  pub sort_booleans : f ≡ Booleans → r ≡ word_sort booleans w sort → r ≡ word_sort (words_of f) w sort
-  sort_booleans e q = rw e q
-
 -- a word that was told
-pub word_is : (s : List ℕ) (at end k : ℕ) (f : Words) (sort : ℕ) → PlaceIs s at (past word_byte at (drop at s)) end
-    → k ≡ word_sort (words_of f) (part s at end) sort → token k at end ≡ word s (words_of f) sort at
-word_is s at end k f sort p q = rw (q, p.is)
+pub word_is : (ls : List Literal) (s : List ℕ) (at end k sort : ℕ) → PlaceIs s at (past word_byte at (drop at s)) end
+    → k ≡ word_sort ls (part s at end) sort → token k at end ≡ word s ls sort at
+word_is ls s at end k sort p q = rw (q, p.is)

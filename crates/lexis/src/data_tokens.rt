@@ -1,14 +1,14 @@
 // Tokens of data text.
-ghost use Rattle.std.specs.Prelude.{◌≡◌, ◌≤◌, ◌<◌, length, drop};
+ghost use Rattle.std.specs.Prelude.{◌≡◌, List, ℕ, ◌≤◌, ◌<◌, length, drop};
 ghost use Rattle.lexis.specs.Bytes.{word_byte, run_byte};
 ghost use Rattle.lexis.specs.Runs.{past, all};
-ghost use Rattle.lexis.specs.DataTokens.{name_sort, run, data_token_on, data_token_at, type_token_at};
-ghost use Rattle.lexis.specs.Clauses.Answers.{words_of, sorting, PlaceIs, WordEnds, StartsAlike, is_mark, TokenIs};
+ghost use Rattle.lexis.specs.DataTokens.{name_sort, run_sort, type_sort, run, data_token_on, data_token_at, type_token_at};
+ghost use Rattle.lexis.specs.Clauses.Answers.{PlaceIs, WordEnds, StartsAlike, is_mark, TokenIs};
 
 use crate::reader::{Tokens, token_from};
-use crate::runs::{Class, past_run};
+use crate::runs::{Digit, Run, Word, past_run};
 use crate::sorts::{byte_at, is_capital, is_digit, is_small, run_byte, run_mark};
-use crate::spellings::{Words, data_mark, word_sort};
+use crate::spellings::{Booleans, Keywords, Words, data_mark};
 use crate::tokens::quoted;
 use crate::{
     CLOSE_ROUND, EQUALS, GREATER, LESS, NAME, OPEN_ROUND, TEXT_END, TYPE_NAME, Token, UNREADABLE,
@@ -16,34 +16,55 @@ use crate::{
 };
 
 // The sort of a run that is a word of the sort given, unless the list spells it; else it is unreadable. `whole` says that it is a word.
-fn name_sort(w: &[u8], f: Words, sort: u8, whole: bool) -> u8
+fn name_sort<W: Words>(w: &[u8], sort: u8, whole: bool) -> u8
     requires { whole ≡ all word_byte w.now }
-    ensures { result ≡ name_sort (words_of f) sort w.now }
+    ensures { result ≡ name_sort W.words sort w.now }
 {
-    if !whole {
-        return UNREADABLE;
+    if whole && W::sort_of(w, sort) == sort {
+        sort
+    } else {
+        UNREADABLE
     }
-    if word_sort(w, f, sort) != sort {
-        return UNREADABLE;
-    }
-    sort
 }
 
-// The sort of a run by its bytes and its first byte, behind `(` or elsewhere.
-fn run_sort(w: &[u8], first: u8, behind: bool, whole: bool) -> u8
-    requires { whole ≡ all word_byte w.now }
-    ensures { result ≡ sorting behind w.now first }
-{
-    if behind {
-        if is_capital(first) {
-            return name_sort(w, Words::Booleans, TYPE_NAME, whole);
+// Where a run stands, which its sort depends on.
+pub trait Standing {
+    ghost sorting: { List ℕ → ℕ → ℕ };
+
+    // The sort of a run by its bytes and its first byte. `whole` says that it is a word.
+    fn run_sort(w: &[u8], first: u8, whole: bool) -> u8
+        requires { whole ≡ all word_byte w.now }
+        ensures { result ≡ sorting w.now first };
+}
+
+// Where any token may stand.
+pub struct Anywhere;
+
+// Behind `(`, where a TYPE stands.
+pub struct BehindRound;
+
+impl Standing for Anywhere {
+    ghost sorting = { run_sort };
+
+    fn run_sort(w: &[u8], first: u8, whole: bool) -> u8 {
+        if is_small(first) {
+            name_sort::<Keywords>(w, NAME, whole)
+        } else {
+            WORD_RUN
         }
-        return UNREADABLE;
     }
-    if is_small(first) {
-        return name_sort(w, Words::Keywords, NAME, whole);
+}
+
+impl Standing for BehindRound {
+    ghost sorting = { type_sort };
+
+    fn run_sort(w: &[u8], first: u8, whole: bool) -> u8 {
+        if is_capital(first) {
+            name_sort::<Booleans>(w, TYPE_NAME, whole)
+        } else {
+            UNREADABLE
+        }
     }
-    WORD_RUN
 }
 
 // The end of the run that goes on where a word ends.
@@ -54,17 +75,17 @@ fn run_end(s: &[u8], at: usize) -> usize
     if !run_mark(byte_at(s, at)) {
         return at;
     }
-    past_run(s, at, Class::Run)
+    past_run::<Run>(s, at)
 }
 
 // The run at a place. It is a word where the word at the place ends with it.
-fn run(s: &[u8], at: usize, behind: bool) -> Token
+fn run<P: Standing>(s: &[u8], at: usize) -> Token
     requires { at < length s.now }
-    ensures { result ≡ run (sorting behind) s.now at }
+    ensures { result ≡ run P.sorting s.now at }
 {
-    let word_end = past_run(s, at, Class::Word);
+    let word_end = past_run::<Word>(s, at);
     let end = run_end(s, word_end);
-    let k = run_sort(&s[at..end], s[at], behind, word_end == end);
+    let k = P::run_sort(&s[at..end], s[at], word_end == end);
     Token {
         sort: k,
         start: at,
@@ -73,9 +94,9 @@ fn run(s: &[u8], at: usize, behind: bool) -> Token
 }
 
 // The token that starts at a place; the text's end is a token.
-pub fn data_token_on(s: &[u8], at: usize, behind: bool) -> Token
+pub fn data_token_on<P: Standing>(s: &[u8], at: usize) -> Token
     requires { at ≤ length s.now }
-    ensures { result ≡ data_token_on (sorting behind) s.now at }
+    ensures { result ≡ data_token_on P.sorting s.now at }
 {
     if s.len() <= at {
         return Token {
@@ -85,7 +106,7 @@ pub fn data_token_on(s: &[u8], at: usize, behind: bool) -> Token
         };
     }
     if run_byte(s[at]) {
-        return run(s, at, behind);
+        return run::<P>(s, at);
     }
     if s[at] == b'"' {
         return quoted(s, at);
@@ -168,7 +189,7 @@ pub fn value_token_at(s: &[u8], from: usize) -> Token
         return quoted(s, from);
     }
     if is_digit(b) {
-        let end = past_run(s, from, Class::Digit);
+        let end = past_run::<Digit>(s, from);
         if !run_byte(byte_at(s, end)) {
             return Token {
                 sort: WORD_RUN,

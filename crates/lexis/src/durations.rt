@@ -1,10 +1,10 @@
 // Slots of durations: a pattern's are letters, a word's digits and letters. One walk reads both.
-ghost use Rattle.std.specs.Prelude.{◌≡◌, ◌+◌, ◌≤◌, length, drop};
+ghost use Rattle.std.specs.Prelude.{◌≡◌, List, ℕ, ◌+◌, ◌≤◌, length, drop};
 ghost use Rattle.lexis.specs.Text.{bytes};
 ghost use Rattle.lexis.specs.Durations.{in_either_case, letter_slot, digit_slot, filled, fill, fill_all, behind_time, slots_of, pattern_slots};
-ghost use Rattle.lexis.specs.Clauses.Answers.{slot_by, SlotIs, filled_at, FillRoom, FillIs, FlagIs};
+ghost use Rattle.lexis.specs.Clauses.Answers.{SlotIs, filled_at, FillRoom, FillIs, FlagIs};
 
-use crate::runs::{Class, past_run};
+use crate::runs::{Digit, past_run};
 
 // How far a walk over slots has come: the slots filled, as a flag, and the place behind them.
 #[derive(Clone, Copy)]
@@ -29,141 +29,136 @@ fn in_either_case(letter: u8, b: u8) -> bool
     (b as u32) + TO_SMALL == letter as u32
 }
 
-// How many bytes a slot of a pattern has at a place, 0 where it does not stand there.
-fn letter_slot(w: &[u8], at: usize, letter: u8) -> usize
-    requires { at ≤ length w.now }
-    ensures { SlotIs w.now at (letter_slot letter (drop at w.now)) result }
-{
-    if at == w.len() {
-        return 0;
-    }
-    if w[at] == letter {
-        return 1;
-    }
-    0
+// What the slot of a letter is.
+trait Slot {
+    ghost size: { ℕ → List ℕ → ℕ };
+
+    // How many bytes the slot of the letter has at a place, where it stands there.
+    fn size(w: &[u8], at: usize, letter: u8) -> Option<usize>
+        requires { at ≤ length w.now }
+        ensures { SlotIs w.now at (size letter (drop at w.now)) result };
 }
 
-// How many bytes a slot of a word has at a place, 0 where it does not stand there.
-fn digit_slot(w: &[u8], at: usize, letter: u8) -> usize
-    requires { at ≤ length w.now }
-    ensures { SlotIs w.now at (digit_slot letter (drop at w.now)) result }
-{
-    let end = past_run(w, at, Class::Digit);
-    let digits = end - at;
-    if digits < 1 {
-        return 0;
+// In a pattern the letter.
+struct LetterAlone;
+
+// In a word one to four digits and the letter.
+struct DigitsAndLetter;
+
+impl Slot for LetterAlone {
+    ghost size = { letter_slot };
+
+    fn size(w: &[u8], at: usize, letter: u8) -> Option<usize> {
+        if at < w.len() && w[at] == letter {
+            return Some(1);
+        }
+        None
     }
-    if MOST_DIGITS < digits {
-        return 0;
-    }
-    if end == w.len() {
-        return 0;
-    }
-    if in_either_case(letter, w[end]) {
-        return digits + 1;
-    }
-    0
 }
 
-// How many bytes a slot has at a place, with digits or without.
-fn slot(w: &[u8], at: usize, letter: u8, digits: bool) -> usize
-    requires { at ≤ length w.now }
-    ensures { SlotIs w.now at (slot_by digits letter (drop at w.now)) result }
-{
-    if digits {
-        return digit_slot(w, at, letter);
+impl Slot for DigitsAndLetter {
+    ghost size = { digit_slot };
+
+    fn size(w: &[u8], at: usize, letter: u8) -> Option<usize> {
+        let end = past_run::<Digit>(w, at);
+        let digits = end - at;
+        if digits < 1 || MOST_DIGITS < digits {
+            return None;
+        }
+        if end < w.len() && in_either_case(letter, w[end]) {
+            return Some(digits + 1);
+        }
+        None
     }
-    letter_slot(w, at, letter)
 }
 
 // The slot of a letter, whose bit is given, where one stands next.
-fn fill(w: &[u8], x: Slots, bit: u8, letter: u8, digits: bool) -> Slots
+fn fill<S: Slot>(w: &[u8], x: Slots, bit: u8, letter: u8) -> Slots
     requires { FillRoom w.now x bit }
-    ensures { FillIs w.now (x.flag + bit)
-        (fill (slot_by digits) bit letter (filled_at w.now x)) result }
+    ensures { FillIs w.now (x.flag + bit) (fill S.size bit letter (filled_at w.now x)) result }
 {
-    let size = slot(w, x.at, letter, digits);
-    if size == 0 {
-        return x;
-    }
-    Slots {
-        flag: x.flag + bit,
-        at: x.at + size,
+    match S::size(w, x.at, letter) {
+        Some(size) => Slots {
+            flag: x.flag + bit,
+            at: x.at + size,
+        },
+        None => x,
     }
 }
 
 // The slots before T.
-fn fill_dates(w: &[u8], at: usize, digits: bool) -> Slots
+fn fill_dates<S: Slot>(w: &[u8], at: usize) -> Slots
     requires { at ≤ length w.now }
-    ensures { FillIs w.now 15
-        (fill_all (slot_by digits) 1 (bytes "ymwd") (filled 0 (drop at w.now))) result }
+    ensures { FillIs w.now 15 (fill_all S.size 1 (bytes "ymwd") (filled 0 (drop at w.now))) result }
 {
     let none = Slots { flag: 0, at };
-    let years = fill(w, none, 1, b'y', digits);
-    let months = fill(w, years, 2, b'm', digits);
-    let weeks = fill(w, months, 4, b'w', digits);
-    fill(w, weeks, 8, b'd', digits)
+    let years = fill::<S>(w, none, 1, b'y');
+    let months = fill::<S>(w, years, 2, b'm');
+    let weeks = fill::<S>(w, months, 4, b'w');
+    fill::<S>(w, weeks, 8, b'd')
 }
 
 // The slots behind T.
-fn fill_times(w: &[u8], at: usize, digits: bool) -> Slots
+fn fill_times<S: Slot>(w: &[u8], at: usize) -> Slots
     requires { at ≤ length w.now }
     ensures { FillIs w.now 112
-        (fill_all (slot_by digits) 16 (bytes "hms") (filled 0 (drop at w.now))) result }
+        (fill_all S.size 16 (bytes "hms") (filled 0 (drop at w.now))) result }
 {
     let none = Slots { flag: 0, at };
-    let hours = fill(w, none, 16, b'h', digits);
-    let minutes = fill(w, hours, 32, b'm', digits);
-    fill(w, minutes, 64, b's', digits)
+    let hours = fill::<S>(w, none, 16, b'h');
+    let minutes = fill::<S>(w, hours, 32, b'm');
+    fill::<S>(w, minutes, 64, b's')
 }
 
 // Behind T: slots, one at least, and the end.
-fn behind_time(w: &[u8], at: usize, flag: u8, digits: bool) -> u8
+fn behind_time<S: Slot>(w: &[u8], at: usize, flag: u8) -> Option<u8>
     requires at_in_bounds { at ≤ length w.now }
     requires flag_bound { flag ≤ 15 }
-    ensures { FlagIs (behind_time (slot_by digits) flag (drop at w.now)) result }
+    ensures { FlagIs (behind_time S.size flag (drop at w.now)) result }
 {
-    let x = fill_times(w, at, digits);
-    if x.at < w.len() {
-        return 0;
+    let x = fill_times::<S>(w, at);
+    if x.at < w.len() || x.flag < 1 {
+        return None;
     }
-    if x.flag < 1 {
-        return 0;
-    }
-    flag + x.flag
+    Some(flag + x.flag)
 }
 
-// P and slots: the slots filled, as a flag; 0 where that is not how the bytes are spelled.
-fn slots_of(w: &[u8], digits: bool) -> u8
-    ensures { FlagIs (slots_of (slot_by digits) w.now) result }
+// The slots before T as a flag, where there are any.
+fn dates_alone(flag: u8) -> Option<u8>
+    requires { flag ≤ 127 }
+    ensures { FlagIs flag result }
 {
-    if w.len() == 0 {
-        return 0;
+    if flag == 0 { None } else { Some(flag) }
+}
+
+// P and slots: the slots filled, as a flag, where the bytes are spelled so.
+fn slots_of<S: Slot>(w: &[u8]) -> Option<u8>
+    ensures { FlagIs (slots_of S.size w.now) result }
+{
+    if w.len() == 0 || w[0] != b'P' {
+        return None;
     }
-    if w[0] != b'P' {
-        return 0;
-    }
-    let x = fill_dates(w, 1, digits);
+    let x = fill_dates::<S>(w, 1);
     let at = x.at;
     if at == w.len() {
-        return x.flag;
+        return dates_alone(x.flag);
     }
     if w[at] != b'T' {
-        return 0;
+        return None;
     }
-    behind_time(w, at + 1, x.flag, digits)
+    behind_time::<S>(w, at + 1, x.flag)
 }
 
-// The flag of the Duration pattern that is spelled so, 0 for none.
-pub fn pattern_slots(w: &[u8]) -> u8
+// The flag of the Duration pattern that is spelled so.
+pub fn pattern_slots(w: &[u8]) -> Option<u8>
     ensures { FlagIs (pattern_slots w.now) result }
 {
-    slots_of(w, false)
+    slots_of::<LetterAlone>(w)
 }
 
-// The slots that a duration word without a sign fills, as a flag; 0 where it is none.
-pub fn word_slots(w: &[u8]) -> u8
+// The slots that a duration word without a sign fills, as a flag.
+pub fn word_slots(w: &[u8]) -> Option<u8>
     ensures { FlagIs (slots_of digit_slot w.now) result }
 {
-    slots_of(w, true)
+    slots_of::<DigitsAndLetter>(w)
 }

@@ -1,8 +1,8 @@
 // The token reader: it holds the text that it reads and its place. Each function over it takes it apart or makes it, and leaves the work to `token_of`.
 ghost use Rattle.std.specs.Prelude.{◌≡◌};
-ghost use Rattle.lexis.specs.Clauses.Answers.{behind_of, token_by};
+ghost use Rattle.lexis.specs.Clauses.Answers.{token_by};
 
-use crate::data_tokens::data_token_on;
+use crate::data_tokens::{Anywhere, BehindRound, data_token_on};
 use crate::runs::token_start;
 use crate::tokens::token_on;
 use crate::{TEXT_END, Token};
@@ -21,17 +21,6 @@ pub struct Reader<'a> {
     pub place: usize,
 }
 
-// The tokens are those behind `(`.
-fn behind(tokens: Tokens) -> bool
-    ensures { result ≡ behind_of tokens }
-{
-    match tokens {
-        Tokens::Constraint => false,
-        Tokens::Data => false,
-        Tokens::Behind => true,
-    }
-}
-
 // The next token of a text, from a place on.
 fn token_of(s: &[u8], from: usize, tokens: Tokens) -> Token
     ensures { result ≡ token_by tokens s.now from }
@@ -46,7 +35,8 @@ fn token_of(s: &[u8], from: usize, tokens: Tokens) -> Token
     let at = token_start(s, from);
     match tokens {
         Tokens::Constraint => token_on(s, at),
-        _ => data_token_on(s, at, behind(tokens)),
+        Tokens::Data => data_token_on::<Anywhere>(s, at),
+        Tokens::Behind => data_token_on::<BehindRound>(s, at),
     }
 }
 

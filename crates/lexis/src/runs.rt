@@ -1,45 +1,76 @@
 // Runs of bytes, blanks and comments, and bytes compared with what is spelled.
-ghost use Rattle.std.specs.Prelude.{◌≡◌, ◌+◌, ◌≤◌, ◌<◌, length, drop};
-ghost use Rattle.lexis.specs.Runs.{past, byte_at, same, starts_with, shaped};
+ghost use Rattle.std.specs.Prelude.{◌≡◌, ℕ, Bool, ◌+◌, ◌≤◌, ◌<◌, eqb, length, drop};
+ghost use Rattle.lexis.specs.Bytes.{is, digit, word_byte, string_byte, run_byte};
+ghost use Rattle.lexis.specs.Runs.{past, byte_at, same, starts_with, shaped, allows};
 ghost use Rattle.lexis.specs.Blanks.{token_start};
-ghost use Rattle.lexis.specs.Clauses.Answers.{PlaceIs, test_of, comment_open, token_here, admits, begins_by};
+ghost use Rattle.lexis.specs.Clauses.Answers.{PlaceIs, comment_open, token_here, begins_by};
 
 use crate::sorts::{byte_at, is_blank, is_digit, line_end, run_byte, string_byte, word_byte};
 
 // What the bytes of a run are.
-#[derive(Clone, Copy)]
-pub enum Class {
-    Digit,
-    Word,
-    Text,
-    Run,
+pub trait Class {
+    ghost test: { ℕ → Bool };
+
+    // The byte is of the class.
+    fn holds(b: u8) -> bool
+        ensures { result ≡ test b };
 }
 
-// The byte is of that class.
-fn in_class(c: Class, b: u8) -> bool
-    ensures { result ≡ test_of c b }
-{
-    match c {
-        Class::Digit => is_digit(b),
-        Class::Word => word_byte(b),
-        Class::Text => string_byte(b),
-        Class::Run => run_byte(b),
+// Digits.
+pub struct Digit;
+
+// The bytes of words.
+pub struct Word;
+
+// The bytes of strings.
+pub struct Text;
+
+// The bytes of runs of data text.
+pub struct Run;
+
+impl Class for Digit {
+    ghost test = { is digit };
+
+    fn holds(b: u8) -> bool {
+        is_digit(b)
     }
 }
 
-// The first place from one on whose byte is not of that class.
-pub fn past_run(s: &[u8], from: usize, c: Class) -> usize
+impl Class for Word {
+    ghost test = { word_byte };
+
+    fn holds(b: u8) -> bool {
+        word_byte(b)
+    }
+}
+
+impl Class for Text {
+    ghost test = { string_byte };
+
+    fn holds(b: u8) -> bool {
+        string_byte(b)
+    }
+}
+
+impl Class for Run {
+    ghost test = { run_byte };
+
+    fn holds(b: u8) -> bool {
+        run_byte(b)
+    }
+}
+
+// The first place from one on whose byte is not of the class.
+pub fn past_run<C: Class>(s: &[u8], from: usize) -> usize
     requires { from ≤ length s.now }
-    ensures { PlaceIs s.now from (past (test_of c) from (drop from s.now)) result }
+    ensures { PlaceIs s.now from (past C.test from (drop from s.now)) result }
 {
-    let mut at = from;
-    while at < s.len() {
-        if !in_class(c, s[at]) {
+    for at in from..s.len() {
+        if !C::holds(s[at]) {
             return at;
         }
-        at += 1;
     }
-    at
+    s.len()
 }
 
 // Whether a comment is open behind the byte at a place, by whether one is open before it.
@@ -79,45 +110,58 @@ pub fn token_start(s: &[u8], from: usize) -> usize
     requires { from ≤ length s.now }
     ensures { PlaceIs s.now from (token_start s.now from) result }
 {
-    let mut at = from;
     let mut inside = false;
-    while at < s.len() {
+    for at in from..s.len() {
         if token_here(s, at, inside) {
             return at;
         }
         inside = comment_open(s, at, inside);
-        at += 1;
     }
-    at
+    s.len()
 }
 
-// Whether a byte of a spelling admits a byte of the text; in a shape `d` admits any digit.
-fn admitted(w: u8, b: u8, shape: bool) -> bool
-    ensures { result ≡ admits shape w b }
-{
-    if !shape {
-        return w == b;
-    }
-    if w == b'd' {
-        return is_digit(b);
-    }
-    w == b
+// Which bytes of a text a byte of a spelling admits.
+trait Spelling {
+    ghost admits: { ℕ → ℕ → Bool };
+
+    fn admits(w: u8, b: u8) -> bool
+        ensures { result ≡ admits w b };
 }
 
-// The bytes at a place begin as is spelled, or in that shape.
-fn begins(s: &[u8], at: usize, w: &[u8], shape: bool) -> bool
+// A byte admits itself alone.
+struct Literal;
+
+// A byte admits itself alone, but `d` any digit.
+struct Shape;
+
+impl Spelling for Literal {
+    ghost admits = { eqb };
+
+    fn admits(w: u8, b: u8) -> bool {
+        w == b
+    }
+}
+
+impl Spelling for Shape {
+    ghost admits = { allows };
+
+    fn admits(w: u8, b: u8) -> bool {
+        if w == b'd' { is_digit(b) } else { w == b }
+    }
+}
+
+// The bytes at a place begin as is spelled.
+fn begins<S: Spelling>(s: &[u8], at: usize, w: &[u8]) -> bool
     requires { at ≤ length s.now }
-    ensures { result ≡ begins_by (admits shape) w.now (drop at s.now) }
+    ensures { result ≡ begins_by S.admits w.now (drop at s.now) }
 {
     if s.len() - at < w.len() {
         return false;
     }
-    let mut i = 0;
-    while i < w.len() {
-        if !admitted(w[i], s[at + i], shape) {
+    for (i, &b) in w.iter().enumerate() {
+        if !S::admits(b, s[at + i]) {
             return false;
         }
-        i += 1;
     }
     true
 }
@@ -127,7 +171,7 @@ pub fn starts_with(s: &[u8], at: usize, w: &[u8]) -> bool
     requires { at ≤ length s.now }
     ensures { result ≡ starts_with w.now (drop at s.now) }
 {
-    begins(s, at, w, false)
+    begins::<Literal>(s, at, w)
 }
 
 // The bytes at a place begin in that shape.
@@ -135,22 +179,12 @@ pub fn shaped(s: &[u8], at: usize, shape: &[u8]) -> bool
     requires { at ≤ length s.now }
     ensures { result ≡ shaped shape.now (drop at s.now) }
 {
-    begins(s, at, shape, true)
+    begins::<Shape>(s, at, shape)
 }
 
 // Two runs of bytes are the same.
 pub fn same_bytes(a: &[u8], b: &[u8]) -> bool
     ensures { result ≡ same a.now b.now }
 {
-    if a.len() != b.len() {
-        return false;
-    }
-    let mut i = 0;
-    while i < a.len() {
-        if a[i] != b[i] {
-            return false;
-        }
-        i += 1;
-    }
-    true
+    a == b
 }

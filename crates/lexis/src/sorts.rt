@@ -49,118 +49,72 @@ pub fn byte_at(s: &[u8], at: usize) -> u8
 }
 
 // Space, tab, CR or LF.
+#[tactic(auto, unfolding(crate::specs::Bytes::sort_of))]
 pub fn is_blank(b: u8) -> bool
     ensures { result ≡ is blank b }
 {
-    if b == b' ' {
-        return true;
-    }
-    if b < b'\t' {
-        return false;
-    }
-    if b <= b'\n' {
-        return true;
-    }
-    b == b'\r'
+    matches!(b, b' ' | b'\t' | b'\r' | b'\n')
 }
 
 // CR or LF, which end a comment.
+#[tactic(auto, unfolding(crate::specs::Bytes::line_end))]
 pub fn line_end(b: u8) -> bool
     ensures { result ≡ line_end b }
 {
-    if b < b'\r' {
-        return b == b'\n';
-    }
-    b == b'\r'
+    matches!(b, b'\r' | b'\n')
 }
 
 // A digit.
+#[tactic(auto, unfolding(crate::specs::Bytes::sort_of))]
 pub fn is_digit(b: u8) -> bool
     ensures { result ≡ is digit b }
 {
-    if b < b'0' {
-        return false;
-    }
-    b <= b'9'
+    matches!(b, b'0'..=b'9')
 }
 
 // A small letter.
+#[tactic(auto, unfolding(crate::specs::Bytes::sort_of))]
 pub fn is_small(b: u8) -> bool
     ensures { result ≡ is small b }
 {
-    if b < b'a' {
-        return false;
-    }
-    b <= b'z'
+    matches!(b, b'a'..=b'z')
 }
 
 // A capital.
+#[tactic(auto, unfolding(crate::specs::Bytes::sort_of))]
 pub fn is_capital(b: u8) -> bool
     ensures { result ≡ is capital b }
 {
-    if b < b'A' {
-        return false;
-    }
-    b <= b'Z'
+    matches!(b, b'A'..=b'Z')
 }
 
 // A letter, a digit or `_`.
+#[tactic(auto, unfolding(crate::specs::Bytes::sort_of, crate::specs::Bytes::word_byte))]
 pub fn word_byte(b: u8) -> bool
     ensures { result ≡ word_byte b }
 {
-    if b'a' <= b {
-        return b <= b'z';
-    }
-    if b'A' <= b {
-        if b <= b'Z' {
-            return true;
-        }
-        return b == b'_';
-    }
-    if b < b'0' {
-        return false;
-    }
-    b <= b'9'
+    matches!(b, b'a'..=b'z' | b'A'..=b'Z' | b'0'..=b'9' | b'_')
 }
 
 // A byte that a string may hold.
+#[tactic(auto, unfolding(crate::specs::Bytes::string_byte))]
 pub fn string_byte(b: u8) -> bool
     ensures { result ≡ string_byte b }
 {
-    if b < b' ' {
-        return false;
-    }
-    if b == b'"' {
-        return false;
-    }
-    if b == b'\\' {
-        return false;
-    }
-    b <= b'~'
+    matches!(b, b' '..=b'~') && b != b'"' && b != b'\\'
 }
 
 // One of `+ - . :`.
 pub fn run_mark(b: u8) -> bool
     ensures { result ≡ run_mark b }
 {
-    if b == b'+' {
-        return true;
-    }
-    if b == b'-' {
-        return true;
-    }
-    if b == b'.' {
-        return true;
-    }
-    b == b':'
+    matches!(b, b'+' | b'-' | b'.' | b':')
 }
 
 // A byte of a run of data text: a letter, a digit, or one of `_ + - . :`.
+#[tactic(auto, unfolding(crate::specs::Bytes::run_byte))]
 pub fn run_byte(b: u8) -> bool
     ensures { result ≡ run_byte b }
 {
-    if word_byte(b) {
-        return true;
-    }
-    run_mark(b)
+    word_byte(b) || run_mark(b)
 }

@@ -1,10 +1,10 @@
 // The tokens that are spelled in one way: marks, the sign ∈, patterns, and words that are no names. But for `spelling`, each function that takes the text is called in one place, so
 // that the compiler makes one function of all of them.
-ghost use Rattle.std.specs.Prelude.{◌≡◌, [], ◌∷◌, ◌<◌, length, drop};
-ghost use Rattle.lexis.specs.Spelling.{literal_of, mark_spellings, element_sign, date_pattern_spellings, time_pattern_spellings, keywords, booleans, word_sort};
+ghost use Rattle.std.specs.Prelude.{◌≡◌, List, [], ◌∷◌, ◌<◌, length, drop};
+ghost use Rattle.lexis.specs.Spelling.{Literal, literal_of, mark_spellings, element_sign, date_pattern_spellings, time_pattern_spellings, keywords, booleans, word_sort};
 ghost use Rattle.lexis.specs.Tokens.{no_token, spelled};
 ghost use Rattle.lexis.specs.DataTokens.{data_marks};
-ghost use Rattle.lexis.specs.Clauses.Answers.{words_of, OpensMark, OpensPlain};
+ghost use Rattle.lexis.specs.Clauses.Answers.{OpensMark, OpensPlain};
 
 use crate::runs::{same_bytes, starts_with};
 use crate::sorts::byte_at;
@@ -14,11 +14,37 @@ use crate::{
     TRUE_WORD, Token, no_token,
 };
 
-// The words that are no NAME, and those that are no TYPE.
-#[derive(Clone, Copy)]
-pub enum Words {
-    Keywords,
-    Booleans,
+// Words that are spelled in one way, each of a sort of its own.
+pub trait Words {
+    ghost words: { List Literal };
+
+    // The sort of a whole word: that of the one that it is, else the one given.
+    fn sort_of(w: &[u8], sort: u8) -> u8
+        ensures { result ≡ word_sort words w.now sort };
+}
+
+// The words that are no NAME.
+pub struct Keywords;
+
+// The words that are no TYPE.
+pub struct Booleans;
+
+impl Words for Keywords {
+    ghost words = { keywords };
+
+    fn sort_of(w: &[u8], sort: u8) -> u8 {
+        let second = sort_if(w, b"existence", EXISTENCE, sort);
+        sort_if(w, b"matches", MATCHES, second)
+    }
+}
+
+impl Words for Booleans {
+    ghost words = { booleans };
+
+    fn sort_of(w: &[u8], sort: u8) -> u8 {
+        let second = sort_if(w, b"False", FALSE_WORD, sort);
+        sort_if(w, b"True", TRUE_WORD, second)
+    }
 }
 
 // The mark `<` or `<=` at a place.
@@ -236,30 +262,4 @@ fn sort_if(w: &[u8], spelling: &[u8], sort: u8, other: u8) -> u8
         return sort;
     }
     other
-}
-
-// The sort of a keyword, else the one given.
-fn keyword_sort(w: &[u8], sort: u8) -> u8
-    ensures { result ≡ word_sort keywords w.now sort }
-{
-    let second = sort_if(w, b"existence", EXISTENCE, sort);
-    sort_if(w, b"matches", MATCHES, second)
-}
-
-// The sort of a Boolean, else the one given.
-fn boolean_sort(w: &[u8], sort: u8) -> u8
-    ensures { result ≡ word_sort booleans w.now sort }
-{
-    let second = sort_if(w, b"False", FALSE_WORD, sort);
-    sort_if(w, b"True", TRUE_WORD, second)
-}
-
-// The sort of a whole word: the list's where the list spells it, else the one given.
-pub fn word_sort(w: &[u8], f: Words, sort: u8) -> u8
-    ensures { result ≡ word_sort (words_of f) w.now sort }
-{
-    match f {
-        Words::Keywords => keyword_sort(w, sort),
-        Words::Booleans => boolean_sort(w, sort),
-    }
 }

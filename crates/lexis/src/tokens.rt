@@ -6,25 +6,27 @@ ghost use Rattle.lexis.specs.Runs.{byte_at};
 ghost use Rattle.lexis.specs.Spelling.{close_brace, keywords, booleans, date_pattern_spellings, time_pattern_spellings};
 ghost use Rattle.lexis.specs.Tokens.{type_name, name, word, number, sign, quoted, code_end, bracket, special, token_on, token_at, pattern_or, content_token_at, spelled, spelling};
 ghost use Rattle.lexis.specs.Durations.{pattern_slots};
-ghost use Rattle.lexis.specs.Clauses.Answers.{words_of, TokenIs, TypeThere};
+ghost use Rattle.lexis.specs.Clauses.Answers.{unless_zero, TokenIs, TypeThere};
 
 use crate::durations::pattern_slots;
 use crate::reader::{Tokens, token_from};
-use crate::runs::{Class, past_run, shaped, starts_with};
+use crate::runs::{Digit, Text, Word, past_run, shaped, starts_with};
 use crate::sorts::{CAPITAL, DIGIT, MARK, SMALL, byte_at, is_digit, sort_of};
-use crate::spellings::{Words, date_pattern, element_sign, mark, time_pattern, word_sort};
+use crate::spellings::{
+    Booleans, Keywords, Words, date_pattern, element_sign, mark, time_pattern,
+};
 use crate::{
     CLOSE_BRACE, CODE, DATE, DURATION_PATTERN, INTEGER, NAME, STRING, TEXT_END, TYPE_NAME, Token,
     no_token,
 };
 
-// A word: of the family's sort where the family spells it, else of the sort given.
-fn word(s: &[u8], at: usize, f: Words, sort: u8) -> Token
+// A word: of the sort that the list has for it, else of the one given.
+fn word<W: Words>(s: &[u8], at: usize, sort: u8) -> Token
     requires { at ≤ length s.now }
-    ensures { result ≡ word s.now (words_of f) sort at }
+    ensures { result ≡ word s.now W.words sort at }
 {
-    let end = past_run(s, at, Class::Word);
-    let k = word_sort(&s[at..end], f, sort);
+    let end = past_run::<Word>(s, at);
+    let k = W::sort_of(&s[at..end], sort);
     Token {
         sort: k,
         start: at,
@@ -38,7 +40,7 @@ fn capital_token(s: &[u8], at: usize) -> Token
     ensures { result
         ≡ spelled time_pattern_spellings at (drop at s.now) (word s.now booleans type_name at) }
 {
-    let t = word(s, at, Words::Booleans, TYPE_NAME);
+    let t = word::<Booleans>(s, at, TYPE_NAME);
     time_pattern(s, at, t)
 }
 
@@ -48,7 +50,7 @@ fn small_token(s: &[u8], at: usize) -> Token
     ensures { result
         ≡ spelled date_pattern_spellings at (drop at s.now) (word s.now keywords name at) }
 {
-    let t = word(s, at, Words::Keywords, NAME);
+    let t = word::<Keywords>(s, at, NAME);
     date_pattern(s, at, t)
 }
 
@@ -64,7 +66,7 @@ fn number(s: &[u8], at: usize) -> Token
             end: at + 10,
         };
     }
-    let end = past_run(s, at, Class::Digit);
+    let end = past_run::<Digit>(s, at);
     Token {
         sort: INTEGER,
         start: at,
@@ -90,7 +92,7 @@ fn sign(s: &[u8], at: usize) -> Token
     ensures { result ≡ sign s.now at }
 {
     if negative(s, at) {
-        let end = past_run(s, at + 1, Class::Digit);
+        let end = past_run::<Digit>(s, at + 1);
         return Token {
             sort: INTEGER,
             start: at,
@@ -105,7 +107,7 @@ pub fn quoted(s: &[u8], at: usize) -> Token
     requires { at < length s.now }
     ensures { result ≡ quoted s.now at }
 {
-    let end = past_run(s, at + 1, Class::Text);
+    let end = past_run::<Text>(s, at + 1);
     if byte_at(s, end) == b'"' {
         return Token {
             sort: STRING,
@@ -139,24 +141,22 @@ fn code_close(b: u8, some: bool) -> bool
     false
 }
 
-// Behind `[at`: the place behind the code's closing bracket, or 0 where no code ends.
-fn code_end(s: &[u8], from: usize) -> usize
+// Behind `[at`: the place behind the code's closing bracket, where a code ends.
+fn code_end(s: &[u8], from: usize) -> Option<usize>
     requires { from ≤ length s.now }
-    ensures { result ≡ code_end false from (drop from s.now) }
+    ensures { result ≡ unless_zero (code_end false from (drop from s.now)) }
 {
-    let mut at = from;
     let mut some = false;
-    while at < s.len() {
+    for at in from..s.len() {
         if code_close(s[at], some) {
-            return at + 1;
+            return Some(at + 1);
         }
         if !code_byte(s[at], some) {
-            return 0;
+            return None;
         }
         some = is_digit(s[at]);
-        at += 1;
     }
-    0
+    None
 }
 
 // A code with its brackets.
@@ -167,14 +167,13 @@ fn bracket(s: &[u8], at: usize) -> Token
     if !starts_with(s, at, b"[at") {
         return no_token(at);
     }
-    let end = code_end(s, at + 3);
-    if end == 0 {
-        return no_token(at);
-    }
-    Token {
-        sort: CODE,
-        start: at,
-        end,
+    match code_end(s, at + 3) {
+        Some(end) => Token {
+            sort: CODE,
+            start: at,
+            end,
+        },
+        None => no_token(at),
     }
 }
 
@@ -241,10 +240,9 @@ fn pattern_or_type(s: &[u8], t: Token) -> Token
     if s[start] != b'P' {
         return t;
     }
-    let flag = pattern_slots(&s[start..end]);
-    if flag < 1 {
+    let Some(flag) = pattern_slots(&s[start..end]) else {
         return t;
-    }
+    };
     if !closes(s, end) {
         return t;
     }

@@ -48,7 +48,7 @@ module _ (y m : ℕ) where
   month_other h = rw (ne_eqb m 2 h)
 
 -- no month has more than 31 days
-month_most : (y m : ℕ) → month_days y m ≤ 31
+pub month_most : (y m : ℕ) → month_days y m ≤ 31
 month_most y zero = let e = month_other y zero (λ q. omega arith) in omega arith
 month_most y (suc i) = by_order (suc i) 12 (λ l. (month_long y (suc i) (omega arith) l).1) (λ l. let e = month_none y (suc i) l in omega arith)
 

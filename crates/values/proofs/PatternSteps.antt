@@ -1,6 +1,6 @@
 -- What each way through the code of patterns answers is what the definition says. Assumes nothing.
-use mathlib.Core.Path.{◌≡◌, refl, sym, ◌∙◌}
-use mathlib.Core.Bool.{Bool, true, false, not, and-false, beq}
+use mathlib.Core.Path.{◌≡◌, refl, sym, subst, ◌∙◌}
+use mathlib.Core.Bool.{Bool, true, false, not, ◌&&◌, and-false, beq}
 use mathlib.Core.List.{List, [], ◌∷◌}
 use Prim.Native.Nat.{ℕ, zero, suc, ◌-◌, ◌/◌, ◌%◌, ◌≤◌, ◌<◌}
 use native.Mathlib.Omega.{arith}
@@ -119,24 +119,18 @@ pub slots_all : (pattern filled : ℕ) → slots_fit 7 pattern filled ≡ fits_d
 unfolding fits_duration
 slots_all pattern filled = refl
 
-pub slots_end : (left p f : ℕ) (x : Bool) → slots_fit left p f ≡ x → left ≤ 0 → true ≡ x
-unfolding slots_fit
-slots_end zero p f x now l = now
-slots_end (suc left) p f x now l = absurd (omega arith)
+module _ (left p f : ℕ) where
+  pub slots_end : left ≤ 0 → slots_fit left p f ≡ true
+  unfolding slots_fit
+  slots_end l = let e : left ≡ 0 = omega arith in rw e
 
-pub slots_without : (left p f : ℕ) (x r : Bool) → slots_fit left p f ≡ x → 0 < left → r ≡ slot_fits p f → not r ≡ true
-    → false ≡ x
-unfolding slots_fit
-slots_without zero p f x r now l q k = absurd (omega arith)
-slots_without (suc left) p f x r now l q k = rw (← q, not-true r k) at now
+  pub slots_on : 0 < left → slots_fit left p f ≡ slot_fits p f && slots_fit (left - 1) (p / 2) (f / 2)
+  unfolding slots_fit
+  slots_on l = let e : left ≡ suc (left - 1) = omega arith in subst (λ (n : ℕ). slots_fit n p f ≡ slot_fits p f && slots_fit (left - 1) (p / 2) (f / 2)) (sym e) refl
 
-pub slots_on : (left p f : ℕ) (x r : Bool) → slots_fit left p f ≡ x → 0 < left → r ≡ slot_fits p f → not r ≡ false
-    → slots_fit (left - 1) (p / 2) (f / 2) ≡ x
-unfolding slots_fit
-slots_on zero p f x r now l q k = absurd (omega arith)
-slots_on (suc left) p f x r now l q k =
-    let n : suc left - 1 ≡ left = omega arith in
-    rw n (rw (← q, not-false r k) at now)
+pub ruleset date_steps = (date_zero, date_first, date_second, date_third, date_fourth, date_fifth, date-other)
+
+pub ruleset time_steps = (time_zero, time_first, time_second, time_third, time_fourth, time_other)
 
 pub ruleset steps = (
   within_below,
@@ -158,6 +152,5 @@ pub ruleset steps = (
   slot_filled,
   slots_all,
   slots_end,
-  slots_without,
   slots_on,
 )

@@ -33,7 +33,7 @@ pub shaped_reaches : (shape w : List ℕ) (r : Bool) (n : ℕ) → r ≡ shaped 
     → n ≤ length w
 shaped_reaches shape w r n h q l = let e = shaped_long shape w (sym h ∙ q) in omega arith
 
-no_minutes : (z : List ℕ) → length z ≡ 3 → digits_at 4 2 z ≡ 0
+pub no_minutes : (z : List ℕ) → length z ≡ 3 → digits_at 4 2 z ≡ 0
 unfolding value_of
 no_minutes z h = let l : length z ≤ 4 = omega arith in rw (drop_of_length-le z l)
 
@@ -79,6 +79,10 @@ module _ (z : List ℕ) (r : Bool) (h : r ≡ exactly (bytes "-dd") z) where
 
 -- no zone, or a good one
 module _ (z : List ℕ) where
+  pub zulu_is : exactly (bytes "Z") z ≡ same (bytes "Z") z
+  unfolding all
+  zulu_is = exactly_same (bytes "Z") z refl
+
   pub zone_none : length z ≡ 0 → true ≡ zone z
   unfolding zone
   zone_none h = rw (eq-eqb (length z) 0 h)

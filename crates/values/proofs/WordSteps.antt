@@ -11,27 +11,26 @@ use Rattle.values.specs.Dates.{exactly, date_of}
 use Rattle.values.specs.Times.{time_of}
 use Rattle.values.specs.Durations.{duration_of}
 use Rattle.values.specs.Words.{boolean_of, reads, good}
-use Rattle.values.specs.Clauses.Answers.{integer_answer, short_integer, date_answer, time_answer, duration_answer, boolean_answer}
-use Rattle.values.specs.declared.integers.Number.{Number}
-use Rattle.values.specs.declared.integers.Number.TheVariants as number
-use Rattle.values.specs.declared.dates.Day.{Day}
-use Rattle.values.specs.declared.dates.Day.TheVariants as date
-use Rattle.values.specs.declared.times.Parts.{Parts}
-use Rattle.values.specs.declared.times.Parts.TheVariants as time
-use Rattle.values.specs.declared.durations.Duration.{Duration}
-use Rattle.values.specs.declared.durations.Duration.TheVariants as duration
-use Rattle.values.specs.declared.words.Boolean.{Boolean}
-use Rattle.values.specs.declared.words.Boolean.TheVariants as boolean
+use Rattle.values.specs.Clauses.Answers.{short_integer}
 use Rattle.values.proofs.ShapeSteps.{exactly_same}
 use Rattle.values.proofs.IntegerSteps.{short_reads}
 
 -- True and False
+module _ (w : List ℕ) where
+  pub true_is : exactly (bytes "True") w ≡ same (bytes "True") w
+  unfolding all
+  true_is = exactly_same (bytes "True") w refl
+
+  pub false_is : exactly (bytes "False") w ≡ same (bytes "False") w
+  unfolding all
+  false_is = exactly_same (bytes "False") w refl
+
 module _ (w : List ℕ) (r : Bool) (h : r ≡ exactly (bytes "True") w) where
-  as_true : exactly (bytes "True") w ≡ same (bytes "True") w
+  pub as_true : exactly (bytes "True") w ≡ same (bytes "True") w
   unfolding all
   as_true = exactly_same (bytes "True") w refl
 
-  as_false : exactly (bytes "False") w ≡ same (bytes "False") w
+  pub as_false : exactly (bytes "False") w ≡ same (bytes "False") w
   unfolding all
   as_false = exactly_same (bytes "False") w refl
 
@@ -57,45 +56,9 @@ good_few_digits w r h e = rw (short_reads w (sym h ∙ e)) (second (reads (boole
     second true y z v = refl
     second false y z v = refl
 
--- a good word, by the first that it reads as
-module _ (w : List ℕ) (b : Boolean) (hb : boolean_answer b ≡ boolean_of w) where
-  pub good_boolean : (n : ℕ) → b ≡ boolean.Value n → true ≡ good w
-  unfolding good
-  good_boolean n q = rw (← hb, q)
-
-  module _ (nb : b ≡ boolean.Nothing) (i : Number) (hi : integer_answer i ≡ integer_of w) where
-    pub good-integer : (n : ℕ) → i ≡ number.Value n → true ≡ good w
-    unfolding good
-    good-integer n q = rw (← hb, nb, ← hi, q)
-
-    module _ (ni : i ≡ number.Nothing) (d : Day) (hd : date_answer d ≡ date_of w) where
-      pub good-date : (p n : ℕ) → d ≡ date.Value p n → true ≡ good w
-      unfolding good
-      good-date p n q = rw (← hb, nb, ← hi, ni, ← hd, q)
-
-      module _ (nd : d ≡ date.Nothing) (t : Parts) (ht : time_answer t ≡ time_of w) where
-        pub good_time_lem : (n : ℕ) → t ≡ time.Value n → true ≡ good w
-        unfolding good
-        good_time_lem n q = rw (← hb, nb, ← hi, ni, ← hd, nd, ← ht, q)
-
-        module _ (nt : t ≡ time.Nothing) (u : Duration) (hu : duration_answer u ≡ duration_of w) where
-          pub good_duration : (n : ℕ) → u ≡ duration.Value n → true ≡ good w
-          unfolding good
-          good_duration n q = rw (← hb, nb, ← hi, ni, ← hd, nd, ← ht, nt, ← hu, q)
-
-          pub good_none : u ≡ duration.Nothing → false ≡ good w
-          unfolding good
-          good_none q = rw (← hb, nb, ← hi, ni, ← hd, nd, ← ht, nt, ← hu, q)
-
 pub ruleset steps = (
   boolean_true,
   boolean_false,
   boolean_none,
   good_few_digits,
-  good_boolean,
-  good-integer,
-  good-date,
-  good_time_lem,
-  good_duration,
-  good_none,
 )

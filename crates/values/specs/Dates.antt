@@ -6,11 +6,7 @@ use Rattle.lexis.specs.Text.{bytes}
 use Rattle.lexis.specs.Runs.{shaped}
 use Rattle.values.specs.Integers.{value_of}
 use Rattle.values.specs.Calendar.{real, packed}
-
--- a date that was read: how many of year, month and day are there, and the date packed, with 1 for a part that is not there
-pub record Date : Type 0 where
-  pub parts : ℕ
-  pub day : ℕ
+pub use Rattle.values.specs.declared.dates.Date.{Date}
 
 -- the bytes are of the shape, all of them
 abbrev pub exactly : List ℕ → List ℕ → Bool

@@ -1,67 +1,39 @@
 // Dates as they are spelled.
-ghost use Rattle.std.specs.Prelude.{◌≡◌, ◌≤◌, length};
+ghost use Rattle.std.specs.Prelude.{◌≡◌, ◌<◌, ◌^◌};
+ghost use Rattle.values.specs.Calendar.{packed};
 ghost use Rattle.values.specs.Dates.{real_date, date_of};
-ghost use Rattle.values.specs.Clauses.Answers.{year_date, month_date, day_date, date_answer};
 
 use crate::calendar::{packed, real};
 use crate::shapes::{exactly, four_digits, two_digits};
 
-// A date that is read, with its parts counted and 1 for a part that is not there, or that none is spelled.
+// A date that was read: how many of year, month and day are there, and the date packed, with 1 for a part that is not there.
 #[derive(Clone, Copy)]
-pub enum Day {
-    Value { parts: u8, day: u32 },
-    Nothing,
+pub struct Date {
+    pub parts: u8,
+    pub day: u32,
 }
 
-// The day, if the calendar has it.
-fn real_date(parts: u8, day: u32) -> Day
-    ensures { date_answer result ≡ real_date parts day }
+// The date with so many parts, if the calendar has its day.
+fn real_date(parts: u8, y: u32, m: u32, d: u32) -> Option<Date>
+    requires { packed y m d < 2 ^ 32 }
+    ensures { result ≡ real_date parts (packed y m d) }
 {
-    if real(day) {
-        return Day::Value { parts, day };
-    }
-    Day::Nothing
-}
-
-// yyyy
-fn year_date(w: &[u8]) -> Day
-    requires { 4 ≤ length w.now }
-    ensures { date_answer result ≡ year_date w.now }
-{
-    real_date(1, packed(four_digits(w), 1, 1))
-}
-
-// yyyy-mm
-fn month_date(w: &[u8]) -> Day
-    requires { 7 ≤ length w.now }
-    ensures { date_answer result ≡ month_date w.now }
-{
-    real_date(2, packed(four_digits(w), two_digits(w, 5), 1))
-}
-
-// yyyy-mm-dd
-fn day_date(w: &[u8]) -> Day
-    requires { 10 ≤ length w.now }
-    ensures { date_answer result ≡ day_date w.now }
-{
-    real_date(
-        3,
-        packed(four_digits(w), two_digits(w, 5), two_digits(w, 8)),
-    )
+    let day = packed(y, m, d);
+    real(day).then_some(Date { parts, day })
 }
 
 // The date that bytes spell, whole or from the year on.
-pub fn date_of(w: &[u8]) -> Day
-    ensures { date_answer result ≡ date_of w.now }
+#[tactic(auto, unfolding(crate::specs::Dates::date_of))]
+pub fn date_of(w: &[u8]) -> Option<Date>
+    ensures { result ≡ date_of w.now }
 {
     if exactly(b"dddd", w) {
-        return year_date(w);
+        real_date(1, four_digits(w), 1, 1)
+    } else if exactly(b"dddd-dd", w) {
+        real_date(2, four_digits(w), two_digits(w, 5), 1)
+    } else if exactly(b"dddd-dd-dd", w) {
+        real_date(3, four_digits(w), two_digits(w, 5), two_digits(w, 8))
+    } else {
+        None
     }
-    if exactly(b"dddd-dd", w) {
-        return month_date(w);
-    }
-    if exactly(b"dddd-dd-dd", w) {
-        return day_date(w);
-    }
-    Day::Nothing
 }

@@ -1,36 +1,16 @@
 // Durations as they are spelled.
 ghost use Rattle.std.specs.Prelude.{◌≡◌};
-ghost use Rattle.values.specs.Durations.{slots_if, duration_of};
-ghost use Rattle.values.specs.Clauses.Answers.{duration_answer};
+ghost use Rattle.values.specs.Durations.{duration_of};
 
 use lexis::durations::word_slots;
 
-// The slots that a duration that is read fills, as a flag, or that none is spelled.
-#[derive(Clone, Copy)]
-pub enum Duration {
-    Value(u8),
-    Nothing,
-}
-
-// A duration that fills these slots, if there are any.
-fn slots_if(flag: u8) -> Duration
-    ensures { duration_answer result ≡ slots_if flag }
+// The slots that the duration that bytes spell fills, as a flag, with or without a sign.
+#[tactic(auto, using(crate::proofs::DurationSteps::duration_signed, crate::proofs::DurationSteps::duration_unsigned, crate::proofs::DurationSteps::duration_empty))]
+pub fn duration_of(w: &[u8]) -> Option<u8>
+    ensures { result ≡ duration_of w.now }
 {
-    if flag == 0 {
-        return Duration::Nothing;
+    match w {
+        [b'-', slots @ ..] => word_slots(slots),
+        _ => word_slots(w),
     }
-    Duration::Value(flag)
-}
-
-// The duration that bytes spell, with or without a sign.
-pub fn duration_of(w: &[u8]) -> Duration
-    ensures { duration_answer result ≡ duration_of w.now }
-{
-    if w.len() == 0 {
-        return Duration::Nothing;
-    }
-    if w[0] == b'-' {
-        return slots_if(word_slots(&w[1..]));
-    }
-    slots_if(word_slots(w))
 }

@@ -1,18 +1,11 @@
 // Integers, kept as their distance from -2,147,483,648.
 ghost use Rattle.std.specs.Prelude.{◌≡◌, true};
 ghost use Rattle.values.specs.Integers.{integer_of, negative, not_negative, twos_complement, magnitude, inside, pair, around};
-ghost use Rattle.values.specs.Clauses.Answers.{integer_answer, digits_from, plain_number, short_integer};
+ghost use Rattle.values.specs.Clauses.Answers.{digits_from, plain_number, short_integer};
 
 use crate::shapes::digit_value;
-use lexis::runs::{Class, past_run};
+use lexis::runs::{Digit, past_run};
 use lexis::sorts::is_digit;
-
-// An integer that is read, or that none is spelled.
-#[derive(Clone, Copy)]
-pub enum Number {
-    Value(u32),
-    Nothing,
-}
 
 // 0 as a distance.
 const NOUGHT: u32 = 2_147_483_648;
@@ -21,131 +14,94 @@ const NOUGHT: u32 = 2_147_483_648;
 pub const GREATEST: u32 = 4_294_967_295;
 
 // The number that digits spell, up to 2,147,483,648: a longer run is left as soon as it is larger.
-fn digits(ds: &[u8]) -> Number
-    ensures { integer_answer result ≡ digits_from 0 ds.now }
+#[tactic(auto, using(crate::proofs::IntegerSteps::digits_end, crate::proofs::IntegerSteps::digits_other, crate::proofs::IntegerSteps::digits_large, crate::proofs::IntegerSteps::digits_on))]
+fn digits(ds: &[u8]) -> Option<u32>
+    ensures { result ≡ digits_from 0 ds.now }
 {
     let mut n: u32 = 0;
-    let mut i = 0;
-    while i < ds.len() {
-        if !is_digit(ds[i]) {
-            return Number::Nothing;
+    for &b in ds {
+        if !is_digit(b) || 214_748_364 < n {
+            return None;
         }
-        if 214_748_364 < n {
-            return Number::Nothing;
-        }
-        n = n * 10 + digit_value(ds[i]);
-        i += 1;
+        n = n * 10 + digit_value(b);
     }
-    if NOUGHT < n {
-        return Number::Nothing;
-    }
-    Number::Value(n)
+    (n <= NOUGHT).then_some(n)
 }
 
 // The same of digits without a needless zero in front.
-fn plain_number(ds: &[u8]) -> Number
-    ensures { integer_answer result ≡ plain_number ds.now }
+#[tactic(auto, using(crate::proofs::IntegerSteps::plain_empty, crate::proofs::IntegerSteps::plain_zero, crate::proofs::IntegerSteps::plain_one, crate::proofs::IntegerSteps::plain_more))]
+fn plain_number(ds: &[u8]) -> Option<u32>
+    ensures { result ≡ plain_number ds.now }
 {
-    if ds.len() == 0 {
-        return Number::Nothing;
+    match ds {
+        [] | [b'0', _, ..] => None,
+        _ => digits(ds),
     }
-    if ds.len() == 1 {
-        return digits(ds);
-    }
-    if ds[0] == b'0' {
-        return Number::Nothing;
-    }
-    digits(ds)
 }
 
 // An integer from the digits behind `-`.
-fn negative(ds: &[u8]) -> Number
-    ensures { integer_answer result ≡ negative ds.now }
+#[tactic(auto, using(crate::proofs::IntegerSteps::plain_most, crate::proofs::IntegerSteps::negative_none, crate::proofs::IntegerSteps::negative_nought, crate::proofs::IntegerSteps::negative_some))]
+fn negative(ds: &[u8]) -> Option<u32>
+    ensures { result ≡ negative ds.now }
 {
-    match plain_number(ds) {
-        Number::Value(n) => {
-            if 1 <= n {
-                return Number::Value(NOUGHT - n);
-            }
-            Number::Nothing
-        }
-        Number::Nothing => Number::Nothing,
-    }
+    let n = plain_number(ds)?;
+    (1 <= n).then_some(NOUGHT - n)
 }
 
-// An integer from digits without `-`.
-fn not_negative(ds: &[u8]) -> Number
-    ensures { integer_answer result ≡ not_negative ds.now }
+// An integer from digits without `-`: above the greatest the sum is no u32.
+#[tactic(auto, using(crate::proofs::IntegerSteps::unsigned_none, crate::proofs::IntegerSteps::unsigned_there))]
+fn not_negative(ds: &[u8]) -> Option<u32>
+    ensures { result ≡ not_negative ds.now }
 {
-    match plain_number(ds) {
-        Number::Value(n) => {
-            if n <= 2_147_483_647 {
-                return Number::Value(NOUGHT + n);
-            }
-            Number::Nothing
-        }
-        Number::Nothing => Number::Nothing,
-    }
+    NOUGHT.checked_add(plain_number(ds)?)
 }
 
 // The integer that bytes spell, as a distance.
-pub fn integer_of(w: &[u8]) -> Number
-    ensures { integer_answer result ≡ integer_of w.now }
+#[tactic(auto, using(crate::proofs::IntegerSteps::integer_minus, crate::proofs::IntegerSteps::integer_digits, crate::proofs::IntegerSteps::integer_empty))]
+pub fn integer_of(w: &[u8]) -> Option<u32>
+    ensures { result ≡ integer_of w.now }
 {
-    if w.len() == 0 {
-        return Number::Nothing;
+    match w {
+        [b'-', ds @ ..] => negative(ds),
+        _ => not_negative(w),
     }
-    if w[0] == b'-' {
-        return negative(&w[1..]);
-    }
-    not_negative(w)
 }
 
 // The most digits with which an integer is in the range whatever they are.
 const SHORT: usize = 9;
 
 // The bytes spell an integer with few digits and no `-`, which is then in the range.
+#[tactic(auto, using(crate::proofs::IntegerSteps::digits_all), unfolding(crate::specs::Clauses::Answers::short_integer))]
 pub fn short_integer(w: &[u8]) -> bool
     ensures { result ≡ short_integer w.now }
 {
-    if w.len() == 0 {
-        return false;
+    match w {
+        [] | [b'0', _, ..] => false,
+        _ => w.len() <= SHORT && past_run::<Digit>(w, 0) == w.len(),
     }
-    if SHORT < w.len() {
-        return false;
-    }
-    if past_run(w, 0, Class::Digit) != w.len() {
-        return false;
-    }
-    if w[0] != b'0' {
-        return true;
-    }
-    w.len() == 1
 }
 
 // A distance as 32 bits of two's complement, and back.
 pub fn twos_complement(x: u32) -> u32
     ensures { result ≡ twos_complement x }
 {
-    if x < NOUGHT { x + NOUGHT } else { x - NOUGHT }
+    x.wrapping_add(NOUGHT)
 }
 
 // How far d lies from 0.
 fn magnitude(d: u32) -> u32
     ensures { result ≡ magnitude d }
 {
-    if NOUGHT <= d { d - NOUGHT } else { NOUGHT - d }
+    d.abs_diff(NOUGHT)
 }
 
 // Both a - d and a + d lie in the range.
+#[tactic(auto, unfolding(crate::specs::Integers::inside))]
 pub fn inside(a: u32, d: u32) -> bool
     ensures { result ≡ inside a d }
 {
     let n = magnitude(d);
-    if a < n {
-        return false;
-    }
-    n <= GREATEST - a
+    n <= a && n <= GREATEST - a
 }
 
 // The ends of an interval, as distances.
@@ -156,19 +112,21 @@ pub struct Ends {
 }
 
 // The ends of |a+/-d|.
+#[tactic(auto, unfolding(crate::specs::Integers::inside, crate::specs::Integers::around))]
 pub fn around(a: u32, d: u32) -> Ends
     requires { inside a d ≡ true }
     ensures { pair result.low result.high ≡ around a d }
 {
     let n = magnitude(d);
     if NOUGHT <= d {
-        return Ends {
+        Ends {
             low: a - n,
             high: a + n,
-        };
-    }
-    Ends {
-        low: a + n,
-        high: a - n,
+        }
+    } else {
+        Ends {
+            low: a + n,
+            high: a - n,
+        }
     }
 }

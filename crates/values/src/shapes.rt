@@ -9,23 +9,18 @@ use lexis::runs::shaped;
 pub fn digit_value(b: u8) -> u32
     ensures { DigitIs b result }
 {
-    if b < b'0' {
-        return 0;
-    }
-    (b - b'0') as u32
+    u32::from(b.saturating_sub(b'0'))
 }
 
 // The bytes are of the shape, all of them.
 pub fn exactly(shape: &[u8], w: &[u8]) -> bool
     ensures { result ≡ exactly shape.now w.now }
 {
-    if w.len() != shape.len() {
-        return false;
-    }
-    shaped(w, 0, shape)
+    w.len() == shape.len() && shaped(w, 0, shape)
 }
 
 // The number that two digits spell from a place on.
+#[tactic(auto, using(crate::proofs::ShapeSteps::two_are))]
 pub fn two_digits(w: &[u8], at: usize) -> u32
     requires { at + 2 ≤ length w.now }
     ensures { DigitsAre w.now at 2 3_000 result }
@@ -34,6 +29,7 @@ pub fn two_digits(w: &[u8], at: usize) -> u32
 }
 
 // The number that the first four digits spell.
+#[tactic(auto, using(crate::proofs::ShapeSteps::four_are))]
 pub fn four_digits(w: &[u8]) -> u32
     requires { 4 ≤ length w.now }
     ensures { DigitsAre w.now 0 4 400_000 result }

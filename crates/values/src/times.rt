@@ -1,8 +1,8 @@
 // Times and zones as they are spelled.
 ghost use Rattle.std.specs.Prelude.{◌≡◌, ◌+◌, ◌≤◌, leb, length};
 ghost use Rattle.values.specs.Dates.{digits_at};
-ghost use Rattle.values.specs.Times.{zone, good_time, time_of};
-ghost use Rattle.values.specs.Clauses.Answers.{east_zone, west_zone, hour_time, minute_time, second_time, time_answer};
+ghost use Rattle.values.specs.Times.{zone, time_of};
+ghost use Rattle.values.specs.Clauses.Answers.{east_zone, west_zone, hour_time, minute_time, second_time};
 
 use crate::shapes::{exactly, two_digits};
 use lexis::runs::shaped;
@@ -22,13 +22,6 @@ const MOST_EAST: u32 = 13;
 // The most hours that a zone has with `-`.
 const MOST_WEST: u32 = 12;
 
-// How many of hours, minutes and seconds a time that is read has, or that none is spelled.
-#[derive(Clone, Copy)]
-pub enum Parts {
-    Value(u8),
-    Nothing,
-}
-
 // Two digits spell a number up to a limit.
 fn up_to(w: &[u8], at: usize, most: u32) -> bool
     requires { at + 2 ≤ length w.now }
@@ -38,60 +31,38 @@ fn up_to(w: &[u8], at: usize, most: u32) -> bool
 }
 
 // A zone with `+`.
+#[tactic(auto, using(crate::proofs::TimeSteps::no_minutes))]
 fn east(z: &[u8]) -> bool
     ensures { result ≡ east_zone z.now }
 {
     if exactly(b"+dd", z) {
-        return up_to(z, 1, MOST_EAST);
+        up_to(z, 1, MOST_EAST)
+    } else {
+        exactly(b"+dd:dd", z) && up_to(z, 1, MOST_EAST) && up_to(z, 4, LAST_MINUTE)
     }
-    if !exactly(b"+dd:dd", z) {
-        return false;
-    }
-    if !up_to(z, 1, MOST_EAST) {
-        return false;
-    }
-    up_to(z, 4, LAST_MINUTE)
 }
 
 // A zone with `-`, which nought never has.
+#[tactic(auto, using(crate::proofs::TimeSteps::no_minutes))]
 fn west(z: &[u8]) -> bool
     ensures { result ≡ west_zone z.now }
 {
     if exactly(b"-dd", z) {
-        let h = two_digits(z, 1);
-        if MOST_WEST < h {
-            return false;
-        }
-        return 1 <= h;
+        up_to(z, 1, MOST_WEST) && 1 <= two_digits(z, 1)
+    } else {
+        exactly(b"-dd:dd", z)
+            && up_to(z, 1, MOST_WEST)
+            && up_to(z, 4, LAST_MINUTE)
+            && 1 <= two_digits(z, 1) + two_digits(z, 4)
     }
-    if !exactly(b"-dd:dd", z) {
-        return false;
-    }
-    let h = two_digits(z, 1);
-    if MOST_WEST < h {
-        return false;
-    }
-    let m = two_digits(z, 4);
-    if LAST_MINUTE < m {
-        return false;
-    }
-    1 <= h + m
 }
 
 // No zone, or a good one.
+#[tactic(auto, using(crate::proofs::TimeSteps::zulu_is), unfolding(crate::specs::Times::zone))]
 pub fn zone(z: &[u8]) -> bool
     ensures { result ≡ zone z.now }
 {
-    if z.len() == 0 {
-        return true;
-    }
-    if exactly(b"Z", z) {
-        return true;
-    }
-    if east(z) {
-        return true;
-    }
-    west(z)
+    z.is_empty() || exactly(b"Z", z) || east(z) || west(z)
 }
 
 // hh
@@ -99,10 +70,7 @@ fn hour_time(w: &[u8]) -> bool
     requires { 2 ≤ length w.now }
     ensures { result ≡ hour_time w.now }
 {
-    if !up_to(w, 0, LAST_HOUR) {
-        return false;
-    }
-    zone(&w[2..])
+    up_to(w, 0, LAST_HOUR) && zone(&w[2..])
 }
 
 // hh:mm
@@ -110,13 +78,7 @@ fn minute_time(w: &[u8]) -> bool
     requires { 5 ≤ length w.now }
     ensures { result ≡ minute_time w.now }
 {
-    if !up_to(w, 0, LAST_HOUR) {
-        return false;
-    }
-    if !up_to(w, 3, LAST_MINUTE) {
-        return false;
-    }
-    zone(&w[5..])
+    up_to(w, 0, LAST_HOUR) && up_to(w, 3, LAST_MINUTE) && zone(&w[5..])
 }
 
 // hh:mm:ss
@@ -124,40 +86,24 @@ fn second_time(w: &[u8]) -> bool
     requires { 8 ≤ length w.now }
     ensures { result ≡ second_time w.now }
 {
-    if !up_to(w, 0, LAST_HOUR) {
-        return false;
-    }
-    if !up_to(w, 3, LAST_MINUTE) {
-        return false;
-    }
-    if !up_to(w, 6, LAST_SECOND) {
-        return false;
-    }
-    zone(&w[8..])
+    up_to(w, 0, LAST_HOUR)
+        && up_to(w, 3, LAST_MINUTE)
+        && up_to(w, 6, LAST_SECOND)
+        && zone(&w[8..])
 }
 
-// So many parts, if they are good.
-fn good_time(good: bool, parts: u8) -> Parts
-    ensures { time_answer result ≡ good_time good parts }
-{
-    if good {
-        return Parts::Value(parts);
-    }
-    Parts::Nothing
-}
-
-// The time that bytes spell, whole or from the hour on, with or without a zone.
-pub fn time_of(w: &[u8]) -> Parts
-    ensures { time_answer result ≡ time_of w.now }
+// How many of hours, minutes and seconds the time has that bytes spell, whole or from the hour on, with or without a zone.
+#[tactic(auto, using(crate::proofs::TimeSteps::shaped_reaches), unfolding(crate::specs::Times::time_of))]
+pub fn time_of(w: &[u8]) -> Option<u8>
+    ensures { result ≡ time_of w.now }
 {
     if shaped(w, 0, b"dd:dd:dd") {
-        return good_time(second_time(w), 3);
+        second_time(w).then_some(3)
+    } else if shaped(w, 0, b"dd:dd") {
+        minute_time(w).then_some(2)
+    } else if shaped(w, 0, b"dd") {
+        hour_time(w).then_some(1)
+    } else {
+        None
     }
-    if shaped(w, 0, b"dd:dd") {
-        return good_time(minute_time(w), 2);
-    }
-    if shaped(w, 0, b"dd") {
-        return good_time(hour_time(w), 1);
-    }
-    Parts::Nothing
 }

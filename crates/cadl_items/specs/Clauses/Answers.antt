@@ -1,8 +1,11 @@
 -- What reading a leaf promises of its answer and of the scratch: both together are the reading of the definition, and bounds. Assumes nothing.
 use Rattle.std.specs.Prelude.{◌≡◌, List, [], ◌∷◌, ℕ, zero, suc, ◌+◌, ◌≤◌, ◌<◌, length}
+use Rattle.std.specs.declared.result.Result.{Result}
+use Rattle.std.specs.declared.result.Result.TheVariants.{Ok, Err}
 use Rattle.values.specs.Integers.{Pair, pair}
 use Rattle.refusals.specs.Limits.{text_limit, record_limit, item_limit}
 use Rattle.refusals.specs.Reading.{Reading, refused, got}
+use Rattle.refusals.specs.declared.Refusal.{Refusal}
 use Rattle.meaning.specs.Constraints.{SingleSort, booleans, date_pattern, time_pattern, duration_pattern, RangeSort, integers, dates, Range, Text, Leaf, single, ranges, texts}
 use Rattle.cadl_items.specs.Ranges.{range}
 use Rattle.cadl_items.specs.Clauses.Spans.{first_of, second_of, span_at, SpansIn}
@@ -10,8 +13,8 @@ use Rattle.cadl_items.specs.declared.leaves.SingleSort as declared
 use Rattle.cadl_items.specs.declared.leaves.SingleSort.TheVariants as single_sort
 use Rattle.cadl_items.specs.declared.leaves.RangeSort as declared_range
 use Rattle.cadl_items.specs.declared.leaves.RangeSort.TheVariants as range_sort
-use Rattle.cadl_items.specs.declared.leaves.LeafRead.{LeafRead}
-use Rattle.cadl_items.specs.declared.leaves.LeafRead.TheVariants as leaf_read
+use Rattle.cadl_items.specs.declared.leaves.Leaf as declared_leaf
+use Rattle.cadl_items.specs.declared.leaves.Leaf.TheVariants as leaf_read
 
 -- where a leaf is read: a place of a text that is not too long, and the next record's number
 pub record LeafRoom (s : List ℕ) (number from : ℕ) : Type 0 where
@@ -47,12 +50,12 @@ range_sort_of range_sort.Integers = integers
 range_sort_of range_sort.Dates = dates
 
 -- what reading a leaf answers, with the scratch: the leaf, whose items stand in the scratch and whose records are numbered from the number given on
-abbrev pub leaf_reading : List ℕ → ℕ → List ℕ → LeafRead → Reading Leaf
-leaf_reading s number scratch (leaf_read.Faulty x) = refused x
-leaf_reading s number scratch (leaf_read.Single sort flag next) = got (single (single_of sort) number flag) next
-leaf_reading s number scratch (leaf_read.Ranges sort count next) =
+abbrev pub leaf_reading : List ℕ → ℕ → List ℕ → Result declared_leaf.Leaf Refusal → Reading Leaf
+leaf_reading s number scratch (Err x) = refused x
+leaf_reading s number scratch (Ok (leaf_read.Single sort flag next)) = got (single (single_of sort) number flag) next
+leaf_reading s number scratch (Ok (leaf_read.Ranges sort count next)) =
     got (ranges (range_sort_of sort) (items_from (range_at scratch) number 0 count)) next
-leaf_reading s number scratch (leaf_read.Strings count next) =
+leaf_reading s number scratch (Ok (leaf_read.Strings count next)) =
     got (texts (items_from (text_at s scratch) number 0 count)) next
 
 -- a leaf of one record that was read from a place on: there is room for the record
@@ -82,14 +85,14 @@ pub record StringsLeft (s : List ℕ) (number from : ℕ) (scratch : List ℕ) (
   pub texts : Texts s number scratch count
 
 -- where a leaf lies, and the room that it has
-abbrev pub LeafPast : List ℕ → ℕ → ℕ → List ℕ → LeafRead → Type 0
-LeafPast s number from scratch (leaf_read.Faulty x) = Unit {0}
-LeafPast s number from scratch (leaf_read.Single sort flag next) = Single s number from next
-LeafPast s number from scratch (leaf_read.Ranges sort count next) = Listed s number from count next
-LeafPast s number from scratch (leaf_read.Strings count next) = StringsLeft s number from scratch count next
+abbrev pub LeafPast : List ℕ → ℕ → ℕ → List ℕ → Result declared_leaf.Leaf Refusal → Type 0
+LeafPast s number from scratch (Err x) = Unit {0}
+LeafPast s number from scratch (Ok (leaf_read.Single sort flag next)) = Single s number from next
+LeafPast s number from scratch (Ok (leaf_read.Ranges sort count next)) = Listed s number from count next
+LeafPast s number from scratch (Ok (leaf_read.Strings count next)) = StringsLeft s number from scratch count next
 
 -- the answer and the scratch are the reading; nothing is said of the scratch after a refusal, for a leaf of one record, or behind the items
 pub record LeafIs (s : List ℕ) (number from : ℕ) (reading : Reading Leaf) (scratch : List ℕ)
-    (r : LeafRead) : Type 0 where
+    (r : Result declared_leaf.Leaf Refusal) : Type 0 where
   pub is : leaf_reading s number scratch r ≡ reading
   pub past : LeafPast s number from scratch r

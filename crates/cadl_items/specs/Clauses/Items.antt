@@ -1,5 +1,8 @@
 -- What the functions under the reader of leaves promise of their answers: each answer as the reading of the definitions, and bounds. Assumes nothing.
-use Rattle.std.specs.Prelude.{◌≡◌, Bool, cond, List, [], ◌∷◌, ℕ, ◌+◌, ◌*◌, ◌-◌, ◌≤◌, ◌<◌, eqb, length, get_or}
+use Rattle.std.specs.Prelude.{◌≡◌, Bool, cond, is_some, unwrap_or, List, [], ◌∷◌, ℕ, ◌+◌, ◌*◌, ◌-◌, ◌≤◌, ◌<◌, eqb, length, get_or}
+use Rattle.std.specs.Prelude.{Option, None, Some}
+use Rattle.std.specs.declared.result.Result.{Result}
+use Rattle.std.specs.declared.result.Result.TheVariants.{Ok, Err}
 use Rattle.lexis.specs.Runs.{listed}
 use Rattle.lexis.specs.Spelling
 use Rattle.lexis.specs.Durations
@@ -12,8 +15,7 @@ use Rattle.refusals.specs.Reading.{Reading, refused, got, read_then, read_unless
 use Rattle.refusals.specs.Refusals.{refusal}
 use Rattle.refusals.specs.Expecting.{syntax_fault}
 use Rattle.refusals.specs.Clauses.Answers.{token_reading}
-use Rattle.refusals.specs.declared.steps.Expected.{Expected}
-use Rattle.refusals.specs.declared.steps.Expected.TheVariants.{Fault, Taken}
+use Rattle.refusals.specs.declared.Refusal.{Refusal}
 use Rattle.meaning.specs.Constraints.{Text, date_pattern, time_pattern, duration_pattern, Leaf, texts}
 use Rattle.cadl_intervals.specs.Intervals.{undecided, Interval}
 use Rattle.cadl_intervals.specs.Clauses.Answers.{Asked}
@@ -21,29 +23,25 @@ use Rattle.cadl_items.specs.Ranges.{Start, overlaps, Ranges}
 use Rattle.cadl_items.specs.Clauses.Told.{start, with_first, go_on_ranges, ranges, with_text, go_on_strings, strings, start_string, second_boolean, boolean_list, pattern_leaf}
 use Rattle.cadl_items.specs.Leaves.{is_boolean, range_leaf, is_pattern}
 use Rattle.cadl_items.specs.Clauses.Spans.{latest, earlier, SpansIn}
-use Rattle.cadl_items.specs.declared.ranges.StartRead.{StartRead}
-use Rattle.cadl_items.specs.declared.ranges.StartRead.TheVariants as start_read
-use Rattle.cadl_items.specs.declared.ranges.RangeRead.{RangeRead}
-use Rattle.cadl_items.specs.declared.ranges.RangeRead.TheVariants as range_read
-use Rattle.cadl_items.specs.declared.ranges.RangesRead.{RangesRead}
-use Rattle.cadl_items.specs.declared.ranges.RangesRead.TheVariants as ranges_read
-use Rattle.cadl_items.specs.declared.strings.StringRead.{StringRead}
-use Rattle.cadl_items.specs.declared.strings.StringRead.TheVariants as string_read
-use Rattle.cadl_items.specs.declared.strings.StringsRead.{StringsRead}
-use Rattle.cadl_items.specs.declared.strings.StringsRead.TheVariants as strings_read
-use Rattle.cadl_items.specs.declared.leaves.LeafRead.{LeafRead}
-use Rattle.cadl_items.specs.declared.leaves.LeafRead.TheVariants as leaf_read
+use Rattle.cadl_items.specs.declared.ranges.Start as declared_start
+use Rattle.cadl_items.specs.declared.ranges.RangeEnd.{RangeEnd}
+use Rattle.cadl_items.specs.declared.ranges.RangeEnd.TheVariants as range_end
+use Rattle.cadl_items.specs.declared.ranges.Ranges as declared_ranges
+use Rattle.cadl_items.specs.declared.strings.StringEnd.{StringEnd}
+use Rattle.cadl_items.specs.declared.strings.StringEnd.TheVariants as string_end
+use Rattle.cadl_items.specs.declared.strings.Strings.{Strings}
+use Rattle.cadl_items.specs.declared.leaves.SingleSort as declared
+use Rattle.cadl_items.specs.declared.leaves.Leaf as declared_leaf
+use Rattle.cadl_items.specs.declared.leaves.Leaf.TheVariants as leaf_read
 use Rattle.cadl_items.specs.Clauses.Answers.{pair_at, range_at, text_at, items_from, Texts, leaf_reading}
 
 -- an item's first token
-abbrev pub start_reading : StartRead → Reading Start
-start_reading (start_read.Faulty x) = refused x
-start_reading (start_read.Start place single value next) =
-    got (record { place = place; single = single; value = value }) next
+abbrev pub start_of : declared_start.Start → Start
+start_of x = record { place = x.place; single = is_some x.value; value = unwrap_or x.value 0 }
 
--- what the whole item is made of, from behind its first token on
-abbrev pub started : Bool → ℕ → Start
-started single value = record { place = 0; single = single; value = value }
+abbrev pub start_reading : Result declared_start.Start Refusal → Reading Start
+start_reading (Err x) = refused x
+start_reading (Ok x) = got (start_of x) x.next
 
 -- an item's first token, if there is room for one more item and one more record
 unfoldable pub roomy : {A : Type 0} → (A → ℕ) → ℕ → ℕ → Reading A → Reading A
@@ -58,12 +56,12 @@ pub record Before (s : List ℕ) (number count from : ℕ) : Type 0 where
   pub few : count ≤ item_limit
   pub records : number ≤ record_limit
 
-abbrev pub StartPast : List ℕ → ℕ → ℕ → ℕ → StartRead → Type 0
-StartPast s kind number count (start_read.Faulty x) = Unit {0}
-StartPast s kind number count (start_read.Start place single value next) =
-    (next ≤ length s) × (count < item_limit) × (number < record_limit)
+abbrev pub StartPast : List ℕ → ℕ → ℕ → ℕ → Result declared_start.Start Refusal → Type 0
+StartPast s kind number count (Err x) = Unit {0}
+StartPast s kind number count (Ok x) =
+    (x.next ≤ length s) × (count < item_limit) × (number < record_limit)
 
-pub record StartIs (s : List ℕ) (kind number count from : ℕ) (r : StartRead) : Type 0 where
+pub record StartIs (s : List ℕ) (kind number count from : ℕ) (r : Result declared_start.Start Refusal) : Type 0 where
   pub is : start_reading r ≡ roomy (λ x. x.place) number count (start s kind from)
   pub past : StartPast s kind number count r
 
@@ -72,11 +70,11 @@ abbrev pub pairs_of : List ℕ → ℕ → List Pair
 pairs_of scratch count = latest (pair_at scratch) 0 count
 
 -- an item that was read behind so many, and the items that are read behind it
-abbrev pub range_reading : List ℕ → ℕ → ℕ → List ℕ → RangeRead → Reading Ranges
-range_reading s number count scratch (range_read.Faulty x) = refused x
-range_reading s number count scratch (range_read.Last kind next) =
+abbrev pub range_reading : List ℕ → ℕ → ℕ → List ℕ → Result RangeEnd Refusal → Reading Ranges
+range_reading s number count scratch (Err x) = refused x
+range_reading s number count scratch (Ok (range_end.Last kind next)) =
     got (record { kind = kind; items = range_at scratch number count ∷ [] }) next
-range_reading s number count scratch (range_read.More kind next) =
+range_reading s number count scratch (Ok (range_end.More kind next)) =
     with_first (range_at scratch number count)
     (ranges s (item_limit - (count + 1)) kind (number + 1) (pairs_of scratch (count + 1)) next)
 
@@ -97,10 +95,10 @@ pub record KeepRoom (s : List ℕ) (kind number count from : ℕ) : Type 0 where
   pub few : count < item_limit
   pub records : number < record_limit
 
-abbrev pub RangePast : List ℕ → ℕ → ℕ → RangeRead → Type 0
-RangePast s number count (range_read.Faulty x) = Unit {0}
-RangePast s number count (range_read.Last kind next) = (count < item_limit) × (number < record_limit) × (next ≤ length s)
-RangePast s number count (range_read.More kind next) =
+abbrev pub RangePast : List ℕ → ℕ → ℕ → Result RangeEnd Refusal → Type 0
+RangePast s number count (Err x) = Unit {0}
+RangePast s number count (Ok (range_end.Last kind next)) = (count < item_limit) × (number < record_limit) × (next ≤ length s)
+RangePast s number count (Ok (range_end.More kind next)) =
     (count < item_limit) × (number < record_limit) × (next ≤ length s) × Asked kind
 
 -- the first items stay as they were
@@ -108,31 +106,31 @@ pub record Kept (count : ℕ) (before after : List ℕ) : Type 0 where
   pub same : (j : ℕ) → j < 2 * count → get_or after j 0 ≡ get_or before j 0
 
 pub record RangeIs (s : List ℕ) (number count : ℕ) (reading : Reading Ranges) (before after : List ℕ)
-    (r : RangeRead) : Type 0 where
+    (r : Result RangeEnd Refusal) : Type 0 where
   pub is : range_reading s number count after r ≡ reading
   pub kept : Kept count before after
   pub past : RangePast s number count r
 
 -- a list of ranges
-abbrev pub ranges_reading : ℕ → List ℕ → RangesRead → Reading Ranges
-ranges_reading number scratch (ranges_read.Faulty x) = refused x
-ranges_reading number scratch (ranges_read.Ranges kind count next) =
-    got (record { kind = kind; items = items_from (range_at scratch) number 0 count }) next
+abbrev pub ranges_reading : ℕ → List ℕ → Result declared_ranges.Ranges Refusal → Reading Ranges
+ranges_reading number scratch (Err x) = refused x
+ranges_reading number scratch (Ok l) =
+    got (record { kind = l.kind; items = items_from (range_at scratch) number 0 l.count }) l.next
 
-abbrev pub RangesPast : List ℕ → ℕ → RangesRead → Type 0
-RangesPast s number (ranges_read.Faulty x) = Unit {0}
-RangesPast s number (ranges_read.Ranges kind count next) =
-    (1 ≤ count) × (count ≤ item_limit) × (number + count ≤ record_limit)
+abbrev pub RangesPast : List ℕ → ℕ → Result declared_ranges.Ranges Refusal → Type 0
+RangesPast s number (Err x) = Unit {0}
+RangesPast s number (Ok l) =
+    (1 ≤ l.count) × (l.count ≤ item_limit) × (number + l.count ≤ record_limit)
 
-pub record RangesIs (s : List ℕ) (number from : ℕ) (scratch : List ℕ) (r : RangesRead) : Type 0 where
+pub record RangesIs (s : List ℕ) (number from : ℕ) (scratch : List ℕ) (r : Result declared_ranges.Ranges Refusal) : Type 0 where
   pub is : ranges_reading number scratch r ≡ ranges s item_limit undecided number [] from
   pub past : RangesPast s number r
 
 -- a string that was read behind so many, and the strings that are read behind it
-abbrev pub string_reading : List ℕ → ℕ → ℕ → List ℕ → StringRead → Reading (List Text)
-string_reading s number count scratch (string_read.Faulty x) = refused x
-string_reading s number count scratch (string_read.Last next) = got (text_at s scratch number count ∷ []) next
-string_reading s number count scratch (string_read.More next) =
+abbrev pub string_reading : List ℕ → ℕ → ℕ → List ℕ → Result StringEnd Refusal → Reading (List Text)
+string_reading s number count scratch (Err x) = refused x
+string_reading s number count scratch (Ok (string_end.Last next)) = got (text_at s scratch number count ∷ []) next
+string_reading s number count scratch (Ok (string_end.More next)) =
     with_text (text_at s scratch number count)
     (strings s (item_limit - (count + 1)) (number + 1) (earlier s scratch 0 (count + 1)) next)
 
@@ -149,11 +147,11 @@ pub record QuotedToken (s : List ℕ) (t : Token) : Type 0 where
   pub inside : t.end ≤ length s
 
 -- a string's token, if there is room for one more item and one more record
-abbrev pub StringStartPast : List ℕ → ℕ → ℕ → Expected → Type 0
-StringStartPast s number count (Fault x) = Unit {0}
-StringStartPast s number count (Taken t) = QuotedToken s t × (count < item_limit) × (number < record_limit)
+abbrev pub StringStartPast : List ℕ → ℕ → ℕ → Result Token Refusal → Type 0
+StringStartPast s number count (Err x) = Unit {0}
+StringStartPast s number count (Ok t) = QuotedToken s t × (count < item_limit) × (number < record_limit)
 
-pub record StringStartIs (s : List ℕ) (number count from : ℕ) (r : Expected) : Type 0 where
+pub record StringStartIs (s : List ℕ) (number count from : ℕ) (r : Result Token Refusal) : Type 0 where
   pub is : token_reading r ≡ roomy (λ t. t.start) number count (start_string s from)
   pub past : StringStartPast s number count r
 
@@ -177,28 +175,28 @@ pub record StringKept (s : List ℕ) (number count : ℕ) (scratch : List ℕ) (
   pub spans : SpansIn s scratch 0 (count + 1)
   pub inside : next ≤ length s
 
-abbrev pub StringPast : List ℕ → ℕ → ℕ → List ℕ → StringRead → Type 0
-StringPast s number count scratch (string_read.Faulty x) = Unit {0}
-StringPast s number count scratch (string_read.Last next) = StringKept s number count scratch next
-StringPast s number count scratch (string_read.More next) = StringKept s number count scratch next
+abbrev pub StringPast : List ℕ → ℕ → ℕ → List ℕ → Result StringEnd Refusal → Type 0
+StringPast s number count scratch (Err x) = Unit {0}
+StringPast s number count scratch (Ok (string_end.Last next)) = StringKept s number count scratch next
+StringPast s number count scratch (Ok (string_end.More next)) = StringKept s number count scratch next
 
 pub record StringIs (s : List ℕ) (number count : ℕ) (reading : Reading (List Text)) (before after : List ℕ)
-    (r : StringRead) : Type 0 where
+    (r : Result StringEnd Refusal) : Type 0 where
   pub is : string_reading s number count after r ≡ reading
   pub kept : Kept count before after
   pub past : StringPast s number count after r
 
 -- a list of strings
-abbrev pub strings_reading : List ℕ → ℕ → List ℕ → StringsRead → Reading (List Text)
-strings_reading s number scratch (strings_read.Faulty x) = refused x
-strings_reading s number scratch (strings_read.Strings count next) =
-    got (items_from (text_at s scratch) number 0 count) next
+abbrev pub strings_reading : List ℕ → ℕ → List ℕ → Result Strings Refusal → Reading (List Text)
+strings_reading s number scratch (Err x) = refused x
+strings_reading s number scratch (Ok l) =
+    got (items_from (text_at s scratch) number 0 l.count) l.next
 
-abbrev pub StringsPast : List ℕ → ℕ → List ℕ → StringsRead → Type 0
-StringsPast s number scratch (strings_read.Faulty x) = Unit {0}
-StringsPast s number scratch (strings_read.Strings count next) = Texts s number scratch count
+abbrev pub StringsPast : List ℕ → ℕ → List ℕ → Result Strings Refusal → Type 0
+StringsPast s number scratch (Err x) = Unit {0}
+StringsPast s number scratch (Ok l) = Texts s number scratch l.count
 
-pub record StringsIs (s : List ℕ) (number from : ℕ) (scratch : List ℕ) (r : StringsRead) : Type 0 where
+pub record StringsIs (s : List ℕ) (number from : ℕ) (scratch : List ℕ) (r : Result Strings Refusal) : Type 0 where
   pub is : strings_reading s number scratch r ≡ strings s item_limit number [] from
   pub past : StringsPast s number scratch r
 
@@ -208,11 +206,11 @@ pub record ListRoom (s : List ℕ) (number from : ℕ) : Type 0 where
   pub records : number ≤ record_limit
 
 -- a leaf of one record, if it is a leaf
-abbrev pub OneRecord : LeafRead → Type 0
-OneRecord (leaf_read.Faulty x) = Unit {0}
-OneRecord (leaf_read.Single sort flag next) = Unit {0}
-OneRecord (leaf_read.Ranges sort count next) = ⊥
-OneRecord (leaf_read.Strings count next) = ⊥
+abbrev pub OneRecord : Result declared_leaf.Leaf Refusal → Type 0
+OneRecord (Err x) = Unit {0}
+OneRecord (Ok (leaf_read.Single sort flag next)) = Unit {0}
+OneRecord (Ok (leaf_read.Ranges sort count next)) = ⊥
+OneRecord (Ok (leaf_read.Strings count next)) = ⊥
 
 -- Booleans, as what a record's number makes of them
 unfoldable pub second_by : List ℕ → ℕ → ℕ → ℕ → Reading Leaf
@@ -222,17 +220,22 @@ unfoldable pub booleans_by : List ℕ → Token → ℕ → Reading Leaf
 booleans_by s t number = boolean_list s number t
 
 -- an answer that is the reading for every record's number, and for one
-pub record EveryIs (s : List ℕ) (reading : ℕ → Reading Leaf) (r : LeafRead) : Type 0 where
+pub record EveryIs (s : List ℕ) (reading : ℕ → Reading Leaf) (r : Result declared_leaf.Leaf Refusal) : Type 0 where
   pub is : (number : ℕ) (scratch : List ℕ) → leaf_reading s number scratch r ≡ reading number
   pub one : OneRecord r
 
-pub record OneIs (s : List ℕ) (number : ℕ) (reading : Reading Leaf) (r : LeafRead) : Type 0 where
+pub record OneIs (s : List ℕ) (number : ℕ) (reading : Reading Leaf) (r : Result declared_leaf.Leaf Refusal) : Type 0 where
   pub is : (scratch : List ℕ) → leaf_reading s number scratch r ≡ reading
   pub one : OneRecord r
 
--- a leaf, if there is room for its record
-abbrev pub roomed : ℕ → ℕ → LeafRead → LeafRead
-roomed number place l = cond (eqb number record_limit) (leaf_read.Faulty (refusal TooManyRecords place)) l
+-- room for a leaf's record
+abbrev pub room : ℕ → ℕ → Result (Unit {0}) Refusal
+room number place = cond (eqb number record_limit) (Err (refusal TooManyRecords place)) (Ok tt)
+
+-- a pattern of a sort and a flag
+abbrev pub pattern : ℕ → Token → declared.SingleSort → ℕ → Result declared_leaf.Leaf Refusal
+pattern number t sort flag =
+    cond (eqb number record_limit) (Err (refusal TooManyRecords t.start)) (Ok (leaf_read.Single sort flag t.end))
 
 -- Booleans or a pattern, whose first token is t
 unfoldable pub single_leaf : List ℕ → ℕ → Token → Reading Leaf

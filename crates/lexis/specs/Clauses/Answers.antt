@@ -1,5 +1,5 @@
 -- What the functions of this crate promise of their answers: an equation with a definition, and bounds. Assumes nothing.
-use Rattle.std.specs.Prelude.{◌≡◌, Bool, true, false, cond, not, ◌&&◌, ◌||◌, List, [], ◌∷◌, ℕ, ◌+◌, ◌≤◌, ◌<◌, eqb, length, drop}
+use Rattle.std.specs.Prelude.{◌≡◌, Bool, true, false, cond, not, ◌&&◌, ◌||◌, List, [], ◌∷◌, ℕ, Option, Some, None, IfSome, ◌+◌, ◌≤◌, ◌<◌, eqb, length, drop}
 use Rattle.lexis.specs.Bytes.{among, is, blank, digit, word_byte, string_byte, run_byte, line_end}
 use Rattle.lexis.specs.Text.{byte, bytes}
 use Rattle.lexis.specs.Runs.{byte_at, allows}
@@ -12,10 +12,10 @@ use Rattle.lexis.specs.declared.Token.{Token}
 use Rattle.lexis.specs.declared.durations.Slots.{Slots}
 use Rattle.lexis.specs.declared.reader.Tokens.{Tokens}
 use Rattle.lexis.specs.declared.reader.Tokens.TheVariants.{Constraint, Data, Behind}
-use Rattle.lexis.specs.declared.spellings.Words.{Words}
-use Rattle.lexis.specs.declared.spellings.Words.TheVariants.{Keywords, Booleans}
-use Rattle.lexis.specs.declared.runs.Class.{Class}
-use Rattle.lexis.specs.declared.runs.Class.TheVariants.{Digit, Word, Text, Run}
+
+-- a number, none where it is 0
+abbrev pub unless_zero : ℕ → Option ℕ
+unless_zero n = cond (eqb n 0) None (Some n)
 
 -- r is the place x, from a place of the text on
 pub record PlaceIs (s : List ℕ) (from x r : ℕ) : Type 0 where
@@ -60,13 +60,6 @@ is_mark b sort =
     (cond (eqb sort open_round) (eqb b (byte "("))
     (cond (eqb sort close_round) (eqb b (byte ")")) false))))
 
--- the test that the bytes of a class pass
-abbrev pub test_of : Class → ℕ → Bool
-test_of Digit = is digit
-test_of Word = word_byte
-test_of Text = string_byte
-test_of Run = run_byte
-
 -- a comment is open behind the byte b, before which one is open or not, and behind which bs stand
 abbrev pub comment_open : Bool → ℕ → List ℕ → Bool
 comment_open true b bs = not (line_end b)
@@ -77,32 +70,11 @@ abbrev pub token_here : Bool → ℕ → List ℕ → Bool
 token_here true b bs = false
 token_here false b bs = not (is blank b || opens_comment b bs)
 
--- a byte of a shape admits another by the shape's rule, a byte of a spelling only itself
-abbrev pub admits : Bool → ℕ → ℕ → Bool
-admits true = allows
-admits false = eqb
-
 -- the bytes begin with bytes that the word's admit, one by one
 unfoldable pub begins_by : (ℕ → ℕ → Bool) → List ℕ → List ℕ → Bool
 begins_by f [] bs = true
 begins_by f (w ∷ ws) [] = false
 begins_by f (w ∷ ws) (b ∷ bs) = f w b && begins_by f ws bs
-
--- the words that are no NAME, and those that are no TYPE
-abbrev pub words_of : Words → List Literal
-words_of Keywords = keywords
-words_of Booleans = booleans
-
--- how the sort of a run is told, behind `(` and elsewhere
-abbrev pub sorting : Bool → List ℕ → ℕ → ℕ
-sorting true = type_sort
-sorting false = run_sort
-
--- the tokens are those behind `(`
-abbrev pub behind_of : Tokens → Bool
-behind_of Constraint = false
-behind_of Data = false
-behind_of Behind = true
 
 -- the next token from a place of a text on, of those that are read
 abbrev pub token_by : Tokens → List ℕ → ℕ → Token
@@ -118,15 +90,10 @@ pub record TokenIs (s : List ℕ) (from : ℕ) (t r : Token) : Type 0 where
   pub inside : r.end ≤ length s
   pub strict : 1 < r.sort → r.start < r.end
 
--- a slot with digits, or without
-abbrev pub slot_by : Bool → ℕ → List ℕ → ℕ
-slot_by true = digit_slot
-slot_by false = letter_slot
-
--- r is a slot's size n, from a place of the word on
-pub record SlotIs (w : List ℕ) (at n r : ℕ) : Type 0 where
-  pub is : r ≡ n
-  pub inside : at + r ≤ length w
+-- r is a slot's size n, none where it is 0, from a place of the word on
+pub record SlotIs (w : List ℕ) (at n : ℕ) (r : Option ℕ) : Type 0 where
+  pub is : r ≡ unless_zero n
+  pub inside : IfSome r (λ size. at + size ≤ length w)
 
 -- a walk over slots, by the place that it has come to
 abbrev pub filled_at : List ℕ → Slots → Filled
@@ -143,10 +110,10 @@ pub record FillIs (w : List ℕ) (most : ℕ) (x : Filled) (r : Slots) : Type 0 
   pub inside : r.at ≤ length w
   pub few : r.flag ≤ most
 
--- r is the flag n, and at most that of all slots
-pub record FlagIs (n r : ℕ) : Type 0 where
-  pub is : r ≡ n
-  pub few : r ≤ 127
+-- r is the flag n, none where it is 0, and at most that of all slots
+pub record FlagIs (n : ℕ) (r : Option ℕ) : Type 0 where
+  pub is : r ≡ unless_zero n
+  pub few : IfSome r (λ flag. flag ≤ 127)
 
 -- a TYPE with its bytes stands in the text
 pub record TypeThere (s : List ℕ) (t : Token) : Type 0 where

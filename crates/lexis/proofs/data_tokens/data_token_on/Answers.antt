@@ -3,13 +3,13 @@ use Rattle.lexis.proofs.DataTokenSteps.{data_end, data_run, data_string, data_ma
 use Rattle.lexis.proofs.data_tokens.data_token_on.Goals as goal
 
 pub returns-then-s-at : goal.returns-then-s-at
-returns-then-s-at c = search data_end
+returns-then-s-at g c = search data_end
 
 pub returns-then-run_byte : goal.returns-then-run_byte
-returns-then-run_byte c = search data_run
+returns-then-run_byte g c = search data_run
 
 pub returns-then-s-at-eq34 : goal.returns-then-s-at-eq34
-returns-then-s-at-eq34 c = search data_string
+returns-then-s-at-eq34 g c = search data_string
 
 pub returns : goal.returns
-returns c = search data_mark
+returns g c = search data_mark

@@ -2,8 +2,8 @@
 use Rattle.lexis.proofs.DurationSteps.{fill_none, fill_some}
 use Rattle.lexis.proofs.durations.fill.Goals as goal
 
-pub returns-then-size-eq0 : goal.returns-then-size-eq0
-returns-then-size-eq0 c = search fill_none
+pub returns-in-Some : goal.returns-in-Some
+returns-in-Some g c = search fill_some
 
-pub returns : goal.returns
-returns c = search fill_some
+pub returns-in-None : goal.returns-in-None
+returns-in-None g c = search fill_none

@@ -3,4 +3,4 @@ use Rattle.lexis.proofs.DurationSteps.{dates_filled}
 use Rattle.lexis.proofs.durations.fill_dates.Goals as goal
 
 pub returns : goal.returns
-returns c = search dates_filled
+returns g c = search dates_filled

@@ -3,4 +3,4 @@ use Rattle.lexis.proofs.DurationSteps.{times_filled}
 use Rattle.lexis.proofs.durations.fill_times.Goals as goal
 
 pub returns : goal.returns
-returns c = search times_filled
+returns g c = search times_filled

@@ -1,5 +1,5 @@
 -- `lexis::runs::token_here` meets its contract. Assumes nothing.
-use Rattle.lexis.proofs.RunSteps.{here_far, here_two, here_other}
+use Rattle.lexis.proofs.RunSteps.{here_far, here_two}
 use Rattle.lexis.proofs.runs.token_here.Goals as goal
 
 pub returns-then-b-gt45 : goal.returns-then-b-gt45
@@ -7,6 +7,3 @@ returns-then-b-gt45 c = search here_far
 
 pub returns-then-b-eq45 : goal.returns-then-b-eq45
 returns-then-b-eq45 c = search here_two
-
-pub returns : goal.returns
-returns c = search here_other

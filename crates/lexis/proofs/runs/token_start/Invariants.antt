@@ -1,12 +1,7 @@
 -- The loops of `lexis::runs::token_start`. Assumes nothing.
-use Prim.Native.Nat.{◌-◌}
-use lib.ListN.{length}
 use Rattle.lexis.specs.Blanks.{token_start}
 use Rattle.lexis.proofs.RunSteps.{InBlanks}
 use Rattle.lexis.proofs.runs.token_start.Given as goal
 
 abbrev pub invariant-loop-at : goal.invariant-loop-at
 invariant-loop-at l = InBlanks l.s l.from (token_start l.s l.from) l.at l.inside
-
-abbrev pub decreases-loop-at : goal.decreases-loop-at
-decreases-loop-at l = length l.s - l.at

@@ -1,11 +1,11 @@
 -- `lexis::tokens::code_end` meets its contract. Assumes nothing.
+use Rattle.lexis.proofs.TokenSteps.{code_first, code_on, code_close, code_stop, code_none}
 use mathlib.Core.Path.{ap}
 use mathlib.Core.Bool.{not}
-use Rattle.lexis.proofs.TokenSteps.{code_first, code_none, code_close, code_stop, code_on}
 use Rattle.lexis.proofs.tokens.code_end.Goals as goal
 
 pub loop-at-preserved : goal.loop-at-preserved
-loop-at-preserved c =
+loop-at-preserved c = 
     code_on _ _ _ _ c.loop-at.invariant c.loop-at-test.true _ c.code_close.ensures _ c.code_byte.ensures _ (ap not c.if-not-code_byte.false) c.is_digit-some.ensures
 
 pub loop-at-init : goal.loop-at-init

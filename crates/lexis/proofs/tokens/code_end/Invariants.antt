@@ -1,13 +1,9 @@
 -- The loops of `lexis::tokens::code_end`. Assumes nothing.
 use mathlib.Core.Bool.{false}
-use Prim.Native.Nat.{◌-◌}
-use lib.ListN.{length, drop}
+use lib.ListN.{drop}
 use Rattle.lexis.specs.Tokens.{code_end}
 use Rattle.lexis.proofs.TokenSteps.{InCode}
 use Rattle.lexis.proofs.tokens.code_end.Given as goal
 
 abbrev pub invariant-loop-at : goal.invariant-loop-at
 invariant-loop-at l = InCode l.s (code_end false l.from (drop l.from l.s)) l.at l.some
-
-abbrev pub decreases-loop-at : goal.decreases-loop-at
-decreases-loop-at l = length l.s - l.at

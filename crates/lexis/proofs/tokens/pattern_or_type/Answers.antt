@@ -5,8 +5,8 @@ use Rattle.lexis.proofs.tokens.pattern_or_type.Goals as goal
 pub returns-then-s-start-ne80 : goal.returns-then-s-start-ne80
 returns-then-s-start-ne80 c = search type_other
 
-pub returns-then-flag-lt1 : goal.returns-then-flag-lt1
-returns-then-flag-lt1 c = search type_no_pattern
+pub returns-in_default : goal.returns-in_default
+returns-in_default c = search type_no_pattern
 
 pub returns-then-not-closes : goal.returns-then-not-closes
 returns-then-not-closes c = search type_stays

@@ -1,12 +1,7 @@
--- The loops of `values::integers::digits`. Assumes nothing.
-use mathlib.Core.Path.{◌≡◌}
-use Prim.Native.Nat.{◌-◌}
-use lib.ListN.{length, drop}
+-- The loop of `integers::digits`. Assumes nothing.
+use Rattle.std.proofs.Common.{◌≡◌, drop}
 use Rattle.values.specs.Clauses.Answers.{digits_from}
 use Rattle.values.proofs.integers.digits.Given as goal
 
-abbrev pub invariant-loop-i : goal.invariant-loop-i
-invariant-loop-i l = digits_from l.n (drop l.i l.ds) ≡ digits_from 0 l.ds
-
-abbrev pub decreases-loop-i : goal.decreases-loop-i
-decreases-loop-i l = length l.ds - l.i
+abbrev pub invariant-loop-b : goal.invariant-loop-b
+invariant-loop-b l = digits_from l.n (drop l.b-index l.ds) ≡ digits_from 0 l.ds

@@ -1,10 +1,7 @@
--- The loops of `values::patterns::fits_duration`. Assumes nothing.
-use mathlib.Core.Path.{◌≡◌}
+-- The loop of `patterns::fits_duration`. Assumes nothing.
+use Rattle.std.proofs.Common.{◌≡◌, ◌-◌}
 use Rattle.values.specs.Patterns.{slots_fit, fits_duration}
 use Rattle.values.proofs.patterns.fits_duration.Given as goal
 
-abbrev pub invariant-loop-left : goal.invariant-loop-left
-invariant-loop-left l = slots_fit l.left l.p l.f ≡ fits_duration l.pattern l.filled
-
-abbrev pub decreases-loop-left : goal.decreases-loop-left
-decreases-loop-left l = l.left
+abbrev pub invariant-loop : goal.invariant-loop
+invariant-loop l = slots_fit (7 - l.counter) l.p l.f ≡ fits_duration l.pattern l.filled

@@ -1,6 +1,0 @@
--- `lexis::spellings::keyword_sort` meets its contract. Assumes nothing.
-use Rattle.lexis.proofs.WordSteps.{sort_first}
-use Rattle.lexis.proofs.spellings.keyword_sort.Goals as goal
-
-pub returns : goal.returns
-returns c = search sort_first

@@ -1,7 +1,0 @@
--- `dates::day_date` answers what its definition says. Assumes nothing.
-use borrow.Author.Rules.{rules}
-use Rattle.values.proofs.DateSteps.{steps}
-use Rattle.values.proofs.dates.day_date.Goals as goal
-
-pub returns : goal.returns
-returns c = search (steps, rules)
