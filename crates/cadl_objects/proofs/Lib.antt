@@ -6,6 +6,3 @@ pub mod Computes
 pub mod Examples
 pub mod FaultTable
 pub mod CountTable
-pub mod ExistenceSteps
-pub mod HeadSteps
-pub mod OpeningSteps

@@ -1,45 +1,46 @@
 -- What the functions of this crate promise of their answers: each answer as the reading of the definitions, and bounds. Assumes nothing.
-use Rattle.std.specs.Prelude.{◌≡◌, List, ℕ, ◌≤◌, ◌<◌, length}
+use Rattle.std.specs.Prelude.{◌≡◌, Bool, cond, List, ℕ, ◌-◌, ◌≤◌, ◌<◌, eqb, ltb, length}
 use Rattle.lexis.specs.Runs.{part}
 use Rattle.lexis.specs.Spelling.{close_brace}
 use Rattle.lexis.specs.Tokens.{spelling}
 use Rattle.lexis.specs.declared.Token.{Token}
-use Rattle.refusals.specs.Limits.{record_limit}
+use Rattle.refusals.specs.Limits.{record_limit, name_limit}
 use Rattle.refusals.specs.Reading.{Reading, refused, got, read_then}
-use Rattle.refusals.specs.Expecting.{expect}
+use Rattle.refusals.specs.Refusals.{refusal}
+use Rattle.refusals.specs.Expecting.{syntax_cause, expect}
 use Rattle.refusals.specs.Clauses.Answers.{token_reading}
-use Rattle.refusals.specs.declared.steps.Expected.{Expected}
-use Rattle.refusals.specs.declared.steps.Expected.TheVariants.{Fault, Taken}
-use Rattle.cadl_objects.specs.Existence.{opening, bounds, existence_from}
+use Rattle.refusals.specs.declared.Cause.TheVariants.{TooLong, TooManyRecords}
+use Rattle.refusals.specs.declared.Refusal.{Refusal}
+use Rattle.std.specs.declared.result.Result.{Result}
+use Rattle.std.specs.declared.result.Result.TheVariants.{Ok, Err}
+use Rattle.cadl_objects.specs.Existence.{opening, is_zero, is_one, bounds, existence_from}
 use Rattle.cadl_objects.specs.Clauses.Told.{object_type, object_code, attribute_name}
-use Rattle.cadl_objects.specs.declared.existence.ExistenceRead.{ExistenceRead}
-use Rattle.cadl_objects.specs.declared.existence.ExistenceRead.TheVariants as existence_read
-use Rattle.cadl_objects.specs.declared.heads.CodeRead.{CodeRead}
-use Rattle.cadl_objects.specs.declared.heads.CodeRead.TheVariants as code_read
-use Rattle.cadl_objects.specs.declared.heads.ObjectHeadRead.{ObjectHeadRead}
-use Rattle.cadl_objects.specs.declared.heads.ObjectHeadRead.TheVariants as object_head_read
-use Rattle.cadl_objects.specs.declared.heads.AttributeHeadRead.{AttributeHeadRead}
-use Rattle.cadl_objects.specs.declared.heads.AttributeHeadRead.TheVariants as attribute_head_read
+use Rattle.cadl_objects.specs.declared.existence.Existence.{Existence}
+use Rattle.cadl_objects.specs.declared.heads.Code.{Code}
+use Rattle.cadl_objects.specs.declared.heads.ObjectHead.{ObjectHead}
+use Rattle.cadl_objects.specs.declared.heads.AttributeHead.{AttributeHead}
+
+-- the bound that a token spells
+abbrev pub bound_of : List ℕ → Token → Result ℕ Refusal
+bound_of s t = cond (is_zero s t) (Ok 0) (cond (is_one s t) (Ok 1) (Err (refusal (syntax_cause t) t.start)))
 
 -- an existence as a reading
-abbrev pub existence_reading : ExistenceRead → Reading ℕ
-existence_reading (existence_read.Faulty x) = refused x
-existence_reading (existence_read.Existence flag behind) = got flag behind
+abbrev pub existence_reading : Result Existence Refusal → Reading ℕ
+existence_reading (Err x) = refused x
+existence_reading (Ok e) = got e.flag e.next
 
-abbrev pub ExistencePast : List ℕ → ℕ → ExistenceRead → Type 0
-ExistencePast s from (existence_read.Faulty x) = Unit {0}
-ExistencePast s from (existence_read.Existence flag behind) = (flag ≤ 2) × (from ≤ behind) × (behind ≤ length s)
+abbrev pub ExistencePast : List ℕ → ℕ → Result Existence Refusal → Type 0
+ExistencePast s from (Err x) = Unit {0}
+ExistencePast s from (Ok e) = (e.flag ≤ 2) × (from ≤ e.next) × (e.next ≤ length s)
 
-pub record ExistenceIs (s : List ℕ) (from : ℕ) (reading : Reading ℕ) (r : ExistenceRead) : Type 0 where
+pub record ExistenceIs (s : List ℕ) (from : ℕ) (reading : Reading ℕ) (r : Result Existence Refusal) : Type 0 where
   pub is : existence_reading r ≡ reading
   pub past : ExistencePast s from r
 
--- an existence up to its `}`, and with its braces
-unfoldable pub existence_closed : List ℕ → ℕ → ℕ → Reading ℕ
-existence_closed s flag from = read_then (expect s close_brace from) (λ v r. got flag r)
-
+-- an existence with its braces
 unfoldable pub braced : List ℕ → ℕ → Reading ℕ
-braced s from = read_then (opening s from) (λ u p. read_then (bounds s p) (λ e q. existence_closed s e q))
+braced s from =
+    read_then (opening s from) (λ u p. read_then (bounds s p) (λ e q. read_then (expect s close_brace q) (λ v r. got e r)))
 
 -- where an object or an attribute is read: a place of the text, and the next record's number
 pub record Counted (s : List ℕ) (next from : ℕ) : Type 0 where
@@ -53,25 +54,31 @@ pub record Roomy (s : List ℕ) (next from : ℕ) (t : Token) : Type 0 where
   pub inside : t.end ≤ length s
   pub records : next < record_limit
 
-abbrev pub WordPast : List ℕ → ℕ → ℕ → Expected → Type 0
-WordPast s next from (Fault x) = Unit {0}
-WordPast s next from (Taken t) = Roomy s next from t
+-- the answer on a TYPE or NAME that stands in its place
+abbrev pub fitting_of : Token → ℕ → Result Token Refusal
+fitting_of t next =
+    cond (ltb name_limit (t.end - t.start)) (Err (refusal TooLong t.start))
+    (cond (eqb next record_limit) (Err (refusal TooManyRecords t.start)) (Ok t))
 
-pub record WordIs (s : List ℕ) (next from : ℕ) (reading : Reading Token) (r : Expected) : Type 0 where
+abbrev pub WordPast : List ℕ → ℕ → ℕ → Result Token Refusal → Type 0
+WordPast s next from (Err x) = Unit {0}
+WordPast s next from (Ok t) = Roomy s next from t
+
+pub record WordIs (s : List ℕ) (next from : ℕ) (reading : Reading Token) (r : Result Token Refusal) : Type 0 where
   pub is : token_reading r ≡ reading
   pub past : WordPast s next from r
 
 -- a code as a reading
-abbrev pub code_reading : List ℕ → CodeRead → Reading (List ℕ)
-code_reading s (code_read.Faulty x) = refused x
-code_reading s (code_read.Code start end behind) = got (part s start end) behind
+abbrev pub code_reading : List ℕ → Result Code Refusal → Reading (List ℕ)
+code_reading s (Err x) = refused x
+code_reading s (Ok k) = got (part s k.start k.end) k.next
 
 -- its bytes stand between the place before it and the place behind it
-abbrev pub CodePast : List ℕ → ℕ → CodeRead → Type 0
-CodePast s from (code_read.Faulty x) = Unit {0}
-CodePast s from (code_read.Code start end behind) = (from ≤ start) × (start ≤ end) × (end ≤ behind) × (behind ≤ length s)
+abbrev pub CodePast : List ℕ → ℕ → Result Code Refusal → Type 0
+CodePast s from (Err x) = Unit {0}
+CodePast s from (Ok k) = (from ≤ k.start) × (k.start ≤ k.end) × (k.end ≤ k.next) × (k.next ≤ length s)
 
-pub record CodeIs (s : List ℕ) (from : ℕ) (r : CodeRead) : Type 0 where
+pub record CodeIs (s : List ℕ) (from : ℕ) (r : Result Code Refusal) : Type 0 where
   pub is : code_reading s r ≡ object_code s from
   pub past : CodePast s from r
 
@@ -100,22 +107,9 @@ attribute_head s seen next from =
     got (record { name = spelling s t; existence = e }) r)))
 
 -- an object's head as a reading
-abbrev pub typed_reading : List ℕ → ObjectHeadRead → Reading Typed
-typed_reading s (object_head_read.Faulty x) = refused x
-typed_reading s (object_head_read.Head type_start type_end code_start code_end behind) =
-    got (record { type = part s type_start type_end; code = part s code_start code_end }) behind
-
--- its opening brace, behind a type and a code that are read
-abbrev pub OpenedPast : List ℕ → Token → ℕ → ℕ → ℕ → ObjectHeadRead → Type 0
-OpenedPast s t start end from (object_head_read.Faulty x) = Unit {0}
-OpenedPast s t start end from (object_head_read.Head type_start type_end code_start code_end behind) =
-    (type_start ≡ t.start) × (type_end ≡ t.end) × (code_start ≡ start) × (code_end ≡ end) × (from < behind)
-    × (behind ≤ length s)
-
-pub record OpenedIs (s : List ℕ) (t : Token) (start end from : ℕ) (r : ObjectHeadRead) : Type 0 where
-  pub is : typed_reading s r ≡ read_then (opening s from)
-      (λ u p. got (record { type = spelling s t; code = part s start end }) p)
-  pub past : OpenedPast s t start end from r
+abbrev pub typed_reading : List ℕ → Result ObjectHead Refusal → Reading Typed
+typed_reading s (Err x) = refused x
+typed_reading s (Ok h) = got (record { type = part s h.type_start h.type_end; code = part s h.code_start h.code_end }) h.next
 
 -- the bytes of its type and of its code stand one behind the other between the place before it and the place behind it; there is room for its record
 pub record TypedPast (s : List ℕ) (next from type_start type_end code_start code_end behind : ℕ) : Type 0 where
@@ -127,31 +121,18 @@ pub record TypedPast (s : List ℕ) (next from type_start type_end code_start co
   pub order : code_end < behind
   pub inside : behind ≤ length s
 
-abbrev pub ObjectHeadPast : List ℕ → ℕ → ℕ → ObjectHeadRead → Type 0
-ObjectHeadPast s next from (object_head_read.Faulty x) = Unit {0}
-ObjectHeadPast s next from (object_head_read.Head type_start type_end code_start code_end behind) =
-    TypedPast s next from type_start type_end code_start code_end behind
+abbrev pub ObjectHeadPast : List ℕ → ℕ → ℕ → Result ObjectHead Refusal → Type 0
+ObjectHeadPast s next from (Err x) = Unit {0}
+ObjectHeadPast s next from (Ok h) = TypedPast s next from h.type_start h.type_end h.code_start h.code_end h.next
 
-pub record ObjectHeadIs (s : List ℕ) (levels next from : ℕ) (r : ObjectHeadRead) : Type 0 where
+pub record ObjectHeadIs (s : List ℕ) (levels next from : ℕ) (r : Result ObjectHead Refusal) : Type 0 where
   pub is : typed_reading s r ≡ object_head s levels next from
   pub past : ObjectHeadPast s next from r
 
 -- an attribute's head as a reading
-abbrev pub named_reading : List ℕ → AttributeHeadRead → Reading NamedAttribute
-named_reading s (attribute_head_read.Faulty x) = refused x
-named_reading s (attribute_head_read.Head name_start name_end existence behind) =
-    got (record { name = part s name_start name_end; existence = existence }) behind
-
--- its opening brace, behind a name and an existence that are read
-abbrev pub NamedAt : List ℕ → Token → ℕ → ℕ → AttributeHeadRead → Type 0
-NamedAt s t flag from (attribute_head_read.Faulty x) = Unit {0}
-NamedAt s t flag from (attribute_head_read.Head name_start name_end existence behind) =
-    (name_start ≡ t.start) × (name_end ≡ t.end) × (existence ≡ flag) × (from < behind) × (behind ≤ length s)
-
-pub record NamedIs (s : List ℕ) (t : Token) (flag from : ℕ) (r : AttributeHeadRead) : Type 0 where
-  pub is : named_reading s r ≡ read_then (opening s from)
-      (λ u p. got (record { name = spelling s t; existence = flag }) p)
-  pub past : NamedAt s t flag from r
+abbrev pub named_reading : List ℕ → Result AttributeHead Refusal → Reading NamedAttribute
+named_reading s (Err x) = refused x
+named_reading s (Ok h) = got (record { name = part s h.name_start h.name_end; existence = h.existence }) h.next
 
 -- the bytes of its name stand between the place before it and the place behind it; there is room for its record
 pub record NamedPast (s : List ℕ) (next from name_start name_end existence behind : ℕ) : Type 0 where
@@ -162,11 +143,10 @@ pub record NamedPast (s : List ℕ) (next from name_start name_end existence beh
   pub order : name_end < behind
   pub inside : behind ≤ length s
 
-abbrev pub AttributeHeadPast : List ℕ → ℕ → ℕ → AttributeHeadRead → Type 0
-AttributeHeadPast s next from (attribute_head_read.Faulty x) = Unit {0}
-AttributeHeadPast s next from (attribute_head_read.Head name_start name_end existence behind) =
-    NamedPast s next from name_start name_end existence behind
+abbrev pub AttributeHeadPast : List ℕ → ℕ → ℕ → Result AttributeHead Refusal → Type 0
+AttributeHeadPast s next from (Err x) = Unit {0}
+AttributeHeadPast s next from (Ok h) = NamedPast s next from h.name_start h.name_end h.existence h.next
 
-pub record AttributeHeadIs (s : List ℕ) (seen : List (List ℕ)) (next from : ℕ) (r : AttributeHeadRead) : Type 0 where
+pub record AttributeHeadIs (s : List ℕ) (seen : List (List ℕ)) (next from : ℕ) (r : Result AttributeHead Refusal) : Type 0 where
   pub is : named_reading s r ≡ attribute_head s seen next from
   pub past : AttributeHeadPast s next from r
