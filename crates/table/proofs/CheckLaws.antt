@@ -113,7 +113,7 @@ pub record Framed (bs : List ℕ) : Type 0 where
   pub kind : (header bs).kind ≡ 0
   pub flag : (header bs).flag ≡ 0
   pub rest : all_nought (drop 3 (header bs).fields) ≡ true
-  pub Some : 2 ≤ field (header bs) 0
+  pub some : 2 ≤ field (header bs) 0
   pub few : field (header bs) 0 ≤ record_limit
   pub pool : field (header bs) 1 ≤ pool_limit
   pub whole : length bs ≡ record_size * field (header bs) 0 + field (header bs) 1
@@ -140,7 +140,7 @@ framed_is bs e =
       kind = eqb-true h.kind 0 q.0;
       flag = eqb-true h.flag 0 q.1.0;
       rest = q.1.1.0;
-      Some = leb-true 2 (field h 0) c.0;
+      some = leb-true 2 (field h 0) c.0;
       few = leb-true (field h 0) record_limit c.1.0;
       pool = leb-true (field h 1) pool_limit p.1.1.1.1.0;
       whole = eqb-true (length bs) (record_size * field h 0 + field h 1) p.1.1.1.1.1.0;
@@ -229,7 +229,7 @@ check_sound bs e =
     let c = count-framed bs s.frame in
     let p = pool_framed bs s.frame in
     record {
-      Some = omega arith;
+      some = omega arith;
       few = omega arith;
       pool = omega arith;
       root = s.frame.root;
@@ -248,7 +248,7 @@ bytes-framed little m h =
       kind = ap (λ r. r.kind) e;
       flag = ap (λ r. r.flag) e;
       rest = ap (λ r. all_nought (drop 3 r.fields)) e;
-      Some = rw e h.some;
+      some = rw e h.some;
       few = rw e h.few;
       pool = rw e h.pool;
       whole = rw e l;

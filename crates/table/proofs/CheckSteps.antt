@@ -9,17 +9,18 @@ use lib.Dec.{eqb, leb}
 use lib.ListN.{length, take, drop}
 use lib.Seq.{drop-drop}
 use borrow.Author.Tests.{not-true, not-false, le-leb, lt-leb, eqb-true, leb-true}
+use Rattle.std.specs.Prelude.{None, Some}
 use Rattle.lexis.proofs.Cases.{and_left, and_right}
 use Rattle.refusals.specs.Limits.{record_limit, pool_limit}
 use Rattle.refusals.specs.Refusals.{refusal}
 use Rattle.refusals.specs.declared.Cause.TheVariants.{NotATable, BrokenRecord}
+use Rattle.refusals.specs.declared.Refusal.{Refusal}
 use Rattle.table.specs.Records.{record_size, is_marked, decode, field, header, decodes, image_of}
 use Rattle.table.specs.Check.{kind_at, obeys, clean, record_right, broken, broken_record, framed, table_fault}
 use Rattle.table.specs.Clauses.Answers.{record_of, Opened, plain_header, counts_right, fault_of}
 use Rattle.table.specs.declared.records.Entry.{Entry}
 use Rattle.table.specs.declared.records.Frame.{Frame}
-use Rattle.table.specs.declared.check.CheckAnswer.{CheckAnswer}
-use Rattle.table.specs.declared.check.CheckAnswer.TheVariants.{Passed, Refused}
+use Rattle.std.specs.declared.result.Result.{Result}
 use Rattle.table.proofs.CheckLaws.{framed_is}
 use Rattle.table.proofs.RecordSteps.{marked_in}
 use Rattle.table.proofs.FrameLaws.{framed_opened}
@@ -99,7 +100,7 @@ reach_first bs f o = record { low = omega arith; high = omega arith; opened = o;
 
 module _ (bs : List ℕ) (f : Frame) (n : ℕ) (i : Reached bs f n) where
   pub reach_end : f.count ≤ n
-      → fault_of Passed ≡ broken_record (broken (image_of bs) 1 (image_of bs).records (drop record_size bs))
+      → None ≡ broken_record (broken (image_of bs) 1 (image_of bs).records (drop record_size bs))
   unfolding broken
   reach_end h =
       let z : f.count - n ≡ 0 = omega arith in
@@ -111,27 +112,26 @@ module _ (bs : List ℕ) (f : Frame) (n : ℕ) (i : Reached bs f n) where
     one_more : f.count - n ≡ suc (f.count - (n + 1))
     one_more = omega arith
 
-    pub reach_fault : not r ≡ true
-        → fault_of (Refused (refusal BrokenRecord n))
-        ≡ broken_record (broken (image_of bs) 1 (image_of bs).records (drop record_size bs))
+    pub reach_fault : (w : Refusal) → r ≡ false → w ≡ refusal BrokenRecord n
+        → Some w ≡ broken_record (broken (image_of bs) 1 (image_of bs).records (drop record_size bs))
     unfolding broken
-    reach_fault g = ap broken_record (rw (one_more, ← e, not-true r g) at i.is)
+    reach_fault w g k = ap Some k ∙ ap broken_record (rw (one_more, ← e, g) at i.is)
 
-    pub reach_next : not r ≡ false → Reached bs f (n + 1)
+    pub reach_next : r ≡ true → Reached bs f (n + 1)
     unfolding broken
     reach_next g =
         let s : record_size * n + record_size ≡ record_size * (n + 1) = omega arith in
-        record { low = omega arith; high = omega arith; opened = i.opened; is = rw (one_more, ← e, not-false r g, drop-drop record_size (record_size * n) bs, s, ← (add-one n)) at i.is }
+        record { low = omega arith; high = omega arith; opened = i.opened; is = rw (one_more, ← e, g, drop-drop record_size (record_size * n) bs, s, ← (add-one n)) at i.is }
 
 -- the whole check
 module _ (bs : List ℕ) (b : Bool) (e : b ≡ framed bs) where
-  pub no_table : not b ≡ true → fault_of (Refused (refusal NotATable 0)) ≡ table_fault bs
+  pub no_table : (w : Refusal) → b ≡ false → w ≡ refusal NotATable 0 → Some w ≡ table_fault bs
   unfolding table_fault
-  no_table h = rw (← e, not-true b h)
+  no_table w h k = rw (← e, h, k)
 
-  module _ (h : not b ≡ false) where
+  module _ (h : b ≡ true) where
     passed : framed bs ≡ true
-    passed = sym e ∙ not-false b h
+    passed = sym e ∙ h
 
     pub long_enough : record_size ≤ length bs
     long_enough = (framed_is bs passed).long
@@ -139,7 +139,7 @@ module _ (bs : List ℕ) (b : Bool) (e : b ≡ framed bs) where
     pub table_open : (f : Frame) → (f.count ≡ field (header bs) 0) × (f.pool ≡ field (header bs) 1) → Opened bs f
     table_open f q = framed_opened bs f (framed_is bs passed) q.0 q.1
 
-    pub table_told : (a : CheckAnswer)
+    pub table_told : {A : Type 0} (a : Result A Refusal)
         → fault_of a ≡ broken_record (broken (image_of bs) 1 (image_of bs).records (drop record_size bs))
         → fault_of a ≡ table_fault bs
     unfolding table_fault

@@ -1,7 +1,7 @@
 -- Steps of the functions that hand out names, and that a name lies in its table. Assumes nothing.
 use mathlib.Core.Path.{◌≡◌, refl, sym, ap, ◌∙◌}
 use mathlib.Core.Bool.{Bool, true, false, not, cond, false≢true}
-use Rattle.std.specs.Prelude.{None}
+use Rattle.std.specs.Prelude.{None, Some}
 use mathlib.Core.List.{List, [], ◌∷◌}
 use Prim.Native.Nat.{ℕ, zero, suc, ◌+◌, ◌*◌, ◌-◌, ◌^◌, ◌≤◌, ◌<◌}
 use native.Mathlib.Nat.{add-sub_cancel_left}
@@ -18,20 +18,18 @@ use Rattle.meaning.specs.Sorts.{text_kind}
 use Rattle.refusals.specs.Refusals.{refusal}
 use Rattle.refusals.specs.declared.Refusal.{Refusal}
 use Rattle.refusals.specs.declared.Cause.TheVariants.{NoName}
-use Rattle.refusals.specs.Outcomes.{gave}
+use Rattle.refusals.specs.Outcomes.{refused, gave}
 use Rattle.refusals.proofs.Outcomes.{same_given, no_fault_lem, not_found}
 use Rattle.table.specs.Records.{Image, record_size, decode, field, header, image_of}
 use Rattle.table.specs.Rows.{shape_of, object_kind, attribute_kind, unnamed, place, row_of}
 use Rattle.table.specs.Check.{kind_at, field_right, table_fault}
 use Rattle.table.specs.Names.{record_at, holds_name, Slice, name_slice, name_outcome, name_answer, slice_bytes}
-use Rattle.table.specs.Clauses.Answers.{record_of, Opened, fault_of, answer_of}
+use Rattle.table.specs.Clauses.Answers.{record_of, Opened, fault_of, slice_of, answer_of}
 use Rattle.table.specs.declared.records.Entry.{Entry}
 use Rattle.table.specs.declared.records.Frame.{Frame}
-use Rattle.table.specs.declared.check.CheckAnswer.{CheckAnswer}
-use Rattle.table.specs.declared.check.CheckAnswer.TheVariants.{Passed}
-use Rattle.table.specs.declared.check.CheckAnswer.TheVariants.{Refused as NotPassed}
-use Rattle.table.specs.declared.names.NameResult.{NameResult}
-use Rattle.table.specs.declared.names.NameResult.TheVariants.{Named, Refused}
+use Rattle.table.specs.declared.names.NamePart.{NamePart}
+use Rattle.std.specs.declared.result.Result.{Result}
+use Rattle.std.specs.declared.result.Result.TheVariants.{Ok, Err}
 use Rattle.table.proofs.Checked.{Checked}
 use Rattle.table.proofs.UseLaws.{place_right}
 use Rattle.table.proofs.CheckLaws.{count-framed, pool_framed, fault_none, check_sound, record_good, field_at, kind_record, kind_inside}
@@ -74,7 +72,7 @@ module _ (bs : List ℕ) (t : table_fault bs ≡ None) where
 -- where the name lies, as it is read
 pub part_read : (bs : List ℕ) (f : Frame) (n at start : ℕ) (e : Entry) → Opened bs f → (1 ≤ n) × (n < f.count)
     → at ≡ record_size * n → record_of e ≡ decode (take record_size (drop at bs))
-    → start ≡ record_size * f.count + e.a → answer_of (Named start e.b) ≡ gave (name_slice (image_of bs) n)
+    → start ≡ record_size * f.count + e.a → record { start = start; length = e.b } ≡ name_slice (image_of bs) n
 part_read bs f n at start e o h ea q es =
     let r = record_opened bs f o n h.0 h.1 in
     rw (es, r, count_opened bs f o, ← ea, ← q)
@@ -82,34 +80,36 @@ part_read bs f n at start e o h ea q es =
 -- the name of a record in a table that passes the check
 module _ (bs : List ℕ) (f : Frame) (n k : ℕ) (h : Bool) (ek : k ≡ kind_at (image_of bs) n)
     (eh : h ≡ among k (object_kind ∷ attribute_kind ∷ text_kind ∷ [])) where
-  pub name_refused : not h ≡ true → answer_of (Refused (refusal NoName n)) ≡ name_outcome (image_of bs) n
-  name_refused g = rw (← ek, ← eh, g)
+  pub name_refused : (w : Refusal) → h ≡ false → w ≡ refusal NoName n → refused w ≡ name_outcome (image_of bs) n
+  name_refused w g k = rw (← ek, ← eh, g, k)
 
-  module _ (g : not h ≡ false) where
-    pub name-found : (r : NameResult) → answer_of r ≡ gave (name_slice (image_of bs) n)
-        → answer_of r ≡ name_outcome (image_of bs) n
-    name-found r q = rw (← ek, ← eh, g) q
+  module _ (g : h ≡ true) where
+    pub name-found : (p : NamePart) → slice_of p ≡ name_slice (image_of bs) n
+        → gave (slice_of p) ≡ name_outcome (image_of bs) n
+    name-found p q = rw (← ek, ← eh, g) (ap gave q)
 
     pub name-inside : table_fault bs ≡ None → (f.count ≡ field (header bs) 0) × (f.pool ≡ field (header bs) 1)
         → Opened bs f × ((1 ≤ n) × (n < f.count))
     name-inside t q =
         let o = sound_open bs t f q in
-        let l : 1 ≤ kind_at (image_of bs) n = rw (← ek) (kind_some k (sym eh ∙ not-false h g)) in
+        let l : 1 ≤ kind_at (image_of bs) n = rw (← ek) (kind_some k (sym eh ∙ g)) in
         (o, (number_some (image_of bs) n l, rw (count_opened bs f o) at (kind_inside (image_of bs) n l)))
 
 -- what a check that was passed says of its table
-pub passed_none : (bs : List ℕ) (a : CheckAnswer) → fault_of a ≡ table_fault bs → a ≡ Passed → table_fault bs ≡ None
-passed_none bs a e h = sym e ∙ ap fault_of h
+pub passed_none : {A : Type 0} (bs : List ℕ) (a : Result A Refusal) (x : A) → fault_of a ≡ table_fault bs → a ≡ Ok x
+    → table_fault bs ≡ None
+passed_none bs a x e h = sym e ∙ ap fault_of h
 
 -- the check's answer goes before
-module _ (bs : List ℕ) (n : ℕ) (a : CheckAnswer) (e : fault_of a ≡ table_fault bs) where
-  pub check_refused : (r : Refusal) → a ≡ NotPassed r → answer_of (Refused r) ≡ name_answer bs n
+module _ {A : Type 0} (bs : List ℕ) (n : ℕ) (a : Result A Refusal) (e : fault_of a ≡ table_fault bs) where
+  pub check_refused : (r : Refusal) → a ≡ Err r → refused r ≡ name_answer bs n
   unfolding name_answer
   check_refused r h = rw (← e, h)
 
-  pub name_told_lem : (r : NameResult) → a ≡ Passed → answer_of r ≡ name_outcome (image_of bs) n → answer_of r ≡ name_answer bs n
+  pub name_told_lem : (x : A) (r : Result NamePart Refusal) → a ≡ Ok x → answer_of r ≡ name_outcome (image_of bs) n
+      → answer_of r ≡ name_answer bs n
   unfolding name_answer
-  name_told_lem r h q = rw (passed_none bs a e h) q
+  name_told_lem x r h q = rw (passed_none bs a x e h) q
 
 -- the first field of a kind that has a name is a name's place
 name_use : {P : Type 0} (k : ℕ) (xs : List ℕ) → among k (object_kind ∷ attribute_kind ∷ text_kind ∷ []) ≡ true
@@ -152,18 +152,18 @@ unfolding name_answer
 name-fits bs n p e = let x = no_fault_lem p (table_fault bs) (name_outcome (image_of bs) n) e in part-fits bs n p x.0 x.1
 
 -- the part handed out
-module _ (bs : List ℕ) (n : ℕ) (a : NameResult) (e : answer_of a ≡ name_answer bs n) where
-  module _ (start length : ℕ) (h : a ≡ Named start length) where
-    pub end_inside : start + length ≤ ListN.length bs
-    end_inside = name-fits bs n (record { start = start; length = length }) (sym e ∙ ap answer_of h)
+module _ (bs : List ℕ) (n : ℕ) (a : Result NamePart Refusal) (e : answer_of a ≡ name_answer bs n) where
+  module _ (p : NamePart) (h : a ≡ Ok p) where
+    pub end_inside : p.start + p.length ≤ ListN.length bs
+    end_inside = name-fits bs n (slice_of p) (sym e ∙ ap answer_of h)
 
-    pub end_fits : ListN.length bs < 2 ^ 64 → Fits w64 (start + length)
+    pub end_fits : ListN.length bs < 2 ^ 64 → Fits w64 (p.start + p.length)
     end_fits l = let k = end_inside in record { fits = omega arith }
 
-    pub part_is : take (start + length - start) (drop start bs) ≡ slice_bytes bs (name_answer bs n)
-    part_is = rw (← e, h, add-sub_cancel_left start length)
+    pub part_is : take (p.start + p.length - p.start) (drop p.start bs) ≡ slice_bytes bs (name_answer bs n)
+    part_is = rw (← e, h, add-sub_cancel_left p.start p.length)
 
-  pub part-empty : (r : Refusal) → a ≡ Refused r → take (0 - 0) (drop 0 bs) ≡ slice_bytes bs (name_answer bs n)
+  pub part-empty : (r : Refusal) → a ≡ Err r → take (0 - 0) (drop 0 bs) ≡ slice_bytes bs (name_answer bs n)
   part-empty r h = rw (← e, h)
 
 pub ruleset name-kinds = (name_known, name_low, name-between, name_past)

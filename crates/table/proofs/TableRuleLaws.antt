@@ -92,7 +92,7 @@ module _ (bs : List ℕ) (count pool root : ℕ) (f : IsFrame bs count pool root
   frame_opened : Opened bs (record { count = count; pool = pool })
   frame_opened =
       let q = frame_is bs count pool root f in
-      record { records = q.0; bytes = q.1; Some = f.least; few = f.most; small = f.pooled; whole = f.sized }
+      record { records = q.0; bytes = q.1; some = f.least; few = f.most; small = f.pooled; whole = f.sized }
 
   -- a number below the count has the kind of the record read there
   frame_kind : (x : ℕ) → 1 ≤ x → x < count → kind_at (image_of bs) x ≡ (record_in bs x).kind
@@ -112,7 +112,7 @@ module _ (bs : List ℕ) (count pool root : ℕ) (f : IsFrame bs count pool root
         kind = z;
         flag = ap (λ x. x.flag) e;
         rest = ap (λ x. all_nought (drop 3 x.fields)) e;
-        Some = omega arith;
+        some = omega arith;
         few = omega arith;
         pool = omega arith;
         whole = omega arith;

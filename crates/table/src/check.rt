@@ -11,13 +11,6 @@ use crate::records::{
 use crate::rules::rules_kept;
 use refusals::{Cause, Refusal};
 
-// What the check answers.
-#[derive(Clone, Copy)]
-pub enum CheckAnswer {
-    Passed,
-    Refused(Refusal),
-}
-
 // The header's kind, flag and last two numbers are 0.
 fn plain_header(h: Entry) -> bool
     ensures { result ≡ plain_header h }
@@ -71,38 +64,30 @@ fn record_right(table: &[u8], frame: Frame, n: RecordNumber) -> bool
     is_marked(table, at) && rules_kept(table, frame, n, read(table, at))
 }
 
-// The lowest record at fault, if there is one.
-fn check_records(table: &[u8], frame: Frame) -> CheckAnswer
+// Refuses the lowest record at fault, if there is one.
+#[tactic(auto, using(crate::proofs::CheckSteps::check_steps))]
+fn check_records(table: &[u8], frame: Frame) -> Result<(), Refusal>
     requires { Opened table.now frame }
     ensures { fault_of result
         ≡ broken_record
         (broken (image_of table.now) 1 (image_of table.now).records
         (drop record_size table.now)) }
 {
-    let count = frame.count;
-    let mut n: u32 = 1;
-    while n < count {
+    for n in 1..frame.count {
         if !record_right(table, frame, RecordNumber(n)) {
-            return CheckAnswer::Refused(Refusal {
-                cause: Cause::BrokenRecord,
-                place: n as usize,
-            });
+            return Err(Cause::BrokenRecord.at(n as usize));
         }
-        n += 1;
     }
-    CheckAnswer::Passed
+    Ok(())
 }
 
 // Whether bytes are a table, and else why not.
-pub fn check(table: &[u8]) -> CheckAnswer
+#[tactic(auto, using(crate::proofs::CheckSteps::check_steps))]
+pub fn check(table: &[u8]) -> Result<(), Refusal>
     ensures { fault_of result ≡ table_fault table.now }
 {
     if !is_framed(table) {
-        return CheckAnswer::Refused(Refusal {
-            cause: Cause::NotATable,
-            place: 0,
-        });
+        return Err(Cause::NotATable.at(0));
     }
-    let frame = frame_of(table);
-    check_records(table, frame)
+    check_records(table, frame_of(table))
 }

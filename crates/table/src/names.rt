@@ -2,21 +2,20 @@
 ghost use Rattle.std.specs.Prelude.{◌≡◌, [], ◌∷◌, ◌<◌, ◌≤◌};
 ghost use Rattle.std.specs.Prelude.{None};
 ghost use Rattle.lexis.specs.Bytes.{among};
-ghost use Rattle.refusals.specs.Outcomes.{gave};
 ghost use Rattle.table.specs.Records.{image_of};
 ghost use Rattle.table.specs.Check.{table_fault};
 ghost use Rattle.table.specs.Names.{name_slice, name_outcome, name_answer, slice_bytes};
-ghost use Rattle.table.specs.Clauses.Answers.{Opened, answer_of};
+ghost use Rattle.table.specs.Clauses.Answers.{Opened, slice_of, answer_of};
 
-use crate::check::{CheckAnswer, check};
+use crate::check::check;
 use crate::records::{Frame, PoolPlace, RecordNumber, frame_of, kind_at, read};
 use refusals::{Cause, Refusal};
 
-// What a request for a name answers: the part of the table that is the name, or why there is none.
+// Where the name of a record lies in its table.
 #[derive(Clone, Copy)]
-pub enum NameResult {
-    Named { start: usize, length: usize },
-    Refused(Refusal),
+pub struct NamePart {
+    pub start: usize,
+    pub length: usize,
 }
 
 // Objects, attributes and strings have a name.
@@ -33,52 +32,51 @@ fn has_name(kind: u8) -> bool
 }
 
 // Where the name of a record lies that has one.
-fn name_part(table: &[u8], frame: Frame, n: RecordNumber) -> NameResult
+#[tactic(auto, using(crate::proofs::NameSteps::name_steps))]
+fn name_part(table: &[u8], frame: Frame, n: RecordNumber) -> NamePart
     requires opened { Opened table.now frame }
     requires le_n { (1 ≤ n.0) × (n.0 < frame.count) }
-    ensures { answer_of result ≡ gave (name_slice (image_of table.now) n.0) }
+    ensures { slice_of result ≡ name_slice (image_of table.now) n.0 }
 {
     let e = read(table, n.start());
-    NameResult::Named {
+    NamePart {
         start: PoolPlace(e.a).start(frame.count),
         length: e.b as usize,
     }
 }
 
 // The name of a record, in a table that passes the check.
-fn name_in(table: &[u8], n: RecordNumber) -> NameResult
+#[tactic(auto, using(crate::proofs::NameSteps::name_steps))]
+fn name_in(table: &[u8], n: RecordNumber) -> Result<NamePart, Refusal>
     requires { table_fault table.now ≡ None }
     ensures { answer_of result ≡ name_outcome (image_of table.now) n.0 }
 {
     let frame = frame_of(table);
     if !has_name(kind_at(table, frame, n)) {
-        return NameResult::Refused(Refusal {
-            cause: Cause::NoName,
-            place: n.0 as usize,
-        });
+        return Err(Cause::NoName.at(n.0 as usize));
     }
-    name_part(table, frame, n)
+    Ok(name_part(table, frame, n))
 }
 
 // Where the name of a record lies in a table, and else why it has none.
-pub fn name_refusal(table: &[u8], record: u32) -> NameResult
+#[tactic(auto, using(crate::proofs::NameSteps::name_steps))]
+pub fn name_refusal(table: &[u8], record: u32) -> Result<NamePart, Refusal>
     ensures { answer_of result ≡ name_answer table.now «record» }
 {
-    match check(table) {
-        CheckAnswer::Refused(why) => NameResult::Refused(why),
-        CheckAnswer::Passed => name_in(table, RecordNumber(record)),
-    }
+    check(table)?;
+    name_in(table, RecordNumber(record))
 }
 
 // The name of a record, which is the part of the table itself; with a refusal, an empty part.
+#[tactic(auto, using(crate::proofs::NameSteps::name_steps))]
 pub fn name<'a>(table: &'a [u8], record: u32) -> &'a [u8]
     ensures { result.now ≡ slice_bytes table.now (name_answer table.now «record») }
 {
     match name_refusal(table, record) {
-        NameResult::Named { start, length } => {
-            let end = start + length;
-            &table[start..end]
+        Ok(part) => {
+            let end = part.start + part.length;
+            &table[part.start..end]
         }
-        NameResult::Refused(_) => &table[0..0],
+        Err(_) => &table[0..0],
     }
 }

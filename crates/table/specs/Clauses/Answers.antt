@@ -12,21 +12,22 @@ use Rattle.table.specs.Check.{field_right, fields_right, uses_of, clean}
 use Rattle.table.specs.Names.{Slice}
 use Rattle.table.specs.declared.records.Entry.{Entry}
 use Rattle.table.specs.declared.records.Frame.{Frame}
-use Rattle.table.specs.declared.check.CheckAnswer.{CheckAnswer}
-use Rattle.table.specs.declared.check.CheckAnswer.TheVariants.{Passed, Refused}
-use Rattle.table.specs.declared.names.NameResult.{NameResult}
-use Rattle.table.specs.declared.names.NameResult.TheVariants.{Named}
-use Rattle.table.specs.declared.names.NameResult.TheVariants.{Refused as NotNamed}
+use Rattle.table.specs.declared.names.NamePart.{NamePart}
+use Rattle.std.specs.declared.result.Result.{Result}
+use Rattle.std.specs.declared.result.Result.TheVariants.{Ok, Err}
 
--- the refusal that the check answers, if there is one
-abbrev pub fault_of : CheckAnswer → Option Refusal
-fault_of Passed = None
-fault_of (Refused r) = Some r
+-- the refusal that is answered, if there is one
+abbrev pub fault_of : {A : Type 0} → Result A Refusal → Option Refusal
+fault_of (Ok x) = None
+fault_of (Err r) = Some r
 
--- what a request for a name answers
-abbrev pub answer_of : NameResult → Outcome Refusal Slice
-answer_of (Named start length) = gave (record { start = start; length = length })
-answer_of (NotNamed r) = refused r
+-- the part that is a name, and what a request for it answers
+abbrev pub slice_of : NamePart → Slice
+slice_of p = record { start = p.start; length = p.length }
+
+abbrev pub answer_of : Result NamePart Refusal → Outcome Refusal Slice
+answer_of (Ok p) = gave (slice_of p)
+answer_of (Err r) = refused r
 
 -- the entry of a kind and a flag whose numbers are 0
 abbrev pub plain_entry : ℕ → ℕ → Entry
@@ -47,7 +48,7 @@ ordered_as little r = record { kind = r.kind; flag = r.flag; fields = map (order
 pub record Opened (bs : List ℕ) (f : Frame) : Type 0 where
   pub records : f.count ≡ field (header bs) 0
   pub bytes : f.pool ≡ field (header bs) 1
-  pub Some : 2 ≤ f.count
+  pub some : 2 ≤ f.count
   pub few : f.count ≤ record_limit
   pub small : f.pool ≤ pool_limit
   pub whole : ListN.length bs ≡ record_size * f.count + f.pool

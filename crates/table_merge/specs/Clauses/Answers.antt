@@ -1,6 +1,6 @@
 -- What the functions take and answer, as the definitions have it. Assumes nothing.
 use Rattle.std.specs.Prelude.{◌≡◌, List, [], ◌∷◌, ℕ, ◌+◌, ◌*◌, ◌-◌, ◌^◌, ◌≤◌, ◌<◌}
-use Rattle.std.specs.Prelude.{None}
+use Rattle.std.specs.Prelude.{Option, None, Some}
 use Rattle.std.proofs.Math.ListN
 use Rattle.refusals.specs.Limits.{record_limit, pool_limit}
 use Rattle.refusals.specs.Outcomes.{Outcome, refused, gave}
@@ -11,8 +11,12 @@ use Rattle.table.specs.Clauses.Answers.{Opened}
 use Rattle.table.specs.declared.records.Frame.{Frame}
 use Rattle.table_merge.specs.Joining.{Shifts, moved_field, moved_fields}
 use Rattle.table_merge.specs.Merge.{MergeReport, report, MergeRefusal, of_table}
-use Rattle.table_merge.specs.declared.MergeResult.{MergeResult}
-use Rattle.table_merge.specs.declared.MergeResult.TheVariants.{Done, Refused}
+use Rattle.table_merge.specs.declared.Merged.{Merged}
+use Rattle.table_merge.specs.declared.MergeRefusal.{MergeRefusal as Refused}
+use Rattle.table_merge.specs.declared.AtFault.{AtFault}
+use Rattle.table_merge.specs.declared.AtFault.TheVariants.{Neither, First, Second}
+use Rattle.std.specs.declared.result.Result.{Result}
+use Rattle.std.specs.declared.result.Result.TheVariants.{Ok, Err}
 
 -- the shifts of both kinds of number
 abbrev pub shifts : ℕ → ℕ → Shifts
@@ -58,7 +62,21 @@ pub record Joinable (first second : List ℕ) (x y : Frame) : Type 0 where
 abbrev pub joined_length : Frame → Frame → ℕ
 joined_length x y = record_size * (x.count - 1 + y.count) + (x.pool + y.pool)
 
+-- the number of the table at fault, 0 where neither is
+abbrev pub table_number : AtFault → ℕ
+table_number Neither = 0
+table_number First = 1
+table_number Second = 2
+
+-- a refusal with its table, by the definitions, and the one that is answered, if there is one
+abbrev pub refusal_of : Refused → MergeRefusal
+refusal_of r = of_table (table_number r.table) r.refusal
+
+abbrev pub fault_in : {A : Type 0} → Result A Refused → Option MergeRefusal
+fault_in (Ok x) = None
+fault_in (Err r) = Some (refusal_of r)
+
 -- the answer of a merge, by the definitions
-abbrev pub answer_of : MergeResult → Outcome MergeRefusal MergeReport
-answer_of (Done length records pool) = gave (report length (shifts records.0 pool.0))
-answer_of (Refused table refusal) = refused (of_table table refusal)
+abbrev pub answer_of : Result Merged Refused → Outcome MergeRefusal MergeReport
+answer_of (Ok m) = gave (report m.length (shifts m.records.0 m.pool.0))
+answer_of (Err r) = refused (refusal_of r)
