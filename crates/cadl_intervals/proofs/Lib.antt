@@ -2,3 +2,4 @@
 pub mod Pairs
 pub mod IntervalParts
 pub mod IntervalReading
+pub mod IntervalSteps

@@ -94,6 +94,7 @@ fn before(kind: u8, b: u32) -> u32
 }
 
 // The high end behind `..`.
+#[tactic(auto, using(crate::proofs::IntervalSteps::below_faulty, crate::proofs::IntervalSteps::below_there, crate::proofs::IntervalSteps::up_faulty, crate::proofs::IntervalSteps::up_there))]
 fn up_to(s: &[u8], kind: u8, low: u64, from: usize) -> Result<Ends, Refusal>
     requires { from ≤ length s.now }
     ensures { ends_reading result ≡ up_to s.now kind low from }
@@ -118,6 +119,7 @@ fn up_to(s: &[u8], kind: u8, low: u64, from: usize) -> Result<Ends, Refusal>
 }
 
 // What stands behind `|>a`.
+#[tactic(auto, using(crate::proofs::IntervalSteps::above_up, crate::proofs::IntervalSteps::above_open))]
 fn above(s: &[u8], kind: u8, a: u32, from: usize) -> Result<Ends, Refusal>
     requires has_after { HasAfter kind a }
     requires from_in_bounds { from ≤ length s.now }
@@ -137,6 +139,7 @@ fn above(s: &[u8], kind: u8, a: u32, from: usize) -> Result<Ends, Refusal>
 }
 
 // The d of `+/-`.
+#[tactic(auto, using(crate::proofs::IntervalSteps::spread_faulty, crate::proofs::IntervalSteps::spread_outside, crate::proofs::IntervalSteps::spread_ends))]
 fn spread(s: &[u8], a: u32, from: usize) -> Result<Ends, Refusal>
     requires { from ≤ length s.now }
     ensures { ends_reading result ≡ spread s.now a from }
@@ -156,6 +159,7 @@ fn spread(s: &[u8], a: u32, from: usize) -> Result<Ends, Refusal>
 }
 
 // What stands behind `|a`.
+#[tactic(auto, using(crate::proofs::IntervalSteps::behind_date, crate::proofs::IntervalSteps::behind_spread, crate::proofs::IntervalSteps::behind_up, crate::proofs::IntervalSteps::behind_only))]
 fn behind(s: &[u8], kind: u8, a: u32, at: usize) -> Result<Ends, Refusal>
     requires { at ≤ length s.now }
     ensures { ends_reading result ≡ from s.now kind a at }
@@ -180,6 +184,7 @@ fn behind(s: &[u8], kind: u8, a: u32, at: usize) -> Result<Ends, Refusal>
 }
 
 // What a literal behind a mark, or behind none, makes.
+#[tactic(auto, using(crate::proofs::IntervalSteps::by_greater, crate::proofs::IntervalSteps::by_less, crate::proofs::IntervalSteps::by_most, crate::proofs::IntervalSteps::by_least, crate::proofs::IntervalSteps::by_none))]
 fn ends_by(s: &[u8], mark: u8, kind: u8, a: u32, next: usize) -> Result<Ends, Refusal>
     requires has_after { HasAfter kind a }
     requires next_in_bounds { next ≤ length s.now }
@@ -211,6 +216,7 @@ fn ends_by(s: &[u8], mark: u8, kind: u8, a: u32, next: usize) -> Result<Ends, Re
 }
 
 // A literal of the kind asked for, or of either where that is open, and what it makes behind a mark.
+#[tactic(auto, using(crate::proofs::IntervalSteps::with_faulty, crate::proofs::IntervalSteps::with_ends, crate::proofs::IntervalSteps::literal_past))]
 fn with_literal(s: &[u8], kind: u8, mark: u8, at: usize) -> Result<Ends, Refusal>
     requires { at ≤ length s.now }
     ensures { ends_reading result ≡ with_literal s.now kind at (ends_by s.now mark) }
@@ -228,6 +234,7 @@ fn opens(mark: u8) -> bool
 }
 
 // What stands between the bars.
+#[tactic(auto, using(crate::proofs::IntervalSteps::between_marked, crate::proofs::IntervalSteps::between_plain))]
 fn between(s: &[u8], kind: u8, at: usize) -> Result<Ends, Refusal>
     requires { at ≤ length s.now }
     ensures { ends_reading result ≡ between s.now kind at }
@@ -267,6 +274,7 @@ fn closed(ends: Ends, next: usize) -> Interval
 }
 
 // An interval, from behind its opening bar on.
+#[tactic(auto, using(crate::proofs::IntervalSteps::interval_faulty, crate::proofs::IntervalSteps::ends_inside, crate::proofs::IntervalSteps::ends_some, crate::proofs::IntervalSteps::bar_missing, crate::proofs::IntervalSteps::bar_empty, crate::proofs::IntervalSteps::bar_closed))]
 pub fn read_interval(s: &[u8], kind: u8, from: usize) -> Result<Interval, Refusal>
     requires { At s.now kind from }
     ensures { IntervalIs s.now (interval s.now kind from) result }

@@ -28,11 +28,14 @@ fn value_of(w: &[u8], kind: u8) -> Option<u32>
 }
 
 // A literal of the kind asked for.
+#[tactic(auto, using(crate::proofs::IntervalSteps::literal_missing, crate::proofs::IntervalSteps::literal_none, crate::proofs::IntervalSteps::literal_there))]
 pub fn read_literal(s: &[u8], kind: u8, from: usize) -> Result<Literal, Refusal>
     requires { from ≤ length s.now }
     ensures { LiteralIs s.now kind from result }
 {
     let t = expect(s, kind, from)?;
-    let value = value_of(&s[t.start..t.end], kind).ok_or(Cause::Impossible.at(t.start))?;
-    Ok(Literal { value, next: t.end })
+    match value_of(&s[t.start..t.end], kind) {
+        Some(value) => Ok(Literal { value, next: t.end }),
+        None => Err(Cause::Impossible.at(t.start)),
+    }
 }
