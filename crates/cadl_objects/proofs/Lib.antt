@@ -6,3 +6,5 @@ pub mod Computes
 pub mod Examples
 pub mod FaultTable
 pub mod CountTable
+pub mod ExistenceSteps
+pub mod HeadSteps

@@ -1,5 +1,5 @@
 // Existence, and what opens the braces of objects and attributes.
-ghost use Rattle.std.specs.Prelude.{◌≡◌, ◌&&◌, ◌≤◌, eqb, length};
+ghost use Rattle.std.specs.Prelude.{◌≡◌, ◌&&◌, ◌+◌, ◌≤◌, eqb, length};
 ghost use Rattle.lexis.specs.Runs.{same};
 ghost use Rattle.lexis.specs.Spelling.{open_brace};
 ghost use Rattle.lexis.specs.Tokens.{token_at, integer, spelling};
@@ -24,6 +24,7 @@ pub struct Existence {
 }
 
 // `matches {` from a place on, where the next token is t.
+#[tactic(auto, unfolding(crate::specs::Existence::opening, refusals::specs::Expecting::expect))]
 pub fn opening(s: &[u8], from: usize, t: Token) -> Result<Token, Refusal>
     requires { TokenIs s.now from (token_at s.now from) t }
     ensures { ExpectIs s.now open_brace from (opening s.now from) result }
@@ -54,7 +55,20 @@ fn bound(s: &[u8], t: Token) -> Result<u8, Refusal>
     }
 }
 
-// What stands between the braces of an existence: one bound, or `..` between two.
+// The flag of an existence from `low` to `high`.
+fn flag_of(low: u8, high: u8) -> u8
+    requires { (low ≤ high) × (high ≤ 1) }
+    ensures { result ≡ low + high }
+{
+    match (low, high) {
+        (0, 0) => PROHIBITED,
+        (0, _) => OPTIONAL,
+        _ => REQUIRED,
+    }
+}
+
+// What stands between the braces of an existence: a bound, alone or with `..` and another behind it.
+#[tactic(auto, using(crate::proofs::ExistenceSteps::not_both), unfolding(crate::specs::Existence::bounds, crate::specs::Existence::from_nought, crate::specs::Existence::from_one))]
 fn bounds(s: &[u8], from: usize) -> Result<Existence, Refusal>
     requires { from ≤ length s.now }
     ensures { ExistenceIs s.now from (bounds s.now from) result }
@@ -63,20 +77,24 @@ fn bounds(s: &[u8], from: usize) -> Result<Existence, Refusal>
     let low = bound(s, t)?;
     let dots = token_at(s, t.end);
     if dots.sort != DOTS {
-        let flag = if low == 0 { PROHIBITED } else { REQUIRED };
-        return Ok(Existence { flag, next: t.end });
+        return Ok(Existence {
+            flag: flag_of(low, low),
+            next: t.end,
+        });
     }
     let u = token_at(s, dots.end);
-    let flag = match (low, bound(s, u)?) {
-        (0, 0) => PROHIBITED,
-        (0, 1) => OPTIONAL,
-        (1, 1) => REQUIRED,
-        _ => return Err(syntax_fault(u)),
-    };
-    Ok(Existence { flag, next: u.end })
+    let high = bound(s, u)?;
+    if high < low {
+        return Err(syntax_fault(u));
+    }
+    Ok(Existence {
+        flag: flag_of(low, high),
+        next: u.end,
+    })
 }
 
 // The existence between its braces.
+#[tactic(auto, unfolding(crate::specs::Clauses::Answers::braced))]
 fn braced(s: &[u8], from: usize) -> Result<Existence, Refusal>
     requires { from ≤ length s.now }
     ensures { ExistenceIs s.now from (braced s.now from) result }
@@ -91,6 +109,7 @@ fn braced(s: &[u8], from: usize) -> Result<Existence, Refusal>
 }
 
 // The existence from a place behind a NAME on, where the next token is t; 1..1 where there is none.
+#[tactic(auto, unfolding(crate::specs::Existence::existence_from, crate::specs::Clauses::Answers::braced))]
 pub fn existence_from(s: &[u8], from: usize, t: Token) -> Result<Existence, Refusal>
     requires from_in_bounds { from ≤ length s.now }
     requires token_is { TokenIs s.now from (token_at s.now from) t }

@@ -59,6 +59,7 @@ fn fitting(t: Token, next: usize) -> Result<Token, Refusal>
 }
 
 // A TYPE that starts an object, where so many levels are left.
+#[tactic(auto, using(crate::proofs::HeadSteps::type_fits, crate::proofs::TreeParts::type_is))]
 fn object_type(s: &[u8], levels: usize, next: usize, from: usize) -> Result<Token, Refusal>
     requires { Counted s.now next from }
     ensures { WordIs s.now next from (object_type s.now levels next from) result }
@@ -71,6 +72,7 @@ fn object_type(s: &[u8], levels: usize, next: usize, from: usize) -> Result<Toke
 }
 
 // A code without its brackets, where there is one.
+#[tactic(auto, using(crate::proofs::TreeParts::code_is, crate::proofs::HeadSteps::code_order, crate::proofs::HeadSteps::inner_size))]
 fn object_code(s: &[u8], from: usize) -> Result<Code, Refusal>
     requires { from ≤ length s.now }
     ensures { CodeIs s.now from result }
@@ -94,6 +96,7 @@ fn object_code(s: &[u8], from: usize) -> Result<Code, Refusal>
 }
 
 // A NAME that starts an attribute; the names before it in its object are the spans from `first` on, up to `top`.
+#[tactic(auto, using(crate::proofs::HeadSteps::name_unfit, crate::proofs::TreeParts::name_is_lem))]
 fn attribute_name(
     s: &[u8],
     names: &[u32],
@@ -115,6 +118,7 @@ fn attribute_name(
 }
 
 // What an object begins with: a TYPE, a code where there is one, and `matches {`.
+#[tactic(auto, unfolding(crate::specs::Clauses::Answers::object_head))]
 pub fn object_head(
     s: &[u8],
     levels: usize,
@@ -146,6 +150,7 @@ fn token_behind(s: &[u8], from: usize, u: Token, place: usize) -> Token
 }
 
 // What an attribute begins with: a NAME, an existence where there is one, and `matches {`.
+#[tactic(auto, unfolding(crate::specs::Clauses::Answers::attribute_head))]
 pub fn attribute_head(
     s: &[u8],
     names: &[u32],
