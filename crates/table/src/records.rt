@@ -5,7 +5,7 @@ ghost use Rattle.table.specs.Check.{kind_at};
 ghost use Rattle.table.specs.Clauses.Answers.{plain_entry, record_of, ordered_as, Opened};
 
 use crate::layout::{A_AT, B_AT, C_AT, D_AT, E_AT, FLAG_AT, KIND_AT, MARK, RECORD_SIZE};
-use crate::order::{get16, get32, swapped};
+use crate::order::{get16, get32};
 use refusals::limits::{POOL_LIMIT, RECORD_LIMIT};
 
 // The most records of a table and the most bytes of its pool, as the header holds them.
@@ -116,11 +116,11 @@ pub fn ordered(r: Entry, little: bool) -> Entry
     Entry {
         kind: r.kind,
         flag: r.flag,
-        a: swapped(r.a),
-        b: swapped(r.b),
-        c: swapped(r.c),
-        d: swapped(r.d),
-        e: swapped(r.e),
+        a: r.a.swap_bytes(),
+        b: r.b.swap_bytes(),
+        c: r.c.swap_bytes(),
+        d: r.d.swap_bytes(),
+        e: r.e.swap_bytes(),
     }
 }
 
