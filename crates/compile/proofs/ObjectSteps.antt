@@ -78,7 +78,7 @@ object_written little p t c place first rs bs (got xs at) h =
       bytes = b i;
     }
 
-module _ {s : List ℕ} {p : Spot} {top : ℕ} (room : Stacked s p top) {levels : ℕ} where
+module _ {s : List ℕ} {p : Spot} {top : ℕ} (room : Stacked s p top) (levels : ℕ) where
   abbrev From : Reading Object
   From = object_from s levels p.next p.place
 
@@ -172,7 +172,7 @@ module _ (s : List ℕ) (p : Spot) (t : Token) (tok : TokenIs s p.place (content
     kept = h.kept;
   }
 
-  pub value-leaf : (little : Bool) (names rs bs rs' bs' : List ℕ) (r : Result Spot Refusal) → (t.sort ≡ star → ⊥)
+  pub value_leaf : (little : Bool) (names rs bs rs' bs' : List ℕ) (r : Result Spot Refusal) → (t.sort ≡ star → ⊥)
       → (t.sort ≡ type_name → ⊥) → wrote r rs' bs' ≡ written value_table value_pool little p rs bs (leaf_value s p)
       → TreeIs top names names (written value_table value_pool little p rs bs (ValueOf s levels p)) rs' bs' r
-  value-leaf little names rs bs rs' bs' r k l h = record { is = h ∙ rw (value_is s levels p.next p.place, ← tok.is, ne_eqb t.sort star k, ne_eqb t.sort type_name l); kept = all_kept names top }
+  value_leaf little names rs bs rs' bs' r k l h = record { is = h ∙ rw (value_is s levels p.next p.place, ← tok.is, ne_eqb t.sort star k, ne_eqb t.sort type_name l); kept = all_kept names top }

@@ -5,7 +5,6 @@ ghost use Rattle.lexis.specs.Runs.{part};
 ghost use Rattle.refusals.specs.Limits.{record_limit};
 ghost use Rattle.cadl_items.specs.Clauses.Spans.{with_item, Within};
 ghost use Rattle.cadl_objects.specs.Clauses.Answers.{TypedPast};
-
 ghost use Rattle.table.specs.Records.{record_size, encode};
 ghost use Rattle.table.specs.Clauses.Answers.{record_of};
 ghost use Rattle.compile_emission.specs.Clauses.Answers.{first_link, typed_row, ObjectPut, NameRoom, NameKept, named_row, CloseRoom, CloseIs, Room, RowRoom, link_below};
@@ -13,8 +12,8 @@ ghost use Rattle.compile_emission.specs.Clauses.Answers.{first_link, typed_row, 
 use crate::pool::{place_of, put_part};
 use crate::rows::{link_below, put_row};
 use crate::spots::{AttributeEnd, NAMES_ROOM, Spot};
-use cadl_objects::heads::{AttributeHead, ObjectHead};
 use cadl_items::spans::narrow;
+use cadl_objects::heads::{AttributeHead, ObjectHead};
 use lexis::CLOSE_BRACE;
 use lexis::tokens::token_at;
 use refusals::Refusal;

@@ -5,4 +5,3 @@ use Rattle.compile_emission.proofs.lists.put_strings.Given as goal
 
 abbrev pub invariant-loop-i : goal.invariant-loop-i
 invariant-loop-i l = InTexts l.s l.little l.p l.scratch l.count l.end l.initial.records l.initial.bytes l.i l.to l.records l.bytes
-
