@@ -27,21 +27,22 @@ use Rattle.cadl_objects.specs.Clauses.Told.{attributes}
 use Rattle.cadl_objects.proofs.TreeReading.{AttributeRead, attribute_holds}
 use Rattle.table.specs.Records.{Record, record_size, encodes}
 use Rattle.compile_flatten.specs.Flatten.{attributes_link, value_link, attributes_table, value_table}
-use Rattle.compile_emission.specs.Clauses.Answers.{spot, Wrote, wrote, written, Room, attribute_row, attribute_wrote}
+use Rattle.compile_emission.specs.Clauses.Answers.{spot, Wrote, wrote, written, Room, attribute_row}
 use Rattle.compile.specs.Clauses.Answers.{TreeIs, Stacked, attribute_written, Pushed, AttributeIs, AttributeRoom}
 use Rattle.compile_emission.specs.declared.spots.Spot.{Spot}
-use Rattle.compile_emission.specs.declared.spots.TreeRead.TheVariants.{Refused, Read}
-use Rattle.compile_emission.specs.declared.spots.AttributeRead as attribute_reads
-use Rattle.compile_emission.specs.declared.spots.AttributeRead.TheVariants as attribute_read
+use Rattle.compile_emission.specs.declared.spots.AttributeEnd.{AttributeEnd}
+use Rattle.compile_emission.specs.declared.spots.AttributeEnd.TheVariants.{Last, More}
+use Rattle.std.specs.declared.result.Result.{Result}
+use Rattle.std.specs.declared.result.Result.TheVariants.{Ok, Err}
 use Rattle.compile_flatten.proofs.FlattenLaws.{value-length}
 use Rattle.compile_emission.proofs.TreeWriting.{counted_value, rows_behind, pool_below}
 use Rattle.compile.proofs.ReadingLaws.{Linked, linked, turn}
 use Rattle.compile.proofs.AttributeSteps.{AttributeOf, kept_both}
 
 -- an attribute that was read, whether the object's `}` follows or not
-abbrev ended : Bool → Spot → attribute_reads.AttributeRead
-ended true q = attribute_read.Last q
-ended false q = attribute_read.More q
+abbrev ended : Bool → Spot → AttributeEnd
+ended true q = Last q
+ended false q = More q
 
 -- what an answer says of the attribute that was read
 record IsAttribute (s : List ℕ) (little : Bool) (p : Spot) (rs bs rs' bs' : List ℕ) (last : Bool) (q : Spot)
@@ -62,15 +63,15 @@ record IsAttribute (s : List ℕ) (little : Bool) (p : Spot) (rs bs rs' bs' : Li
 
 module _ (s : List ℕ) (little : Bool) (p : Spot) (rs bs rs' bs' : List ℕ) where
   is_attribute : (last : Bool) (q : Spot) (x : Reading Attribute)
-      → attribute_wrote (ended last q) rs' bs' ≡ attribute_written s little p rs bs x
+      → wrote (Ok (ended last q)) rs' bs' ≡ attribute_written s little p rs bs x
       → IsAttribute s little p rs bs rs' bs' last q x
   unfolding attribute_written
   is_attribute true q (refused x) e =
-      let o : attribute_read.Last q ≡ attribute_read.Refused x = ap (λ (w : Wrote attribute_reads.AttributeRead). w.answer) e in
+      let o : Ok (Last q) ≡ Err x = ap (λ (w : Wrote AttributeEnd). w.answer) e in
       let z : ◌≡◌ {A = ℕ} 0 1 = cc in
       absurd (omega arith)
   is_attribute false q (refused x) e =
-      let o : attribute_read.More q ≡ attribute_read.Refused x = ap (λ (w : Wrote attribute_reads.AttributeRead). w.answer) e in
+      let o : Ok (More q) ≡ Err x = ap (λ (w : Wrote AttributeEnd). w.answer) e in
       let z : ◌≡◌ {A = ℕ} 0 1 = cc in
       absurd (omega arith)
   is_attribute last q (got a at) e = by last (eqb (token_at s at).sort close_brace) refl e
@@ -85,34 +86,34 @@ module _ (s : List ℕ) (little : Bool) (p : Spot) (rs bs rs' bs' : List ℕ) wh
       pool = p.pool + length a.name + length (value_pool a.value)
 
       by : (last b : Bool) → eqb (token_at s at).sort close_brace ≡ b
-          → attribute_wrote (ended last q) rs' bs' ≡ record {
-            answer = cond b (attribute_read.Last (spot (token_at s at).end next pool)) (attribute_read.More (spot at next pool));
+          → wrote (Ok (ended last q)) rs' bs' ≡ record {
+            answer = Ok (cond b (Last (spot (token_at s at).end next pool)) (More (spot at next pool)));
             records = sets rs (record_size * p.next) (encodes little (attribute_row a.existence a.name p.pool (value_link a.value) (cond b 0 next) ∷ table));
             bytes = sets bs p.pool (a.name ++ value_pool a.value);
           }
           → IsAttribute s little p rs bs rs' bs' last q (got a at)
       by true true f g =
-          let o : attribute_read.Last q ≡ attribute_read.Last (spot (token_at s at).end next pool) = ap (λ (w : Wrote attribute_reads.AttributeRead). w.answer) g in
-          record { a = a; at = at; is = refl; sort = f; spot = (cc); records = ap (λ (w : Wrote attribute_reads.AttributeRead). w.records) g; bytes = ap (λ (w : Wrote attribute_reads.AttributeRead). w.bytes) g }
+          let o : Ok (Last q) ≡ Ok (Last (spot (token_at s at).end next pool)) = ap (λ (w : Wrote AttributeEnd). w.answer) g in
+          record { a = a; at = at; is = refl; sort = f; spot = (cc); records = ap (λ (w : Wrote AttributeEnd). w.records) g; bytes = ap (λ (w : Wrote AttributeEnd). w.bytes) g }
       by false false f g =
-          let o : attribute_read.More q ≡ attribute_read.More (spot at next pool) = ap (λ (w : Wrote attribute_reads.AttributeRead). w.answer) g in
-          record { a = a; at = at; is = refl; sort = f; spot = (cc); records = ap (λ (w : Wrote attribute_reads.AttributeRead). w.records) g; bytes = ap (λ (w : Wrote attribute_reads.AttributeRead). w.bytes) g }
+          let o : Ok (More q) ≡ Ok (More (spot at next pool)) = ap (λ (w : Wrote AttributeEnd). w.answer) g in
+          record { a = a; at = at; is = refl; sort = f; spot = (cc); records = ap (λ (w : Wrote AttributeEnd). w.records) g; bytes = ap (λ (w : Wrote AttributeEnd). w.bytes) g }
       by true false f g =
-          let o : attribute_read.Last q ≡ attribute_read.More (spot at next pool) = ap (λ (w : Wrote attribute_reads.AttributeRead). w.answer) g in
+          let o : Ok (Last q) ≡ Ok (More (spot at next pool)) = ap (λ (w : Wrote AttributeEnd). w.answer) g in
           let z : ◌≡◌ {A = ℕ} 0 1 = cc in
           absurd (omega arith)
       by false true f g =
-          let o : attribute_read.More q ≡ attribute_read.Last (spot (token_at s at).end next pool) = ap (λ (w : Wrote attribute_reads.AttributeRead). w.answer) g in
+          let o : Ok (More q) ≡ Ok (Last (spot (token_at s at).end next pool)) = ap (λ (w : Wrote AttributeEnd). w.answer) g in
           let z : ◌≡◌ {A = ℕ} 0 1 = cc in
           absurd (omega arith)
 
   is_not : (y : Refusal) (x : Reading Attribute)
-      → attribute_wrote (attribute_read.Refused y) rs' bs' ≡ attribute_written s little p rs bs x → x ≡ refused y
+      → wrote (Err y) rs' bs' ≡ attribute_written s little p rs bs x → x ≡ refused y
   unfolding attribute_written
-  is_not y (refused x) e = let o : attribute_read.Refused y ≡ attribute_read.Refused x = ap (λ (w : Wrote attribute_reads.AttributeRead). w.answer) e in cc
-  is_not y (got a at) e = by _ _ (eqb (token_at s at).sort close_brace) (ap (λ (w : Wrote attribute_reads.AttributeRead). w.answer) e)
+  is_not y (refused x) e = let o : Err y ≡ Err x = ap (λ (w : Wrote AttributeEnd). w.answer) e in cc
+  is_not y (got a at) e = by _ _ (eqb (token_at s at).sort close_brace) (ap (λ (w : Wrote AttributeEnd). w.answer) e)
     where
-      by : (u v : Spot) (b : Bool) → attribute_read.Refused y ≡ cond b (attribute_read.Last u) (attribute_read.More v)
+      by : (u v : Spot) (b : Bool) → Err y ≡ Ok (cond b (Last u) (More v))
           → got a at ≡ refused y
       by u v true o = let z : ◌≡◌ {A = ℕ} 0 1 = cc in absurd (omega arith)
       by u v false o = let z : ◌≡◌ {A = ℕ} 0 1 = cc in absurd (omega arith)
@@ -149,14 +150,14 @@ step little p a place link rs bs (got xs at) h =
     = sets_behind (w ++ value_pool v) (attribute_pool xs) bs p.pool pool l ∙ ap (λ (y : List ℕ). sets bs p.pool y) (append_assoc w (value_pool v) (attribute_pool xs)) in
     let k : attributes_link xs ≡ link = h xs at refl in
     λ i. record {
-      answer = Read (spot at (n i) (m i));
+      answer = Ok (spot at (n i) (m i));
       records = (r ∙ ap (λ (y : ℕ). sets rs (record_size * p.next) (encodes little (row y ∷ (table ++ more)))) (sym k)) i;
       bytes = b i;
     }
 
 -- no more attributes: nothing more is written
 none_more : (little : Bool) (place next pool : ℕ) (rs bs : List ℕ)
-    → wrote (Read (spot place next pool)) rs bs
+    → wrote (Ok (spot place next pool)) rs bs
     ≡ written attributes_table attribute_pool little (spot place next pool) rs bs (got no_more place)
 unfolding written attributes_table attribute_pool
 none_more little place next pool rs bs = rw (add-zero, add-zero)
@@ -203,10 +204,10 @@ pub record InAttributes (s : List ℕ) (little : Bool) (levels : ℕ) (p : Spot)
       ≡ written attributes_table attribute_pool little p rs₀ bs₀
       (attributes s levels (length s + 1) [] p.next p.place)
 
-pub attributes-start : (s : List ℕ) (little : Bool) (levels : ℕ) {p : Spot} {first : ℕ} (rs bs names : List ℕ)
+pub attributes_start : (s : List ℕ) (little : Bool) (levels : ℕ) {p : Spot} {first : ℕ} (rs bs names : List ℕ)
     → Stacked s p first → InAttributes s little levels p first rs bs names p first rs bs names
 unfolding latest
-attributes-start s little levels {first = first} rs bs names h =
+attributes_start s little levels {first = first} rs bs names h =
     let e : first - first ≡ 0 = omega arith in
     record {
       fuel = length s + 1;
@@ -219,7 +220,7 @@ attributes-start s little levels {first = first} rs bs names h =
 
 module _ {s : List ℕ} {little : Bool} {levels : ℕ} {p : Spot} {first : ℕ} {rs₀ bs₀ names₀ : List ℕ} {q : Spot}
     {top : ℕ} {rs bs names : List ℕ} (inv : InAttributes s little levels p first rs₀ bs₀ names₀ q top rs bs names)
-    {names' rs' bs' : List ℕ} {r : attribute_reads.AttributeRead}
+    {names' rs' bs' : List ℕ} {r : Result AttributeEnd Refusal}
     (d : AttributeIs s little levels q first top names rs bs names' rs' bs' r) where
   abbrev Whole : Reading Attributes
   Whole = attributes s levels (length s + 1) [] p.next p.place
@@ -236,15 +237,15 @@ module _ {s : List ℕ} {little : Bool} {levels : ℕ} {p : Spot} {first : ℕ} 
       (attributes s levels (inv.fuel - 1) (a.name ∷ earlier s names first top) (past_attribute Here a)) at)
   one_turn = turn s levels inv.fuel (earlier s names first top) Here q.place (let a = inv.enough in let b = inv.room.stacked.room.inside in omega arith)
 
-  pub attributes_not : (x : Refusal) → r ≡ attribute_read.Refused x
-      → TreeIs first names₀ names' (written attributes_table attribute_pool little p rs₀ bs₀ Whole) rs' bs' (Refused x)
+  pub attributes_not : (x : Refusal) → r ≡ Err x
+      → TreeIs first names₀ names' (written attributes_table attribute_pool little p rs₀ bs₀ Whole) rs' bs' (Err x)
   unfolding written
   attributes_not x g =
       let f = is_not s little q rs bs rs' bs' x (AttributeOf s levels q first top names) (rw g at d.is) in
       let t : attributes s levels inv.fuel (earlier s names first top) Here q.place ≡ refused x = one_turn ∙ rw f in
       record { is = rw t at inv.is; kept = still }
 
-  module _ (last : Bool) (z : Spot) (g : r ≡ ended last z) where
+  module _ (last : Bool) (z : Spot) (g : r ≡ Ok (ended last z)) where
     read : IsAttribute s little q rs bs rs' bs' last z (AttributeOf s levels q first top names)
     read = is_attribute s little q rs bs rs' bs' last z (AttributeOf s levels q first top names) (rw g at d.is)
 
@@ -260,8 +261,8 @@ module _ {s : List ℕ} {little : Bool} {levels : ℕ} {p : Spot} {first : ℕ} 
     unfolding Holds
     read_in = rw read.is at (attribute_holds s levels Here q.place inv.room.stacked.room.inside (earlier s names first top))
 
-  pub attributes_last : (z : Spot) → r ≡ attribute_read.Last z
-      → TreeIs first names₀ names' (written attributes_table attribute_pool little p rs₀ bs₀ Whole) rs' bs' (Read z)
+  pub attributes_last : (z : Spot) → r ≡ Ok (Last z)
+      → TreeIs first names₀ names' (written attributes_table attribute_pool little p rs₀ bs₀ Whole) rs' bs' (Ok z)
   unfolding written attributes_table attribute_pool
   attributes_last z g =
       let e = read true z g in
@@ -271,18 +272,18 @@ module _ {s : List ℕ} {little : Bool} {levels : ℕ} {p : Spot} {first : ℕ} 
       let n = q.next + 1 + length (value_table a.value (q.pool + length a.name)) in
       let m = q.pool + length a.name + length (value_pool a.value) in
       let w = step little q a t.end 0 rs bs (got no_more t.end) (λ xs at k. let j : no_more ≡ xs = cc in rw (← j)) in
-      let v : wrote (Read z) rs' bs' ≡ written attributes_table attribute_pool little (spot t.end n m) rs' bs' (got no_more t.end) = ap (λ (y : Spot). wrote (Read y) rs' bs') e.spot ∙ none_more little t.end n m rs' bs' in
+      let v : wrote (Ok z) rs' bs' ≡ written attributes_table attribute_pool little (spot t.end n m) rs' bs' (got no_more t.end) = ap (λ (y : Spot). wrote (Ok y) rs' bs') e.spot ∙ none_more little t.end n m rs' bs' in
       record {
         is = v ∙ (λ i. written attributes_table attribute_pool little (spot t.end n m) (e.records i) (e.bytes i) (got no_more t.end)) ∙ w ∙ rw f at inv.is;
         kept = still;
       }
 
-  module _ {z : Spot} (g : r ≡ attribute_read.More z) where
+  module _ {z : Spot} (g : r ≡ Ok (More z)) where
     seen_next : earlier s names' first (top + 1) ≡ (read false z g).a.name ∷ earlier s names first top
     seen_next = names_more inv.order d.kept (d.pushed _ _ (read false z g).is)
 
-    pub attributes-less : length s - z.place < length s - q.place
-    attributes-less =
+    pub attributes_less : length s - z.place < length s - q.place
+    attributes_less =
         let k = read_in false z g in
         let e : z.place ≡ (read false z g).at = ap (λ (y : Spot). y.place) (read false z g).spot in
         let a = k.least in
@@ -337,6 +338,6 @@ module _ {s : List ℕ} {little : Bool} {levels : ℕ} {p : Spot} {first : ℕ} 
         by (refused y) l xs at f = let z : ◌≡◌ {A = ℕ} 0 1 = cc in absurd (omega arith)
         by (got ys y) l xs at f = let z : ys ≡ xs = cc in rw (← z) l
 
-pub attributes-fits : {s : List ℕ} {q : Spot} {first top : ℕ} {names : List ℕ} → AttributeRoom s q first top names
+pub attributes_fits : {s : List ℕ} {q : Spot} {first top : ℕ} {names : List ℕ} → AttributeRoom s q first top names
     → top ≤ 2_048
-attributes-fits h = let a = h.stacked.few in let b = h.stacked.room.records in omega arith
+attributes_fits h = let a = h.stacked.few in let b = h.stacked.room.records in omega arith

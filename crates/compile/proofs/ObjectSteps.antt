@@ -20,38 +20,35 @@ use Rattle.refusals.specs.Reading.{Reading, refused, got, read_then}
 use Rattle.refusals.specs.Expecting.{expect}
 use Rattle.refusals.specs.Clauses.Answers.{ExpectIs}
 use Rattle.refusals.specs.declared.Refusal.{Refusal}
-use Rattle.refusals.specs.declared.steps.Expected.{Expected}
-use Rattle.refusals.specs.declared.steps.Expected.TheVariants.{Fault, Taken}
-use Rattle.refusals.proofs.StepLaws.{expected_fault, expected_token}
+use Rattle.std.specs.declared.result.Result.{Result}
+use Rattle.std.specs.declared.result.Result.TheVariants.{Ok, Err}
 use Rattle.meaning.specs.Constraints.{Object, object, Attributes, no_more, Value, nested}
 use Rattle.meaning.specs.Counting.{object_pool, attribute_pool, value_pool}
 use Rattle.cadl_items.proofs.ItemLaws.{all_kept}
 use Rattle.cadl_objects.specs.Clauses.Told.{value, attributes, object_from}
-use Rattle.cadl_objects.specs.Clauses.Answers.{Counted, object_head, typed_reading, TypedPast, ObjectHeadIs}
-use Rattle.cadl_objects.specs.declared.heads.ObjectHeadRead.{ObjectHeadRead}
-use Rattle.cadl_objects.specs.declared.heads.ObjectHeadRead.TheVariants as object_head_read
+use Rattle.cadl_objects.specs.Clauses.Answers.{Counted, TypedPast, ObjectHeadIs}
+use Rattle.cadl_objects.specs.declared.heads.ObjectHead.{ObjectHead}
 use Rattle.table.specs.Records.{record_size, encode, encodes}
 use Rattle.compile_flatten.specs.Flatten.{attributes_link, object_table, attributes_table, value_table}
 use Rattle.compile_emission.specs.Clauses.Answers.{spot, wrote, written, leaf_value, Room, object_row, ObjectPut}
 use Rattle.compile.specs.Clauses.Answers.{TreeIs, Stacked, EndIs}
 use Rattle.compile_emission.specs.declared.spots.Spot.{Spot}
-use Rattle.compile_emission.specs.declared.spots.TreeRead.{TreeRead}
-use Rattle.compile_emission.specs.declared.spots.TreeRead.TheVariants.{Refused, Read}
 use Rattle.compile_emission.proofs.WritingSteps.{front}
 use Rattle.cadl_objects.proofs.TreeParts.{value_is}
 use Rattle.compile.proofs.ReadingLaws.{behind_head, object_refused, object_levels_lem, object_got, Linked, linked}
 
 -- ---- the `}` of an object that any attribute may follow
 
-module _ {s : List ℕ} {from : ℕ} {o : Expected} (e : ExpectIs s close_brace from (expect s close_brace from) o)
-    (p : Spot) where
-  pub end_fault : (x : Refusal) → o ≡ Fault x → EndIs s p from (Refused x)
+module _ {s : List ℕ} {from : ℕ} (p : Spot) where
+  pub end_fault : (x : Refusal) → ExpectIs s close_brace from (expect s close_brace from) (Err x)
+      → EndIs s p from (Err x)
   unfolding written
-  end_fault x g = record { is = λ little rs bs. rw (expected_fault e x g) }
+  end_fault x e = record { is = λ little rs bs. rw (← e.is) }
 
-  pub end_taken : (t : Token) → o ≡ Taken t → EndIs s p from (Read (spot t.end p.next p.pool))
+  pub end_taken : (t : Token) → ExpectIs s close_brace from (expect s close_brace from) (Ok t)
+      → EndIs s p from (Ok (spot t.end p.next p.pool))
   unfolding written attributes_table attribute_pool
-  end_taken t g = record { is = λ little rs bs. rw (expected_token e t g, add-zero, add-zero) }
+  end_taken t e = record { is = λ little rs bs. rw (← e.is, add-zero, add-zero) }
 
 -- ---- an object
 
@@ -76,44 +73,41 @@ object_written little p t c place first rs bs (got xs at) h =
     let b : sets (sets bs p.pool (t ++ c)) q (attribute_pool xs) ≡ sets bs p.pool (t ++ (c ++ attribute_pool xs)) = sets_behind (t ++ c) (attribute_pool xs) bs p.pool q l ∙ ap (λ (y : List ℕ). sets bs p.pool y) (append_assoc t c (attribute_pool xs)) in
     let k = h xs at refl in
     λ i. record {
-      answer = Read (spot at (n i) (m i));
+      answer = Ok (spot at (n i) (m i));
       records = (r ∙ ap (λ (y : ℕ). sets rs (record_size * p.next) (encodes little (object_row t c p.pool y ∷ attributes_table xs q))) (sym k)) i;
       bytes = b i;
     }
 
-module _ {s : List ℕ} {p : Spot} {top : ℕ} (room : Stacked s p top) {levels : ℕ} {o : ObjectHeadRead}
-    (e : ObjectHeadIs s levels p.next p.place o) where
+module _ {s : List ℕ} {p : Spot} {top : ℕ} (room : Stacked s p top) (levels : ℕ) where
   abbrev From : Reading Object
   From = object_from s levels p.next p.place
 
-  head_is : (k : ObjectHeadRead) → o ≡ k → typed_reading s k ≡ object_head s levels p.next p.place
-  head_is k g = rw g at e.is
-
-  pub object_faulty : (little : Bool) (names rs bs : List ℕ) (x : Refusal) → o ≡ object_head_read.Faulty x
-      → TreeIs top names names (written object_table object_pool little p rs bs From) rs bs (Refused x)
+  pub object_faulty : (little : Bool) (names rs bs : List ℕ) (x : Refusal)
+      → ObjectHeadIs s levels p.next p.place (Err x)
+      → TreeIs top names names (written object_table object_pool little p rs bs From) rs bs (Err x)
   unfolding written
-  object_faulty little names rs bs x g = record { is = rw (object_refused s levels p.next p.place x (sym (head_is _ g))); kept = all_kept names top }
+  object_faulty little names rs bs x e = record { is = rw (object_refused s levels p.next p.place x (sym e.is)); kept = all_kept names top }
 
-  module _ {a b c d next : ℕ} (g : o ≡ object_head_read.Head a b c d next) where
-    pub object_past : TypedPast s p.next p.place a b c d next
-    object_past = rw g at e.past
+  module _ {head : ObjectHead} (e : ObjectHeadIs s levels p.next p.place (Ok head)) where
+    pub object_past : TypedPast s p.next p.place head.type_start head.type_end head.code_start head.code_end head.next
+    object_past = e.past
 
-    pub object_inside : next ≤ length s
+    pub object_inside : head.next ≤ length s
     object_inside = object_past.inside
 
     pub object_level : 1 ≤ levels
-    object_level = object_levels_lem s levels p.next p.place _ next (sym (head_is _ g))
+    object_level = object_levels_lem s levels p.next p.place _ head.next (sym e.is)
 
-    read : From ≡ behind_head s (levels - 1) p.next (record { type = part s a b; code = part s c d }) next
-    read = object_got s levels p.next p.place _ next (sym (head_is _ g))
+    read : From ≡ behind_head s (levels - 1) p.next (record { type = part s head.type_start head.type_end; code = part s head.code_start head.code_end }) head.next
+    read = object_got s levels p.next p.place _ head.next (sym e.is)
 
-    module _ {t : Token} (tok : TokenIs s next (token_at s next) t) {little any : Bool} {rs bs rs' bs' : List ℕ}
-        {q : Spot} (put : ObjectPut (part s a b) (part s c d) little p next any rs bs rs' bs' q) where
-      pub object_any : (names : List ℕ) (r : TreeRead) → any ≡ eqb t.sort star → any ≡ true → EndIs s q t.end r
+    module _ {t : Token} (tok : TokenIs s head.next (token_at s head.next) t) {little any : Bool} {rs bs rs' bs' : List ℕ}
+        {q : Spot} (put : ObjectPut (part s head.type_start head.type_end) (part s head.code_start head.code_end) little p head.next any rs bs rs' bs' q) where
+      pub object_any : (names : List ℕ) (r : Result Spot Refusal) → any ≡ eqb t.sort star → any ≡ true → EndIs s q t.end r
           → TreeIs top names names (written object_table object_pool little p rs bs From) rs' bs' r
       object_any names r k y h =
-          let z : eqb (token_at s next).sort star ≡ true = ap (λ (x : Token). eqb x.sort star) (sym tok.is) ∙ sym k ∙ y in
-          let w = object_written little p (part s a b) (part s c d) next 0 rs bs (read_then (expect s close_brace t.end) (λ u at. got no_more at)) (ends (expect s close_brace t.end)) in
+          let z : eqb (token_at s head.next).sort star ≡ true = ap (λ (x : Token). eqb x.sort star) (sym tok.is) ∙ sym k ∙ y in
+          let w = object_written little p (part s head.type_start head.type_end) (part s head.code_start head.code_end) head.next 0 rs bs (read_then (expect s close_brace t.end) (λ u at. got no_more at)) (ends (expect s close_brace t.end)) in
           let j = tok.is in
           record { is = h.is little rs' bs' ∙ rw (put.spot, put.records, put.bytes, y, read, z, ← j) w; kept = all_kept names top }
         where
@@ -125,22 +119,22 @@ module _ {s : List ℕ} {p : Spot} {top : ℕ} (room : Stacked s p top) {levels 
       pub object_more : Stacked s q top
       object_more =
           let h = object_past in
-          let l = part_length s a b (omega arith) in
-          let m = part_length s c d (omega arith) in
+          let l = part_length s head.type_start head.type_end (omega arith) in
+          let m = part_length s head.code_start head.code_end (omega arith) in
           let v = room.room in
           let x = room.few in
           rw put.spot (record { room = record { inside = h.inside; short = v.short; records = let n = h.records in omega arith; bytes = omega arith }; few = omega arith })
 
-      pub object_attributes : (names names' rs2 bs2 : List ℕ) (r : TreeRead) → any ≡ eqb t.sort star → any ≡ false
+      pub object_attributes : (names names' rs2 bs2 : List ℕ) (r : Result Spot Refusal) → any ≡ eqb t.sort star → any ≡ false
           → TreeIs top names names'
           (written attributes_table attribute_pool little q rs' bs'
           (attributes s (levels - 1) (length s + 1) [] q.next q.place)) rs2 bs2 r
           → TreeIs top names names' (written object_table object_pool little p rs bs From) rs2 bs2 r
       object_attributes names names' rs2 bs2 r k y h =
-          let z : eqb (token_at s next).sort star ≡ false = ap (λ (x : Token). eqb x.sort star) (sym tok.is) ∙ sym k ∙ y in
-          let x = attributes s (levels - 1) (length s + 1) [] (p.next + 1) next in
-          let l : Linked (p.next + 1) x = linked s (levels - 1) (length s + 1) [] (p.next + 1) next in
-          let w = object_written little p (part s a b) (part s c d) next (p.next + 1) rs bs x (λ xs at f. by x l xs at f) in
+          let z : eqb (token_at s head.next).sort star ≡ false = ap (λ (x : Token). eqb x.sort star) (sym tok.is) ∙ sym k ∙ y in
+          let x = attributes s (levels - 1) (length s + 1) [] (p.next + 1) head.next in
+          let l : Linked (p.next + 1) x = linked s (levels - 1) (length s + 1) [] (p.next + 1) head.next in
+          let w = object_written little p (part s head.type_start head.type_end) (part s head.code_start head.code_end) head.next (p.next + 1) rs bs x (λ xs at f. by x l xs at f) in
           record { is = h.is ∙ rw (put.spot, put.records, put.bytes, y, read, z) w; kept = h.kept }
         where
           by : (x : Reading Attributes) → Linked (p.next + 1) x → (xs : Attributes) (at : ℕ) → x ≡ got xs at
@@ -164,11 +158,11 @@ module _ (s : List ℕ) (p : Spot) (t : Token) (tok : TokenIs s p.place (content
     (levels top : ℕ) where
   pub value_any : (little : Bool) (names rs bs : List ℕ) → t.sort ≡ star
       → TreeIs top names names (written value_table value_pool little p rs bs (ValueOf s levels p)) rs bs
-      (Read (spot t.end p.next p.pool))
+      (Ok (spot t.end p.next p.pool))
   unfolding written value_table value_pool
   value_any little names rs bs k = record { is = rw (value_is s levels p.next p.place, ← tok.is, eq-eqb t.sort star k, add-zero, add-zero); kept = all_kept names top }
 
-  pub value_object : (little : Bool) (names names' rs bs rs' bs' : List ℕ) (r : TreeRead) → (t.sort ≡ star → ⊥)
+  pub value_object : (little : Bool) (names names' rs bs rs' bs' : List ℕ) (r : Result Spot Refusal) → (t.sort ≡ star → ⊥)
       → t.sort ≡ type_name
       → TreeIs top names names'
       (written object_table object_pool little p rs bs (object_from s levels p.next p.place)) rs' bs' r
@@ -178,7 +172,7 @@ module _ (s : List ℕ) (p : Spot) (t : Token) (tok : TokenIs s p.place (content
     kept = h.kept;
   }
 
-  pub value-leaf : (little : Bool) (names rs bs rs' bs' : List ℕ) (r : TreeRead) → (t.sort ≡ star → ⊥)
+  pub value_leaf : (little : Bool) (names rs bs rs' bs' : List ℕ) (r : Result Spot Refusal) → (t.sort ≡ star → ⊥)
       → (t.sort ≡ type_name → ⊥) → wrote r rs' bs' ≡ written value_table value_pool little p rs bs (leaf_value s p)
       → TreeIs top names names (written value_table value_pool little p rs bs (ValueOf s levels p)) rs' bs' r
-  value-leaf little names rs bs rs' bs' r k l h = record { is = h ∙ rw (value_is s levels p.next p.place, ← tok.is, ne_eqb t.sort star k, ne_eqb t.sort type_name l); kept = all_kept names top }
+  value_leaf little names rs bs rs' bs' r k l h = record { is = h ∙ rw (value_is s levels p.next p.place, ← tok.is, ne_eqb t.sort star k, ne_eqb t.sort type_name l); kept = all_kept names top }

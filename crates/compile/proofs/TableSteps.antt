@@ -23,9 +23,8 @@ use Rattle.refusals.specs.Expecting.{expect}
 use Rattle.refusals.specs.Clauses.Answers.{ExpectIs}
 use Rattle.refusals.specs.declared.Cause.TheVariants.{TextTooLong, OutputTooShort}
 use Rattle.refusals.specs.declared.Refusal.{Refusal}
-use Rattle.refusals.specs.declared.steps.Expected.{Expected}
-use Rattle.refusals.specs.declared.steps.Expected.TheVariants.{Fault, Taken}
-use Rattle.refusals.proofs.StepLaws.{expected_fault, expected_token}
+use Rattle.std.specs.declared.result.Result.{Result}
+use Rattle.std.specs.declared.result.Result.TheVariants.{Ok, Err}
 use Rattle.refusals.proofs.Readings.{Holds}
 use Rattle.refusals.proofs.Outcomes.{front_stored}
 use Rattle.meaning.specs.Constraints.{Object}
@@ -42,9 +41,6 @@ use Rattle.compile.specs.Compile.{table_for, compile_answer}
 use Rattle.compile_emission.specs.Clauses.Answers.{PartPut, spot, written}
 use Rattle.compile.specs.Clauses.Answers.{TreeIs, answer_of, table_written, TableRoom, finished}
 use Rattle.compile_emission.specs.declared.spots.Spot.{Spot}
-use Rattle.compile_emission.specs.declared.spots.TreeRead.{TreeRead}
-use Rattle.compile_emission.specs.declared.spots.TreeRead.TheVariants.{Refused, Read}
-use Rattle.compile.specs.declared.CompileResult.{CompileResult}
 use Rattle.compile_flatten.proofs.FlattenLaws.{object_length}
 use Rattle.compile_emission.proofs.TreeWriting.{counted_object, row_below, IsTree, is_tree_lem, is_refused_lem, pool_below}
 
@@ -85,18 +81,18 @@ module _ (little : Bool) (end : ℕ) (q : Spot) (rs bs out : List ℕ) where
 
 -- ---- the text's end
 
-module _ {text : List ℕ} (q : Spot) {o : Expected}
-    (e : ExpectIs text text_end q.place (expect text text_end q.place) o) (little : Bool) (rs bs out : List ℕ) where
-  pub finish_fault : (x : Refusal) → o ≡ Fault x
+module _ (text : List ℕ) (q : Spot) (little : Bool) (rs bs out : List ℕ) where
+  pub finish_fault : (x : Refusal) → ExpectIs text text_end q.place (expect text text_end q.place) (Err x)
       → answered (Outcomes.refused x) out
       ≡ write (finished little text q rs bs (length out) (expect text text_end q.place)) out
-  finish_fault x g = rw (expected_fault e x g)
+  finish_fault x e = rw (← e.is)
 
-  pub finish_taken : (t : Token) (r : CompileResult) (out1 : List ℕ) → o ≡ Taken t
+  pub finish_taken : (t : Token) (r : Result ℕ Refusal) (out1 : List ℕ)
+      → ExpectIs text text_end q.place (expect text text_end q.place) (Ok t)
       → answered (answer_of r) out1 ≡ write (table_written little (length text) q rs bs (length out)) out
       → answered (answer_of r) out1
       ≡ write (finished little text q rs bs (length out) (expect text text_end q.place)) out
-  finish_taken t r out1 g h = rw (expected_token e t g) h
+  finish_taken t r out1 e h = rw (← e.is) h
 
 -- ---- compiling
 
@@ -134,17 +130,17 @@ table_is little end place room o rs bs lr lb h k =
     λ i. unless (ltb room (lw i)) (refusal OutputTooShort end) (gave (writes (w i) (lw i)))
 
 module _ (text : List ℕ) (short : length text ≤ text_limit) (little : Bool) (rs bs names names1 rs1 bs1 out : List ℕ)
-    (r : TreeRead)
+    (r : Result Spot Refusal)
     (d : TreeIs 0 names names1
     (written object_table object_pool little (spot 0 1 0) rs bs (object_from text level_limit 1 0)) rs1 bs1 r) where
-  pub compile_refused : (x : Refusal) → r ≡ Refused x
+  pub compile_refused : (x : Refusal) → r ≡ Err x
       → answered (Outcomes.refused x) out ≡ compile_answer text little out
   unfolding compile_answer
   compile_refused x g =
       let f = is_refused_lem object_table object_pool little (spot 0 1 0) rs bs rs1 bs1 x _ (rw g at d.is) in
       rw (constraint_is text, le-ltb text_limit (length text) short, f)
 
-  module _ (q : Spot) (g : r ≡ Read q) where
+  module _ (q : Spot) (g : r ≡ Ok q) where
     read : IsTree object_table object_pool little (spot 0 1 0) rs bs rs1 bs1 q (object_from text level_limit 1 0)
     read = is_tree_lem object_table object_pool little (spot 0 1 0) rs bs rs1 bs1 q _ (rw g at d.is)
 
@@ -179,7 +175,7 @@ module _ (text : List ℕ) (short : length text ≤ text_limit) (little : Bool) 
     pub compile_room : TableRoom q
     compile_room = let a = next_is in let b = pool_is in let c = records_room in let e = pool_room in record { some = omega arith; records = omega arith; bytes = omega arith }
 
-    pub compile_done : (z : CompileResult) (out1 : List ℕ) → length rs ≡ 49_152 → length bs ≡ 16_384
+    pub compile_done : (z : Result ℕ Refusal) (out1 : List ℕ) → length rs ≡ 49_152 → length bs ≡ 16_384
         → answered (answer_of z) out1
         ≡ write (finished little text q rs1 bs1 (length out) (expect text text_end q.place)) out
         → answered (answer_of z) out1 ≡ compile_answer text little out

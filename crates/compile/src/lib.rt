@@ -11,28 +11,18 @@ ghost use Rattle.compile.specs.Clauses.Answers.{answer_of};
 
 use crate::objects::read_object;
 use crate::output::finish;
-use compile_emission::spots::{NAMES_ROOM, Spot, TreeRead};
+use compile_emission::spots::{NAMES_ROOM, Spot};
 use refusals::limits::{LEVEL_LIMIT, TEXT_LIMIT};
 use refusals::{Cause, Refusal};
 use table::layout::{POOL_ROOM, RECORDS_ROOM};
 
-// What compiling answers: the table's length, or why the text is refused.
-#[derive(Clone, Copy)]
-pub enum CompileResult {
-    Done { length: usize },
-    Refused(Refusal),
-}
-
-// Compiles a constraint text into a table in the order asked, with the lowest byte first where `little` holds. A refusal changes no byte of the output.
-pub fn compile(text: &[u8], little: bool, out: &mut [u8]) -> CompileResult
+// Compiles a constraint text into a table in the order asked, with the lowest byte first where `little` holds; the table's length. A refusal changes no byte of the output.
+pub fn compile(text: &[u8], little: bool, out: &mut [u8]) -> Result<usize, Refusal>
     ensures { answered (answer_of result) out.new
         ≡ compile_answer text.now little out.old }
 {
     if TEXT_LIMIT < text.len() {
-        return CompileResult::Refused(Refusal {
-            cause: Cause::TextTooLong,
-            place: TEXT_LIMIT,
-        });
+        return Err(Cause::TextTooLong.at(TEXT_LIMIT));
     }
     let mut records: [u8; RECORDS_ROOM] = [0; RECORDS_ROOM];
     let mut bytes: [u8; POOL_ROOM] = [0; POOL_ROOM];
@@ -42,7 +32,7 @@ pub fn compile(text: &[u8], little: bool, out: &mut [u8]) -> CompileResult
         next: 1,
         pool: 0,
     };
-    match read_object(
+    let q = read_object(
         text,
         little,
         LEVEL_LIMIT,
@@ -51,12 +41,6 @@ pub fn compile(text: &[u8], little: bool, out: &mut [u8]) -> CompileResult
         &mut records,
         &mut bytes,
         &mut names,
-    ) {
-        TreeRead::Refused(fault) => {
-            return CompileResult::Refused(fault);
-        }
-        TreeRead::Read(q) => {
-            return finish(text, little, q, &mut records, &bytes, out);
-        }
-    }
+    )?;
+    finish(text, little, q, &mut records, &bytes, out)
 }

@@ -6,32 +6,26 @@ ghost use Rattle.compile_flatten.specs.Flatten.{object_table, attributes_table, 
 ghost use Rattle.compile_emission.specs.Clauses.Answers.{written};
 ghost use Rattle.compile.specs.Clauses.Answers.{Stacked, TreeIs, EndIs, AttributeRoom, AttributeIs};
 
-use cadl_objects::heads::{AttributeHeadRead, ObjectHeadRead, attribute_head, object_head};
+use cadl_objects::heads::{attribute_head, object_head};
 use compile_emission::heads::{close_attribute, keep_name, open_object};
 use compile_emission::leaves::write_leaf;
-use compile_emission::spots::{AttributeRead, NAMES_ROOM, Spot, TreeRead};
+use compile_emission::spots::{AttributeEnd, NAMES_ROOM, Spot};
 use lexis::tokens::{content_token_at, token_at};
 use lexis::{CLOSE_BRACE, STAR, TYPE_NAME};
-use refusals::steps::{Expected, expect};
+use refusals::Refusal;
+use refusals::steps::expect;
 use table::layout::{POOL_ROOM, RECORDS_ROOM};
 
 // The `}` of an object behind its `*`.
-fn close_object(s: &[u8], p: Spot, from: usize) -> TreeRead
+fn close_object(s: &[u8], p: Spot, from: usize) -> Result<Spot, Refusal>
     requires { from ≤ length s.now }
     ensures { EndIs s.now p from result }
 {
-    match expect(s, CLOSE_BRACE, from) {
-        Expected::Fault(fault) => {
-            return TreeRead::Refused(fault);
-        }
-        Expected::Taken(close) => {
-            return TreeRead::Read(Spot {
-                place: close.end,
-                next: p.next,
-                pool: p.pool,
-            });
-        }
-    }
+    let close = expect(s, CLOSE_BRACE, from)?;
+    Ok(Spot {
+        place: close.end,
+        ..p
+    })
 }
 
 // An object of at most so many levels from a spot on; so many names are on the stack.
@@ -45,33 +39,21 @@ pub fn read_object(
     records: &mut [u8; RECORDS_ROOM],
     bytes: &mut [u8; POOL_ROOM],
     names: &mut [u32; NAMES_ROOM],
-) -> TreeRead
+) -> Result<Spot, Refusal>
     requires { Stacked s.now p top }
     ensures { TreeIs top names.old names.new
         (written object_table object_pool little p records.old bytes.old
         (object_from s.now levels p.next p.place))
         records.new bytes.new result }
 {
-    match object_head(s, levels, p.next, p.place) {
-        ObjectHeadRead::Faulty(fault) => {
-            return TreeRead::Refused(fault);
-        }
-        ObjectHeadRead::Head {
-            type_start: a,
-            type_end: b,
-            code_start: c,
-            code_end: d,
-            next,
-        } => {
-            let t = token_at(s, next);
-            let any = t.sort == STAR;
-            let q = open_object(s, little, p, a, b, c, d, next, any, records, bytes);
-            if any {
-                return close_object(s, q, t.end);
-            }
-            return read_attributes(s, little, levels - 1, q, top, records, bytes, names);
-        }
+    let head = object_head(s, levels, p.next, p.place)?;
+    let t = token_at(s, head.next);
+    let any = t.sort == STAR;
+    let q = open_object(s, little, p, head, any, records, bytes);
+    if any {
+        return close_object(s, q, t.end);
     }
+    read_attributes(s, little, levels - 1, q, top, records, bytes, names)
 }
 
 // The attributes of an object and its `}`; the objects inside have at most so many levels.
@@ -85,7 +67,7 @@ fn read_attributes(
     records: &mut [u8; RECORDS_ROOM],
     bytes: &mut [u8; POOL_ROOM],
     names: &mut [u32; NAMES_ROOM],
-) -> TreeRead
+) -> Result<Spot, Refusal>
     requires { Stacked s.now p first }
     ensures { TreeIs first names.old names.new
         (written attributes_table attribute_pool little p records.old bytes.old
@@ -95,14 +77,11 @@ fn read_attributes(
     let mut q = p;
     let mut top = first;
     loop {
-        match read_attribute(s, little, levels, q, first, top, records, bytes, names) {
-            AttributeRead::Refused(fault) => {
-                return TreeRead::Refused(fault);
+        match read_attribute(s, little, levels, q, first, top, records, bytes, names)? {
+            AttributeEnd::Last(behind) => {
+                return Ok(behind);
             }
-            AttributeRead::Last(behind) => {
-                return TreeRead::Read(behind);
-            }
-            AttributeRead::More(behind) => {
+            AttributeEnd::More(behind) => {
                 q = behind;
                 top += 1;
             }
@@ -122,32 +101,15 @@ fn read_attribute(
     records: &mut [u8; RECORDS_ROOM],
     bytes: &mut [u8; POOL_ROOM],
     names: &mut [u32; NAMES_ROOM],
-) -> AttributeRead
+) -> Result<AttributeEnd, Refusal>
     requires { AttributeRoom s.now p first top names.old }
     ensures { AttributeIs s.now little levels p first top names.old records.old
         bytes.old names.new records.new bytes.new result }
 {
-    match attribute_head(s, names, first, top, p.next, p.place) {
-        AttributeHeadRead::Faulty(fault) => {
-            return AttributeRead::Refused(fault);
-        }
-        AttributeHeadRead::Head {
-            name_start: start,
-            name_end: end,
-            existence,
-            next,
-        } => {
-            let inner = keep_name(s, p, start, end, next, bytes, names, top);
-            match read_value(s, little, levels, inner, top + 1, records, bytes, names) {
-                TreeRead::Refused(fault) => {
-                    return AttributeRead::Refused(fault);
-                }
-                TreeRead::Read(q) => {
-                    return close_attribute(s, little, p, existence, start, end, q, records);
-                }
-            }
-        }
-    }
+    let head = attribute_head(s, names, first, top, p.next, p.place)?;
+    let inner = keep_name(s, p, head, bytes, names, top);
+    let q = read_value(s, little, levels, inner, top + 1, records, bytes, names)?;
+    close_attribute(s, little, p, head, q, records)
 }
 
 // What stands between an attribute's braces: `*`, an object of at most so many levels, or a leaf.
@@ -161,7 +123,7 @@ fn read_value(
     records: &mut [u8; RECORDS_ROOM],
     bytes: &mut [u8; POOL_ROOM],
     names: &mut [u32; NAMES_ROOM],
-) -> TreeRead
+) -> Result<Spot, Refusal>
     requires { Stacked s.now p top }
     ensures { TreeIs top names.old names.new
         (written value_table value_pool little p records.old bytes.old
@@ -169,15 +131,9 @@ fn read_value(
         records.new bytes.new result }
 {
     let t = content_token_at(s, p.place);
-    if t.sort == STAR {
-        return TreeRead::Read(Spot {
-            place: t.end,
-            next: p.next,
-            pool: p.pool,
-        });
+    match t.sort {
+        STAR => Ok(Spot { place: t.end, ..p }),
+        TYPE_NAME => read_object(s, little, levels, p, top, records, bytes, names),
+        _ => write_leaf(s, little, p, t, records, bytes),
     }
-    if t.sort == TYPE_NAME {
-        return read_object(s, little, levels, p, top, records, bytes, names);
-    }
-    write_leaf(s, little, p, t, records, bytes)
 }

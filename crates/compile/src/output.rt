@@ -7,13 +7,12 @@ ghost use Rattle.table.specs.Clauses.Answers.{record_of};
 ghost use Rattle.refusals.specs.Outcomes.{answered, write};
 ghost use Rattle.compile.specs.Clauses.Answers.{answer_of, table_written, TableRoom, finished};
 
-use crate::CompileResult;
 use cadl_items::spans::narrow;
 use compile_emission::pool::copy;
 use compile_emission::rows::put_row;
 use compile_emission::spots::Spot;
 use lexis::TEXT_END;
-use refusals::steps::{Expected, expect};
+use refusals::steps::expect;
 use refusals::{Cause, Refusal};
 use table::layout::{HEADER_KIND, POOL_ROOM, RECORD_SIZE, RECORDS_ROOM};
 use table::records::{Entry, plain};
@@ -25,11 +24,12 @@ const ROOT: u32 = 1;
 fn header_entry(count: u32, pool: u32) -> Entry
     ensures { record_of result ≡ make 0 0 (count ∷ pool ∷ 1 ∷ []) }
 {
-    let mut entry = plain(HEADER_KIND, 0);
-    entry.a = count;
-    entry.b = pool;
-    entry.c = ROOT;
-    entry
+    Entry {
+        a: count,
+        b: pool,
+        c: ROOT,
+        ..plain(HEADER_KIND, 0)
+    }
 }
 
 // Puts the header before the records, and the records and the pool into the output, if they fit there; the text ends at `end`.
@@ -40,7 +40,7 @@ fn write_table(
     records: &mut [u8; RECORDS_ROOM],
     bytes: &[u8; POOL_ROOM],
     out: &mut [u8],
-) -> CompileResult
+) -> Result<usize, Refusal>
     requires { TableRoom q }
     ensures { answered (answer_of result) out.new
         ≡ write (table_written little end q records.old bytes.now (length out.old))
@@ -49,10 +49,7 @@ fn write_table(
     let size = RECORD_SIZE * q.next;
     let length = size + q.pool;
     if out.len() < length {
-        return CompileResult::Refused(Refusal {
-            cause: Cause::OutputTooShort,
-            place: end,
-        });
+        return Err(Cause::OutputTooShort.at(end));
     }
     put_row(
         records,
@@ -62,7 +59,7 @@ fn write_table(
     );
     copy(records, 0, size, out, 0);
     copy(bytes, 0, q.pool, out, size);
-    CompileResult::Done { length }
+    Ok(length)
 }
 
 // The text's end behind its tree, and the table.
@@ -73,7 +70,7 @@ pub fn finish(
     records: &mut [u8; RECORDS_ROOM],
     bytes: &[u8; POOL_ROOM],
     out: &mut [u8],
-) -> CompileResult
+) -> Result<usize, Refusal>
     requires table_room { TableRoom q }
     requires place_in_bounds { q.place ≤ length text.now }
     ensures { answered (answer_of result) out.new
@@ -82,12 +79,6 @@ pub fn finish(
         (expect text.now text_end q.place))
         out.old }
 {
-    match expect(text, TEXT_END, q.place) {
-        Expected::Fault(fault) => {
-            return CompileResult::Refused(fault);
-        }
-        Expected::Taken(_) => {
-            return write_table(text.len(), little, q, records, bytes, out);
-        }
-    }
+    expect(text, TEXT_END, q.place)?;
+    write_table(text.len(), little, q, records, bytes, out)
 }

@@ -23,8 +23,7 @@ use Rattle.table.proofs.RecordLaws.{AllCounted, length-encode, length-encodes}
 use Rattle.compile_flatten.specs.Flatten.{range_records, string_records, records_of_leaf, value_link, object_table, attributes_table, value_table}
 use Rattle.compile_emission.specs.Clauses.Answers.{spot, Wrote, wrote, written, link_below, Room}
 use Rattle.compile_emission.specs.declared.spots.Spot.{Spot}
-use Rattle.compile_emission.specs.declared.spots.TreeRead.TheVariants.{Refused, Read}
-use Rattle.compile_emission.specs.declared.spots.TreeRead
+use Rattle.std.specs.declared.result.Result.TheVariants.{Ok, Err}
 use Rattle.compile_emission.proofs.WritingSteps.{pick_there, pick_none}
 
 -- ---- records, one behind another
@@ -98,31 +97,31 @@ pub record IsTree {A : Type 0} (table : A → ℕ → List Record) (pool : A →
 
 module _ {A : Type 0} (table : A → ℕ → List Record) (pool : A → List ℕ) (little : Bool) (p : Spot)
     (rs bs rs' bs' : List ℕ) where
-  pub is_tree_lem : (q : Spot) (x : Reading A) → wrote (Read q) rs' bs' ≡ written table pool little p rs bs x
+  pub is_tree_lem : (q : Spot) (x : Reading A) → wrote (Ok q) rs' bs' ≡ written table pool little p rs bs x
       → IsTree table pool little p rs bs rs' bs' q x
   unfolding written
   is_tree_lem q (refused x) e =
-      let o : Read q ≡ Refused x = ap (λ (w : Wrote TreeRead.TreeRead). w.answer) e in
+      let o : Ok q ≡ Err x = ap (λ (w : Wrote Spot). w.answer) e in
       let z : ◌≡◌ {A = ℕ} 0 1 = cc in
       absurd (omega arith)
   is_tree_lem q (got a at) e =
-      let o : Read q ≡ Read (spot at (p.next + length (table a p.pool)) (p.pool + length (pool a))) = ap (λ (w : Wrote TreeRead.TreeRead). w.answer) e in
+      let o : Ok q ≡ Ok (spot at (p.next + length (table a p.pool)) (p.pool + length (pool a))) = ap (λ (w : Wrote Spot). w.answer) e in
       let k : q ≡ spot at (p.next + length (table a p.pool)) (p.pool + length (pool a)) = cc in
       let l : q.place ≡ at = ap (λ (w : Spot). w.place) k in
       record {
         tree = a;
         is = ap (λ (y : ℕ). got a y) (sym l);
         spot = k ∙ ap (λ (y : ℕ). spot y (p.next + length (table a p.pool)) (p.pool + length (pool a))) (sym l);
-        records = ap (λ (w : Wrote TreeRead.TreeRead). w.records) e;
-        bytes = ap (λ (w : Wrote TreeRead.TreeRead). w.bytes) e;
+        records = ap (λ (w : Wrote Spot). w.records) e;
+        bytes = ap (λ (w : Wrote Spot). w.bytes) e;
       }
 
-  pub is_refused_lem : (y : Refusal) (x : Reading A) → wrote (Refused y) rs' bs' ≡ written table pool little p rs bs x
+  pub is_refused_lem : (y : Refusal) (x : Reading A) → wrote (Err y) rs' bs' ≡ written table pool little p rs bs x
       → x ≡ refused y
   unfolding written
-  is_refused_lem y (refused x) e = let o : Refused y ≡ Refused x = ap (λ (w : Wrote TreeRead.TreeRead). w.answer) e in cc
+  is_refused_lem y (refused x) e = let o : Err y ≡ Err x = ap (λ (w : Wrote Spot). w.answer) e in cc
   is_refused_lem y (got a at) e =
-      let o : Refused y ≡ Read (spot at (p.next + length (table a p.pool)) (p.pool + length (pool a))) = ap (λ (w : Wrote TreeRead.TreeRead). w.answer) e in
+      let o : Err y ≡ Ok (spot at (p.next + length (table a p.pool)) (p.pool + length (pool a))) = ap (λ (w : Wrote Spot). w.answer) e in
       let z : ◌≡◌ {A = ℕ} 0 1 = cc in
       absurd (omega arith)
 

@@ -1,7 +1,7 @@
 -- Steps of the functions that write the records and the bytes of leaves. Assumes nothing.
 use mathlib.Core.Path.{◌≡◌, refl, sym, ap, ◌∙◌}
 use mathlib.Core.Bool.{Bool, true, false, cond}
-use mathlib.Core.List.{List, [], ◌∷◌, append-nil}
+use mathlib.Core.List.{List, [], ◌∷◌, ◌++◌, append-nil, append_assoc}
 use Prim.Native.Nat.{ℕ, zero, suc, ◌+◌, ◌*◌, ◌-◌, ◌≤◌, ◌<◌}
 use native.Mathlib.Omega.{arith}
 use native.Mathlib.Nat.{add-zero}
@@ -9,6 +9,9 @@ use native.Mathlib.Numerals.{add-one}
 use lib.Dec.{ltb}
 use lib.ListN.{length, get_or, take, drop, length-append, length-take}
 use lib.Seq.{sets, drop-cons}
+use borrow.Rule.Slice.PartMut.{put_mid}
+use Rattle.std.proofs.lemmas.List.{drop-drop}
+use Rattle.std.proofs.lemmas.List.Edits.{sets-eq}
 use borrow.Author.Tests.{lt-ltb, le-ltb, ltb-true, ltb-false}
 use Rattle.lexis.specs.Runs.{part}
 use Rattle.lexis.proofs.Stores.{sets_behind}
@@ -29,7 +32,6 @@ use Rattle.table.proofs.RecordLaws.{length-encode}
 use Rattle.compile_flatten.specs.Flatten.{place_for, range_records, string_records}
 use Rattle.compile_emission.specs.Clauses.Answers.{CopyFits, PartFits, PartPut, pooled_place, link_below, spot, Puts, ListWritingRoom, TextFits, TextPut, TextsRoom, TextsPut}
 use Rattle.compile_emission.specs.declared.spots.Spot.{Spot}
-use Rattle.compile_emission.specs.declared.spots.TreeRead.TheVariants.{Read}
 use Rattle.compile_flatten.proofs.FlattenLaws.{strings-length}
 
 -- a number where one place lies before another, and 0 elsewhere
@@ -38,14 +40,6 @@ pick_there a b v r h e = rw (lt-ltb a b h) e
 
 pub pick_none : (a b v : ℕ) → b ≤ a → 0 ≡ cond (ltb a b) v 0
 pick_none a b v h = rw (le-ltb a b h)
-
--- an end of a closed pair, by its sort
-pub end_integer : (sort : declared.RangeSort) (x r : ℕ) → sort ≡ range_sort.Integers → r ≡ twos_complement x
-    → r ≡ (range_row (range_sort_of sort)).end x
-end_integer sort x r h e = rw h e
-
-pub end_date : (sort : declared.RangeSort) (x : ℕ) → sort ≡ range_sort.Dates → x ≡ (range_row (range_sort_of sort)).end x
-end_date sort x h = rw h
 
 -- ---- a part of the text in the pool
 
@@ -58,35 +52,23 @@ part_cons s i end h k =
 part_none : (s : List ℕ) (i end : ℕ) → end ≤ i → part s i end ≡ []
 part_none s i end h = let e : end - i ≡ 0 = omega arith in rw e
 
--- what is left behind a place of the first elements
-drop-take : (i j : ℕ) (l : List ℕ) → drop i (take j l) ≡ take (j - i) (drop i l)
-drop-take zero j l = let e : j - 0 ≡ j = omega arith in rw e
-drop-take (suc i) zero l = let e : 0 - suc i ≡ 0 = omega arith in rw e
-drop-take (suc i) (suc j) [] = take_none (suc j - suc i)
-  where
-    take_none : (n : ℕ) → [] ≡ take {A = ℕ} n []
-    take_none zero = refl
-    take_none (suc n) = refl
-drop-take (suc i) (suc j) (x ∷ xs) = let e : suc j - suc i ≡ j - i = omega arith in rw e (drop-take i j xs)
-
--- a part of some bytes, copied from the bytes up to its end
-module _ {s : List ℕ} {start end at : ℕ} {before : List ℕ} (h : CopyFits s start end before at) where
-  up_to : take (end - 0) (drop 0 s) ≡ take end s
-  up_to = let e : end - 0 ≡ end = omega arith in rw e
-
-  length_up_to : length (take (end - 0) (drop 0 s)) ≡ end
-  length_up_to = let l = h.lies in rw (up_to, length-take) (omega arith)
-
-  pub part_asks : (start ≤ length (take (end - 0) (drop 0 s)))
-      × (at + (length (take (end - 0) (drop 0 s)) - start) ≤ length before)
-  part_asks = let l = h.lies in let r = h.room in rw length_up_to (omega arith, omega arith)
-
-  pub part-put : (after : List ℕ) → after ≡ sets before at (drop start (take (end - 0) (drop 0 s)))
-      → PartPut s start end at before after (at + (end - start))
-  part-put after e =
-      let l = h.lies in
-      let n = part_length s start end l.inside in
-      record { behind = omega arith; bytes = e ∙ ap (sets before at) (ap (drop start) up_to ∙ drop-take start end s) }
+-- a part of some bytes, put over as many of others
+pub part_put : {s : List ℕ} {start end at : ℕ} {before after : List ℕ} → CopyFits s start end before at
+    → after ≡ part s start end
+    → PartPut s start end at before (put_mid at (at + (end - start) - at) before after) (at + (end - start))
+part_put {s} {start} {end} {at} {before} {after} h e =
+    let l = h.lies in
+    let r = h.room in
+    let n = part_length s start end l.inside in
+    let k = at + (end - start) - at in
+    let m : k ≡ length (part s start end) = omega arith in
+    record {
+      behind = omega arith;
+      bytes =
+          let v = part s start end in
+          let g : put_mid at k before after ≡ take at before ++ (v ++ drop (at + length v) before) = λ i. take at before ++ (e i ++ (drop-drop k at before ∙ ap (λ x. drop (at + x) before) m) i) in
+          g ∙ sym (append_assoc (take at before) v (drop (at + length v) before)) ∙ sym (sets-eq v before at (omega arith));
+    }
 
 -- a part's place in the pool
 pub place_part : (s : List ℕ) (start end at : ℕ) → Within s start end
@@ -98,15 +80,6 @@ place_part s start end at w = by (ltb start end) refl
     by false e = rw (part_none s start end (ltb-false start end e))
 
 -- ---- records one after the other
-
--- one record
-pub single_put : (little : Bool) (p : Spot) (place kind flag : ℕ) (before after : List ℕ) (e : Entry)
-    → e ≡ plain_entry kind flag → after ≡ sets before (record_size * p.next) (encode little (record_of e))
-    → Puts little p place (make kind flag [] ∷ []) 0 before after (Read (spot place (p.next + 1) p.pool))
-single_put little p place kind flag before after e k w = record {
-  answer = ap (λ x. Read (spot place (p.next + 1) x)) (sym (add-zero p.pool));
-  records = rw append-nil (rw k at w);
-}
 
 -- a record in front of others
 pub front : (little : Bool) (r : Record) (rs : List Record) (n : ℕ) (out : List ℕ) → length r.fields ≡ field_count
@@ -138,32 +111,6 @@ ranges-length : (sort : RangeSort) (l : List Range) → length (range_records so
 ranges-length sort [] = refl
 ranges-length sort (x ∷ xs) = ap suc (ranges-length sort xs)
 
--- the record of an integer or a date
-pub range-row : (sort : RangeSort) (low high next a b k : ℕ) (x : Entry) → k ≡ (range_row sort).kind → x ≡ plain_entry k 0
-    → a ≡ (range_row sort).end low → b ≡ (range_row sort).end high
-    → record_of (record { kind = x.kind; flag = x.flag; a = a; b = b; c = x.c; d = x.d; e = next })
-    ≡ make (range_row sort).kind 0 ((range_row sort).end low ∷ (range_row sort).end high ∷ 0 ∷ 0 ∷ next ∷ [])
-range-row sort low high next a b k x e g p q = λ i. record { kind = (ap (λ (y : Entry). y.kind) g ∙ e) i; flag = (g i).flag; fields = p i ∷ q i ∷ (g i).c ∷ (g i).d ∷ next ∷ [] }
-
--- the record of a string
-pub string-row : (place size next : ℕ) (x : Entry) → x ≡ plain_entry text_kind 0
-    → record_of (record { kind = x.kind; flag = x.flag; a = place; b = size; c = x.c; d = x.d; e = next })
-    ≡ make text_kind 0 (place ∷ size ∷ 0 ∷ 0 ∷ next ∷ [])
-string-row place size next x g = λ i. record { kind = (g i).kind; flag = (g i).flag; fields = place ∷ size ∷ (g i).c ∷ (g i).d ∷ next ∷ [] }
-
-pub range-put : (scratch rs after : List ℕ) (little : Bool) (sort : RangeSort) (i n end next : ℕ) (e : Entry)
-    → next ≡ link_below (n + 1) end
-    → record_of e
-    ≡ make (range_row sort).kind 0
-    ((range_row sort).end (first_of scratch i) ∷ (range_row sort).end (second_of scratch i) ∷ 0 ∷ 0 ∷ next ∷ [])
-    → after ≡ sets rs (record_size * n) (encode little (record_of e))
-    → after ≡ sets rs (record_size * n)
-    (encode little
-    (make (range_row sort).kind 0
-    ((range_row sort).end (first_of scratch i) ∷ (range_row sort).end (second_of scratch i) ∷ 0 ∷ 0 ∷ link_below (n + 1) end
-    ∷ [])))
-range-put scratch rs after little sort i n end next e p q w = w ∙ ap (λ (x : Record). sets rs (record_size * n) (encode little x)) (q ∙ ap (λ (x : ℕ). make (range_row sort).kind 0 ((range_row sort).end (first_of scratch i) ∷ (range_row sort).end (second_of scratch i) ∷ 0 ∷ 0 ∷ x ∷ [])) p)
-
 -- the items before item i are written: with those that are left the records are what they are to be
 abbrev ranges_left : Bool → RangeSort → List ℕ → ℕ → ℕ → ℕ → List ℕ → List ℕ
 ranges_left little sort scratch m i k rs = sets rs (record_size * m) (encodes little (range_records sort (items_from (range_at scratch) m i k)))
@@ -176,9 +123,9 @@ pub record InRanges (little : Bool) (p : Spot) (sort : RangeSort) (scratch : Lis
   pub is : ranges_left little sort scratch (p.next + i) i (count - i) rs
       ≡ ranges_left little sort scratch p.next 0 count before
 
-pub ranges-start : (little : Bool) (p : Spot) (sort : RangeSort) (scratch : List ℕ) (count : ℕ) (before : List ℕ)
+pub ranges_start : (little : Bool) (p : Spot) (sort : RangeSort) (scratch : List ℕ) (count : ℕ) (before : List ℕ)
     → ListWritingRoom p count → InRanges little p sort scratch count (p.next + count) before 0 before
-ranges-start little p sort scratch count before h =
+ranges_start little p sort scratch count before h =
     let e : p.next + 0 ≡ p.next = omega arith in
     let f : count - 0 ≡ count = omega arith in
     record { room = h; ends = refl; most = omega arith; is = rw (e, f) }
@@ -207,25 +154,25 @@ module _ {little : Bool} {p : Spot} {sort : RangeSort} {scratch : List ℕ} {cou
 
   pub ranges_end : (place : ℕ) → count ≤ i
       → Puts little p place (range_records sort (items_from (range_at scratch) p.next 0 count)) 0 before rs
-      (Read (spot place end p.pool))
+      (spot place end p.pool)
   unfolding items_from
   ranges_end place h =
       let a : count - i ≡ 0 = omega arith in
       let l = ranges-length sort (items_from (range_at scratch) p.next 0 count) ∙ items-length (range_at scratch) p.next 0 count in
       let n : end ≡ p.next + length (range_records sort (items_from (range_at scratch) p.next 0 count)) = let j = inv.ends in omega arith in
-      record { answer = λ t. Read (spot place (n t) (sym (add-zero p.pool) t)); records = rw a at inv.is }
+      record { answer = λ t. spot place (n t) (sym (add-zero p.pool) t); records = rw a at inv.is }
 
 -- ---- strings
 
 -- a string's record and bytes
-pub string-put : (s scratch : List ℕ) (i n end at start stop : ℕ) (little : Bool) (rs bs rs' bs' : List ℕ)
+pub string_put : (s scratch : List ℕ) (i n end at start stop : ℕ) (little : Bool) (rs bs rs' bs' : List ℕ)
     (place size next r : ℕ) (e : Entry) → TextFits s scratch i n at → start ≡ first_of scratch i
     → stop ≡ second_of scratch i
     → place ≡ pooled_place start stop at → size ≡ stop - start → next ≡ link_below (n + 1) end
     → record_of e ≡ make text_kind 0 (place ∷ size ∷ 0 ∷ 0 ∷ next ∷ [])
     → rs' ≡ sets rs (record_size * n) (encode little (record_of e)) → PartPut s start stop at bs bs' r
     → TextPut (span_at s scratch i) little n end at rs bs rs' bs' r
-string-put s scratch i n end at start stop little rs bs rs' bs' place size next r e fits a b pl si ne re w put =
+string_put s scratch i n end at start stop little rs bs rs' bs' place size next r e fits a b pl si ne re w put =
     let f : PartFits s start stop at = rw (a, b) fits.part in
     let h : part s start stop ≡ span_at s scratch i = λ j. part s (a j) (b j) in
     let x : place ≡ place_for (part s start stop) at = pl ∙ place_part s start stop at f.lies in
@@ -302,7 +249,7 @@ module _ {s : List ℕ} {little : Bool} {p : Spot} {scratch : List ℕ} {count e
       }
 
   pub texts_end : (place : ℕ) → count ≤ i
-      → TextsPut s little p scratch count place rs₀ bs₀ rs bs (Read (spot place end to))
+      → TextsPut s little p scratch count place rs₀ bs₀ rs bs (spot place end to)
   unfolding items_from
   texts_end place h =
       let items = items_from (text_at s scratch) p.next 0 count in
@@ -311,6 +258,6 @@ module _ {s : List ℕ} {little : Bool} {p : Spot} {scratch : List ℕ} {count e
       let n : end ≡ p.next + length (string_records p.pool items) = let j = inv.ends in omega arith in
       let m : to ≡ p.pool + length (text_pool items) = let z = rw a at inv.sum in omega arith in
       record {
-        puts = record { answer = λ t. Read (spot place (n t) (m t)); records = rw a at inv.records };
+        puts = record { answer = λ t. spot place (n t) (m t); records = rw a at inv.records };
         bytes = rw a at inv.bytes;
       }

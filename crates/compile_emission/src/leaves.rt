@@ -9,10 +9,11 @@ ghost use Rattle.compile_flatten.specs.Flatten.{value_table};
 ghost use Rattle.compile_emission.specs.Clauses.Answers.{Room, wrote, written, leaf_value};
 
 use crate::lists::{put_ranges, put_single, put_strings};
-use crate::spots::{Spot, TreeRead};
-use cadl_items::leaves::{LeafRead, SingleSort, read_leaf};
+use crate::spots::Spot;
+use cadl_items::leaves::{Leaf, SingleSort, read_leaf};
 use cadl_items::spans::SCRATCH_ROOM;
 use lexis::Token;
+use refusals::Refusal;
 use table::layout::{
     BOOLEAN_KIND, DATE_PATTERN_KIND, DURATION_PATTERN_KIND, POOL_ROOM, RECORDS_ROOM,
     TIME_PATTERN_KIND,
@@ -31,6 +32,7 @@ fn single_kind(sort: SingleSort) -> u8
 }
 
 // A leaf from a spot on, whose first token is t.
+#[tactic(auto, using(crate::proofs::LeafWriting::leaf_faulty, crate::proofs::LeafWriting::strings_room))]
 pub fn write_leaf(
     s: &[u8],
     little: bool,
@@ -38,7 +40,7 @@ pub fn write_leaf(
     t: Token,
     records: &mut [u8; RECORDS_ROOM],
     bytes: &mut [u8; POOL_ROOM],
-) -> TreeRead
+) -> Result<Spot, Refusal>
     requires room { Room s.now p }
     requires token_is { TokenIs s.now p.place (content_token_at s.now p.place) t }
     ensures { wrote result records.new bytes.new
@@ -46,16 +48,17 @@ pub fn write_leaf(
         (leaf_value s.now p) }
 {
     let mut scratch: [u32; SCRATCH_ROOM] = [0; SCRATCH_ROOM];
-    match read_leaf(s, p.next, p.place, t, &mut scratch) {
-        LeafRead::Faulty(fault) => TreeRead::Refused(fault),
-        LeafRead::Single { sort, flag, next } => {
+    let leaf = read_leaf(s, p.next, p.place, t, &mut scratch)?;
+    let behind = match leaf {
+        Leaf::Single { sort, flag, next } => {
             put_single(records, little, p, single_kind(sort), flag, next)
         }
-        LeafRead::Ranges { sort, count, next } => {
+        Leaf::Ranges { sort, count, next } => {
             put_ranges(records, little, p, sort, &scratch, count, next)
         }
-        LeafRead::Strings { count, next } => {
+        Leaf::Strings { count, next } => {
             put_strings(s, records, bytes, little, p, &scratch, count, next)
         }
-    }
+    };
+    Ok(behind)
 }

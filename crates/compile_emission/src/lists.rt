@@ -12,7 +12,7 @@ ghost use Rattle.compile_emission.specs.Clauses.Answers.{link_below, Puts, ListW
 
 use crate::pool::{place_of, put_part};
 use crate::rows::{link_below, put_row, range_entry};
-use crate::spots::{Spot, TreeRead};
+use crate::spots::Spot;
 use cadl_items::leaves::RangeSort;
 use cadl_items::spans::{SCRATCH_ROOM, narrow, place};
 use table::layout::{POOL_ROOM, RECORDS_ROOM, STRING_KIND};
@@ -22,11 +22,12 @@ use table::records::{Entry, plain};
 fn string_entry(place: u32, size: u32, next: u32) -> Entry
     ensures { record_of result ≡ make text_kind 0 (place ∷ size ∷ 0 ∷ 0 ∷ next ∷ []) }
 {
-    let mut entry = plain(STRING_KIND, 0);
-    entry.a = place;
-    entry.b = size;
-    entry.e = next;
-    entry
+    Entry {
+        a: place,
+        b: size,
+        e: next,
+        ..plain(STRING_KIND, 0)
+    }
 }
 
 // A leaf of one record.
@@ -37,16 +38,16 @@ pub fn put_single(
     kind: u8,
     flag: u8,
     place: usize,
-) -> TreeRead
+) -> Spot
     requires { p.next < record_limit }
     ensures { Puts little p place (make kind flag [] ∷ []) 0 records.old records.new result }
 {
     put_row(records, little, p.next, plain(kind, flag));
-    TreeRead::Read(Spot {
+    Spot {
         place,
         next: p.next + 1,
-        pool: p.pool,
-    })
+        ..p
+    }
 }
 
 // The record of item i of the scratch, a closed pair, with a number; the last item's is below `end`.
@@ -82,23 +83,21 @@ pub fn put_ranges(
     scratch: &[u32; SCRATCH_ROOM],
     count: usize,
     place: usize,
-) -> TreeRead
+) -> Spot
     requires { ListWritingRoom p count }
     ensures { Puts little p place
         (range_records (range_sort_of sort) (items_from (range_at scratch.now) p.next 0 count)) 0
         records.old records.new result }
 {
     let end = p.next + count;
-    let mut i: usize = 0;
-    while i < count {
+    for i in 0..count {
         put_range(records, little, sort, scratch, i, p.next + i, end);
-        i += 1;
     }
-    TreeRead::Read(Spot {
+    Spot {
         place,
         next: end,
-        pool: p.pool,
-    })
+        ..p
+    }
 }
 
 // The record with a number and the bytes of a string, item i of the scratch; the place behind them in the pool.
@@ -136,21 +135,19 @@ pub fn put_strings(
     scratch: &[u32; SCRATCH_ROOM],
     count: usize,
     place: usize,
-) -> TreeRead
+) -> Spot
     requires { TextsRoom s.now p scratch.now count }
     ensures { TextsPut s.now little p scratch.now count place records.old
         bytes.old records.new bytes.new result }
 {
     let end = p.next + count;
     let mut to = p.pool;
-    let mut i: usize = 0;
-    while i < count {
+    for i in 0..count {
         to = put_string(s, scratch, i, little, p.next + i, end, records, bytes, to);
-        i += 1;
     }
-    TreeRead::Read(Spot {
+    Spot {
         place,
         next: end,
         pool: to,
-    })
+    }
 }

@@ -3,16 +3,17 @@ ghost use Rattle.std.specs.Prelude.{◌≡◌, ◌^◌, ◌<◌};
 ghost use Rattle.compile_emission.specs.Clauses.Answers.{CopyFits, PartFits, PartPut, pooled_place};
 
 use cadl_items::spans::narrow;
-use table::copying::copy_bytes;
 use table::layout::POOL_ROOM;
 
 // Copies a part of some bytes to a place of others; the place behind it there.
+#[tactic(auto, using(crate::proofs::WritingSteps::part_put))]
 pub fn copy(from: &[u8], start: usize, end: usize, out: &mut [u8], at: usize) -> usize
     requires { CopyFits from.now start end out.old at }
     ensures { PartPut from.now start end at out.old out.new result }
 {
-    copy_bytes(&from[0..end], start, out, at);
-    at + (end - start)
+    let behind = at + (end - start);
+    out[at..behind].copy_from_slice(&from[start..end]);
+    behind
 }
 
 // Copies a part of the text into the pool; the place behind it.
@@ -28,8 +29,5 @@ pub fn place_of(start: usize, end: usize, at: usize) -> u32
     requires { at < 2 ^ 32 }
     ensures { result ≡ pooled_place start end at }
 {
-    if start < end {
-        return narrow(at);
-    }
-    0
+    if start < end { narrow(at) } else { 0 }
 }

@@ -20,10 +20,7 @@ pub fn link_below(n: usize, end: usize) -> u32
     requires { n ≤ record_limit }
     ensures { result ≡ link_below n end }
 {
-    if n < end {
-        return narrow(n);
-    }
-    0
+    if n < end { narrow(n) } else { 0 }
 }
 
 // Puts the record with a number.
@@ -61,9 +58,10 @@ pub fn range_entry(sort: RangeSort, low: u32, high: u32, next: u32) -> Entry
         ≡ make (range_row (range_sort_of sort)).kind 0
         ((range_row (range_sort_of sort)).end low ∷ (range_row (range_sort_of sort)).end high ∷ 0 ∷ 0 ∷ next ∷ []) }
 {
-    let mut entry = plain(range_kind(sort), 0);
-    entry.a = end_of(sort, low);
-    entry.b = end_of(sort, high);
-    entry.e = next;
-    entry
+    Entry {
+        a: end_of(sort, low),
+        b: end_of(sort, high),
+        e: next,
+        ..plain(range_kind(sort), 0)
+    }
 }

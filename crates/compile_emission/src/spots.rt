@@ -1,5 +1,4 @@
 // How far reading and writing have come.
-use refusals::Refusal;
 use refusals::limits::RECORD_LIMIT;
 
 // Numbers of the stack of names of open objects: two for each name, of which there are fewer than records.
@@ -13,17 +12,9 @@ pub struct Spot {
     pub pool: usize,
 }
 
-// The spot behind a part of the text whose records and bytes are written, or its refusal.
+// The spot behind an attribute: of the last one it is behind the object's `}`, else the next attribute begins there.
 #[derive(Clone, Copy)]
-pub enum TreeRead {
-    Refused(Refusal),
-    Read(Spot),
-}
-
-// The spot behind an attribute, whether more follow or it is the last, where the spot is behind the object's `}`; or its refusal.
-#[derive(Clone, Copy)]
-pub enum AttributeRead {
-    Refused(Refusal),
+pub enum AttributeEnd {
     Last(Spot),
     More(Spot),
 }

@@ -20,17 +20,15 @@ use Rattle.cadl_objects.specs.Clauses.Told.{attribute_from}
 use Rattle.meaning.specs.Counting.{attribute_pool, value_pool}
 use Rattle.table.specs.Records.{record_size, encode, encodes, make}
 use Rattle.compile_flatten.specs.Flatten.{value_link, attributes_table, value_table}
-use Rattle.compile_emission.specs.Clauses.Answers.{Wrote, wrote, written, Room, attribute_row, attribute_wrote, attribute_behind, next_link}
+use Rattle.compile_emission.specs.Clauses.Answers.{Wrote, wrote, written, Room, attribute_row, attribute_behind, next_link}
 use Rattle.compile_emission.specs.declared.spots.Spot.{Spot}
-use Rattle.compile_emission.specs.declared.spots.TreeRead.{TreeRead}
-use Rattle.compile_emission.specs.declared.spots.AttributeRead.{AttributeRead}
-use Rattle.compile_emission.specs.declared.spots.AttributeRead.TheVariants as attribute_read
-use Rattle.compile.specs.declared.CompileResult.{CompileResult}
-use Rattle.compile.specs.declared.CompileResult.TheVariants as result
+use Rattle.compile_emission.specs.declared.spots.AttributeEnd.{AttributeEnd}
+use Rattle.std.specs.declared.result.Result.{Result}
+use Rattle.std.specs.declared.result.Result.TheVariants.{Ok, Err}
 
 -- what reading a tree answers and writes, and the names of the objects around it, so many, which stay as they were
-pub record TreeIs (top : ℕ) (names names' : List ℕ) (result : Wrote TreeRead) (rs bs : List ℕ)
-    (r : TreeRead) : Type 0 where
+pub record TreeIs (top : ℕ) (names names' : List ℕ) (result : Wrote Spot) (rs bs : List ℕ)
+    (r : Result Spot Refusal) : Type 0 where
   pub is : wrote r rs bs ≡ result
   pub kept : Kept top names names'
 
@@ -40,21 +38,21 @@ pub record Stacked (s : List ℕ) (p : Spot) (top : ℕ) : Type 0 where
   pub few : top ≤ p.next
 
 -- the `}` of an object behind its `*`: nothing more is written
-pub record EndIs (s : List ℕ) (p : Spot) (from : ℕ) (r : TreeRead) : Type 0 where
+pub record EndIs (s : List ℕ) (p : Spot) (from : ℕ) (r : Result Spot Refusal) : Type 0 where
   pub is : (little : Bool) (rs bs : List ℕ)
       → wrote r rs bs
       ≡ written attributes_table attribute_pool little p rs bs
       (read_then (expect s close_brace from) (λ u at. got no_more at))
 
 -- what reading an attribute answers and writes
-unfoldable pub attribute_written : List ℕ → Bool → Spot → List ℕ → List ℕ → Reading Attribute → Wrote AttributeRead
-attribute_written s little p rs bs (refused x) = record { answer = attribute_read.Refused x; records = []; bytes = [] }
+unfoldable pub attribute_written : List ℕ → Bool → Spot → List ℕ → List ℕ → Reading Attribute → Wrote AttributeEnd
+attribute_written s little p rs bs (refused x) = record { answer = Err x; records = []; bytes = [] }
 attribute_written s little p rs bs (got a at) =
     let w = a.name in
     let table = value_table a.value (p.pool + length w) in
     let next = p.next + 1 + length table in
     record {
-      answer = attribute_behind s at next (p.pool + length w + length (value_pool a.value));
+      answer = Ok (attribute_behind s at next (p.pool + length w + length (value_pool a.value)));
       records =
           sets rs (record_size * p.next)
           (encodes little
@@ -68,8 +66,8 @@ pub record Pushed (s names : List ℕ) (top : ℕ) (w : List ℕ) : Type 0 where
   pub lies : Within s (first_of names top) (second_of names top)
 
 pub record AttributeIs (s : List ℕ) (little : Bool) (levels : ℕ) (p : Spot) (first top : ℕ)
-    (names rs bs names' rs' bs' : List ℕ) (r : AttributeRead) : Type 0 where
-  pub is : attribute_wrote r rs' bs'
+    (names rs bs names' rs' bs' : List ℕ) (r : Result AttributeEnd Refusal) : Type 0 where
+  pub is : wrote r rs' bs'
       ≡ attribute_written s little p rs bs (attribute_from s levels (earlier s names first top) p.next p.place)
   pub kept : Kept top names names'
   pub pushed : (a : Attribute) (at : ℕ)
@@ -82,9 +80,9 @@ pub record AttributeRoom (s : List ℕ) (p : Spot) (first top : ℕ) (names : Li
   pub lies : (i : ℕ) → first ≤ i → i < top → Within s (first_of names i) (second_of names i)
 
 -- what compiling answers
-abbrev pub answer_of : CompileResult → Outcome Refusal ℕ
-answer_of (result.Done length) = gave length
-answer_of (result.Refused x) = Outcomes.refused x
+abbrev pub answer_of : Result ℕ Refusal → Outcome Refusal ℕ
+answer_of (Ok length) = gave length
+answer_of (Err x) = Outcomes.refused x
 
 -- a table's records and bytes, which are in the scratch, behind its header, for an output of so many bytes; `end` is the text's end
 unfoldable pub table_written : Bool → (end : ℕ) → Spot → (rs bs : List ℕ) → (room : ℕ) → Outcome Refusal (Written ℕ)

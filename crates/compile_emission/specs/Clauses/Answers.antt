@@ -8,20 +8,23 @@ use Rattle.lexis.specs.declared.Token.{Token}
 use Rattle.refusals.specs.Expecting.{expect}
 use Rattle.refusals.specs.Limits.{text_limit, record_limit, pool_limit, item_limit}
 use Rattle.refusals.specs.Reading.{Reading, refused, got, read_then}
+use Rattle.refusals.specs.declared.Refusal.{Refusal}
 use Rattle.meaning.specs.Constraints.{Value, leaf}
 use Rattle.cadl_items.specs.Clauses.Told
 use Rattle.cadl_items.specs.Clauses.Spans.{with_item, first_of, second_of, Within, SpansIn}
 use Rattle.cadl_items.specs.Clauses.Answers.{items_from, text_at}
+use Rattle.cadl_objects.specs.declared.heads.ObjectHead.{ObjectHead}
+use Rattle.cadl_objects.specs.declared.heads.AttributeHead.{AttributeHead}
 use Rattle.meaning.specs.Counting.{text_pool}
 use Rattle.table.specs.Rows.{object_kind, attribute_kind}
 use Rattle.meaning.specs.Sorts.{text_kind}
 use Rattle.table.specs.Records.{Record, record_size, encode, encodes, make}
 use Rattle.compile_flatten.specs.Flatten.{place_for, string_records}
 use Rattle.compile_emission.specs.declared.spots.Spot.{Spot}
-use Rattle.compile_emission.specs.declared.spots.TreeRead.{TreeRead}
-use Rattle.compile_emission.specs.declared.spots.TreeRead.TheVariants.{Refused, Read}
-use Rattle.compile_emission.specs.declared.spots.AttributeRead.{AttributeRead}
-use Rattle.compile_emission.specs.declared.spots.AttributeRead.TheVariants as attribute_read
+use Rattle.compile_emission.specs.declared.spots.AttributeEnd.{AttributeEnd}
+use Rattle.compile_emission.specs.declared.spots.AttributeEnd.TheVariants.{Last, More}
+use Rattle.std.specs.declared.result.Result.{Result}
+use Rattle.std.specs.declared.result.Result.TheVariants.{Ok, Err}
 
 -- a part of the text that the pool has room for, from a place on
 pub record PartFits (s : List ℕ) (start end at : ℕ) : Type 0 where
@@ -44,23 +47,23 @@ pooled_place start end at = cond (ltb start end) at 0
 
 -- what reading a part of the text answers, with the records and the pool; after a refusal nothing is said of them
 pub record Wrote (A : Type 0) : Type 0 where
-  pub answer : A
+  pub answer : Result A Refusal
   pub records : List ℕ
   pub bytes : List ℕ
 
-abbrev pub wrote : TreeRead → List ℕ → List ℕ → Wrote TreeRead
-wrote (Refused x) rs bs = record { answer = Refused x; records = []; bytes = [] }
-wrote (Read q) rs bs = record { answer = Read q; records = rs; bytes = bs }
+abbrev pub wrote : {A : Type 0} → Result A Refusal → List ℕ → List ℕ → Wrote A
+wrote (Err x) rs bs = record { answer = Err x; records = []; bytes = [] }
+wrote (Ok a) rs bs = record { answer = Ok a; records = rs; bytes = bs }
 
 abbrev pub spot : ℕ → ℕ → ℕ → Spot
 spot place next pool = record { place = place; next = next; pool = pool }
 
 -- a tree's records and bytes, written from a spot on
 unfoldable pub written : {A : Type 0} → (A → ℕ → List Record) → (A → List ℕ) → Bool → Spot → List ℕ → List ℕ → Reading A
-    → Wrote TreeRead
-written table pool little p rs bs (refused x) = record { answer = Refused x; records = []; bytes = [] }
+    → Wrote Spot
+written table pool little p rs bs (refused x) = record { answer = Err x; records = []; bytes = [] }
 written table pool little p rs bs (got a q) = record {
-  answer = Read (spot q (p.next + length (table a p.pool)) (p.pool + length (pool a)));
+  answer = Ok (spot q (p.next + length (table a p.pool)) (p.pool + length (pool a)));
   records = sets rs (record_size * p.next) (encodes little (table a p.pool));
   bytes = sets bs p.pool (pool a);
 }
@@ -78,8 +81,8 @@ link_below n end = cond (ltb n end) n 0
 
 -- records put from a spot on, with so many bytes in the pool: the answer is the spot behind them
 pub record Puts (little : Bool) (p : Spot) (place : ℕ) (table : List Record) (size : ℕ) (before after : List ℕ)
-    (r : TreeRead) : Type 0 where
-  pub answer : r ≡ Read (spot place (p.next + length table) (p.pool + size))
+    (r : Spot) : Type 0 where
+  pub answer : r ≡ spot place (p.next + length table) (p.pool + size)
   pub records : after ≡ sets before (record_size * p.next) (encodes little table)
 
 -- so many items, for whose records there is room
@@ -111,7 +114,7 @@ pub record TextsRoom (s : List ℕ) (p : Spot) (scratch : List ℕ) (count : ℕ
 
 -- their records and bytes
 pub record TextsPut (s : List ℕ) (little : Bool) (p : Spot) (scratch : List ℕ) (count place : ℕ)
-    (rs bs rs' bs' : List ℕ) (r : TreeRead) : Type 0 where
+    (rs bs rs' bs' : List ℕ) (r : Spot) : Type 0 where
   pub puts : Puts little p place (string_records p.pool (items_from (text_at s scratch) p.next 0 count))
       (length (text_pool (items_from (text_at s scratch) p.next 0 count))) rs rs' r
   pub bytes : bs' ≡ sets bs p.pool (text_pool (items_from (text_at s scratch) p.next 0 count))
@@ -128,6 +131,14 @@ first_link any n = cond any 0 (n + 1)
 abbrev pub object_row : List ℕ → List ℕ → ℕ → ℕ → Record
 object_row t c pool first =
     make object_kind 0 (place_for t pool ∷ length t ∷ place_for c (pool + length t) ∷ length c ∷ first ∷ [])
+
+-- the same by its head, whose names stand in the text
+abbrev pub typed_row : ObjectHead → ℕ → ℕ → Record
+typed_row h pool first =
+    let size = h.type_end - h.type_start in
+    make object_kind 0
+    (pooled_place h.type_start h.type_end pool ∷ size ∷ pooled_place h.code_start h.code_end (pool + size)
+    ∷ (h.code_end - h.code_start) ∷ first ∷ [])
 
 -- its record and its names are written
 pub record ObjectPut (t c : List ℕ) (little : Bool) (p : Spot) (place : ℕ) (any : Bool) (rs bs rs' bs' : List ℕ)
@@ -153,18 +164,17 @@ pub record NameKept (w : List ℕ) (p : Spot) (place start end top : ℕ) (bs na
 abbrev pub attribute_row : ℕ → List ℕ → ℕ → ℕ → ℕ → Record
 attribute_row flag w pool value next = make attribute_kind flag (place_for w pool ∷ length w ∷ value ∷ next ∷ [])
 
--- what reading an attribute answers, with the records and the pool; after a refusal nothing is said of them
-abbrev pub attribute_wrote : AttributeRead → List ℕ → List ℕ → Wrote AttributeRead
-attribute_wrote (attribute_read.Refused x) rs bs = record { answer = attribute_read.Refused x; records = []; bytes = [] }
-attribute_wrote (attribute_read.Last q) rs bs = record { answer = attribute_read.Last q; records = rs; bytes = bs }
-attribute_wrote (attribute_read.More q) rs bs = record { answer = attribute_read.More q; records = rs; bytes = bs }
+-- the same by its head, whose name stands in the text
+abbrev pub named_row : AttributeHead → ℕ → ℕ → ℕ → Record
+named_row h pool value next =
+    make attribute_kind h.existence
+    (pooled_place h.name_start h.name_end pool ∷ (h.name_end - h.name_start) ∷ value ∷ next ∷ [])
 
 -- the spot behind an attribute, and behind the object's `}` where that follows
-abbrev pub attribute_behind : List ℕ → ℕ → ℕ → ℕ → AttributeRead
+abbrev pub attribute_behind : List ℕ → ℕ → ℕ → ℕ → AttributeEnd
 attribute_behind s at next pool =
     let t = token_at s at in
-    cond (eqb t.sort close_brace) (attribute_read.Last (spot t.end next pool))
-    (attribute_read.More (spot at next pool))
+    cond (eqb t.sort close_brace) (Last (spot t.end next pool)) (More (spot at next pool))
 
 -- the link to the next attribute
 abbrev pub next_link : List ℕ → ℕ → ℕ → ℕ
@@ -172,11 +182,10 @@ next_link s at next = cond (eqb (token_at s at).sort close_brace) 0 next
 
 -- what closing an attribute behind its value answers and writes
 unfoldable pub closed_attribute : List ℕ → Bool → Spot → ℕ → List ℕ → Spot → List ℕ → List ℕ → Reading Token
-    → Wrote AttributeRead
-closed_attribute s little p flag w q rs bs (refused x) =
-    record { answer = attribute_read.Refused x; records = []; bytes = [] }
+    → Wrote AttributeEnd
+closed_attribute s little p flag w q rs bs (refused x) = record { answer = Err x; records = []; bytes = [] }
 closed_attribute s little p flag w q rs bs (got t at) = record {
-  answer = attribute_behind s at q.next q.pool;
+  answer = Ok (attribute_behind s at q.next q.pool);
   records =
       sets rs (record_size * p.next)
       (encode little (attribute_row flag w p.pool (link_below (p.next + 1) q.next) (next_link s at q.next)));
@@ -184,9 +193,9 @@ closed_attribute s little p flag w q rs bs (got t at) = record {
 }
 
 pub record CloseIs (s : List ℕ) (little : Bool) (p : Spot) (flag : ℕ) (w : List ℕ) (q : Spot) (rs rs' : List ℕ)
-    (r : AttributeRead) : Type 0 where
+    (r : Result AttributeEnd Refusal) : Type 0 where
   pub is : (bs : List ℕ)
-      → attribute_wrote r rs' bs ≡ closed_attribute s little p flag w q rs bs (expect s close_brace q.place)
+      → wrote r rs' bs ≡ closed_attribute s little p flag w q rs bs (expect s close_brace q.place)
 
 -- where an attribute is closed: behind its value, whose bytes stand in the pool behind those of its name
 pub record CloseRoom (s : List ℕ) (p : Spot) (start end : ℕ) (q : Spot) : Type 0 where

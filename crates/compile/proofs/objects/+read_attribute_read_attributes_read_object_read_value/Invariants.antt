@@ -16,9 +16,9 @@ decreases-read_object l = 4 * l.levels
 abbrev pub decreases-read_value : goal.decreases-read_value
 decreases-read_value l = 4 * l.levels + 1
 
-abbrev pub invariant-read_attributes-loop-fault : goal.invariant-read_attributes-loop-fault
-invariant-read_attributes-loop-fault l =
+abbrev pub invariant-read_attributes-loop-behind : goal.invariant-read_attributes-loop-behind
+invariant-read_attributes-loop-behind l =
     InAttributes l.s l.little l.levels l.initial.q l.first l.initial.records l.initial.bytes l.initial.names l.q l.top l.records l.bytes l.names
 
-abbrev pub decreases-read_attributes-loop-fault : goal.decreases-read_attributes-loop-fault
-decreases-read_attributes-loop-fault l = length l.s - l.q.place
+abbrev pub decreases-read_attributes-loop-behind : goal.decreases-read_attributes-loop-behind
+decreases-read_attributes-loop-behind l = length l.s - l.q.place

@@ -1,9 +1,10 @@
 -- `compile::output::write_table` meets its contract. Assumes nothing.
+use borrow.Author.Rules.{rules}
 use Rattle.compile.proofs.TableSteps.{output_short, output_written}
 use Rattle.compile.proofs.output.write_table.Goals as goal
 
 pub returns-then-out-length : goal.returns-then-out-length
-returns-then-out-length c = search output_short
+returns-then-out-length c = search (output_short, rules)
 
 pub returns : goal.returns
 returns c =

@@ -1,4 +1,4 @@
--- `compile_emission::lists::put_strings` meets its contract. The records and the bytes of the strings before item `i` are written: with those that are left both are what they are to be. Assumes nothing.
+-- `compile_emission::lists::put_strings` meets its contract. Assumes nothing.
 use Rattle.compile_emission.proofs.WritingSteps.{texts_start, texts_fit, texts_go_on, texts_end}
 use Rattle.compile_emission.proofs.lists.put_strings.Goals as goal
 
