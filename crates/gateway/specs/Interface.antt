@@ -8,17 +8,16 @@ use Rattle.refusals.specs.Outcomes.{Outcome, refused, gave, Answered}
 use Rattle.refusals.specs.declared.Refusal.{Refusal}
 use Rattle.meaning.specs.Verdicts.{Verdict, valid, fails}
 use Rattle.table.specs.Names.{Slice}
-use Rattle.table.specs.declared.check.CheckAnswer.{CheckAnswer}
-use Rattle.table.specs.declared.check.CheckAnswer.TheVariants as check_answer
-use Rattle.table.specs.declared.names.NameResult.{NameResult}
-use Rattle.table.specs.declared.names.NameResult.TheVariants as name_result
+use Rattle.table.specs.declared.names.NamePart.{NamePart}
 use Rattle.table_merge.specs.Merge.{MergeReport, MergeRefusal}
-use Rattle.table_merge.specs.declared.MergeResult.{MergeResult}
-use Rattle.table_merge.specs.declared.MergeResult.TheVariants as merge_result
-use Rattle.compile.specs.declared.CompileResult.{CompileResult}
-use Rattle.compile.specs.declared.CompileResult.TheVariants as compile_result
-use Rattle.judge.specs.declared.JudgeResult.{JudgeResult}
-use Rattle.judge.specs.declared.JudgeResult.TheVariants as judge_result
+use Rattle.table_merge.specs.declared.Merged.{Merged}
+use Rattle.table_merge.specs.declared.MergeRefusal.{MergeRefusal as RefusedMerge}
+use Rattle.table_merge.specs.Clauses.Answers.{table_number}
+use Rattle.judge_attributes.specs.Clauses.Answers.{reason_number}
+use Rattle.judge.specs.declared.Denial.{Denial}
+use Rattle.judge.specs.declared.Denial.TheVariants as denial
+use Rattle.std.specs.declared.result.Result.{Result}
+use Rattle.std.specs.declared.result.Result.TheVariants.{Ok, Err}
 
 -- a number and a place
 pub record Placed : Type 0 where
@@ -90,23 +89,23 @@ name_told (refused r) = name_said (refusal_told r) 0
 name_told (gave p) = name_said (placed 0 p.start) p.length
 
 -- the number and the values of each case of the jobs' answers
-abbrev pub compile_numbers : CompileResult → Placed
-compile_numbers (compile_result.Done length) = placed 0 length
-compile_numbers (compile_result.Refused r) = refusal_told r
+abbrev pub compile_numbers : Result ℕ Refusal → Placed
+compile_numbers (Ok length) = placed 0 length
+compile_numbers (Err r) = refusal_told r
 
-abbrev pub check_numbers : CheckAnswer → Placed
-check_numbers check_answer.Passed = placed 0 0
-check_numbers (check_answer.Refused r) = refusal_told r
+abbrev pub check_numbers : Result Unit Refusal → Placed
+check_numbers (Ok _) = placed 0 0
+check_numbers (Err r) = refusal_told r
 
-abbrev pub merge_numbers : MergeResult → MergeSaid
-merge_numbers (merge_result.Done length records pool) = merge_said (placed 0 length) records.0 pool.0 0
-merge_numbers (merge_result.Refused table r) = merge_said (refusal_told r) 0 0 table
+abbrev pub merge_numbers : Result Merged RefusedMerge → MergeSaid
+merge_numbers (Ok m) = merge_said (placed 0 m.length) m.records.0 m.pool.0 0
+merge_numbers (Err r) = merge_said (refusal_told r.refusal) 0 0 (table_number r.table)
 
-abbrev pub judge_numbers : JudgeResult → JudgeTold
-judge_numbers judge_result.Valid = judge_said (placed 0 0) 0
-judge_numbers (judge_result.Refused r) = judge_said (refusal_told r) 0
-judge_numbers (judge_result.Failed reason «record» place) = judge_said (placed reason place) «record».0
+abbrev pub judge_numbers : Result Unit Denial → JudgeTold
+judge_numbers (Ok _) = judge_said (placed 0 0) 0
+judge_numbers (Err (denial.Refused r)) = judge_said (refusal_told r) 0
+judge_numbers (Err (denial.Failed f)) = judge_said (placed (reason_number f.reason) f.place) f.«record».0
 
-abbrev pub name_numbers : NameResult → NameTold
-name_numbers (name_result.Named start length) = name_said (placed 0 start) length
-name_numbers (name_result.Refused r) = name_said (refusal_told r) 0
+abbrev pub name_numbers : Result NamePart Refusal → NameTold
+name_numbers (Ok part) = name_said (placed 0 part.start) part.length
+name_numbers (Err r) = name_said (refusal_told r) 0

@@ -7,21 +7,16 @@ ghost use Rattle.compile.specs.Compile.{compile_answer};
 ghost use Rattle.judge.specs.Judge.{judge_answer};
 ghost use Rattle.gateway.specs.Interface.{placed, refusal_told, AnswerIs, compile_told, check_told, merge_said, merge_told, judge_said, judge_told, name_said, name_told};
 
-use compile::CompileResult;
-use judge::JudgeResult;
+use judge::Denial;
 use refusals::Refusal;
-use refusals::numbers::number;
-use table::check::CheckAnswer;
-use table::names::NameResult;
-use table_merge::MergeResult;
+use table_merge::{MergeRefusal, Merged};
 
 // Returns a refusal's number, and sets its place.
 fn told(refusal: Refusal, place: &mut u64) -> u32
     ensures { placed result place.new ≡ refusal_told refusal }
 {
     *place = refusal.place as u64;
-    let cause = refusal.cause;
-    number(cause) as u32
+    u32::from(u8::from(refusal.cause))
 }
 
 // Compiles a constraint text; on 0, `*place` is the table's length.
@@ -30,13 +25,11 @@ pub fn dk_compile(text: &[u8], little: bool, out: &mut [u8], place: &mut u64) ->
         (placed result place.new) out.new }
 {
     match compile::compile(text, little, out) {
-        CompileResult::Done { length } => {
+        Ok(length) => {
             *place = length as u64;
-            return 0;
+            0
         }
-        CompileResult::Refused(refusal) => {
-            return told(refusal, place);
-        }
+        Err(refusal) => told(refusal, place),
     }
 }
 
@@ -44,15 +37,11 @@ pub fn dk_compile(text: &[u8], little: bool, out: &mut [u8], place: &mut u64) ->
 pub fn dk_check(table: &[u8], place: &mut u64) -> u32
     ensures { placed result place.new ≡ check_told (table_fault table.now) }
 {
-    match table::check::check(table) {
-        CheckAnswer::Passed => {
-            *place = 0;
-            return 0;
-        }
-        CheckAnswer::Refused(refusal) => {
-            return told(refusal, place);
-        }
-    }
+    let Err(refusal) = table::check::check(table) else {
+        *place = 0;
+        return 0;
+    };
+    told(refusal, place)
 }
 
 // Merges two tables; on 0, `*place` is the table's length; `*which` is 1 or 2 for 12 and 13.
@@ -73,22 +62,22 @@ pub fn dk_merge(
         out.new }
 {
     match table_merge::merge(first, second, little, out) {
-        MergeResult::Done {
+        Ok(Merged {
             length,
             records,
             pool,
-        } => {
+        }) => {
             *place = length as u64;
             *record_shift = records.0;
             *pool_shift = pool.0;
             *which = 0;
-            return 0;
+            0
         }
-        MergeResult::Refused { table, refusal } => {
+        Err(MergeRefusal { table, refusal }) => {
             *record_shift = 0;
             *pool_shift = 0;
-            *which = table as u32;
-            return told(refusal, place);
+            *which = u32::from(u8::from(table));
+            told(refusal, place)
         }
     }
 }
@@ -99,23 +88,19 @@ pub fn dk_judge(table: &[u8], root: u32, data: &[u8], record: &mut u32, place: &
         ≡ judge_told (judge_answer table.now root «data».now) }
 {
     match judge::judge(table, root, data) {
-        JudgeResult::Valid => {
+        Ok(()) => {
             *record = 0;
             *place = 0;
-            return 0;
+            0
         }
-        JudgeResult::Refused(refusal) => {
+        Err(Denial::Refused(refusal)) => {
             *record = 0;
-            return told(refusal, place);
+            told(refusal, place)
         }
-        JudgeResult::Failed {
-            reason,
-            record: at,
-            place: from,
-        } => {
-            *record = at.0;
-            *place = from as u64;
-            return reason as u32;
+        Err(Denial::Failed(failure)) => {
+            *record = failure.record.0;
+            *place = failure.place as u64;
+            u32::from(u8::from(failure.reason))
         }
     }
 }
@@ -126,17 +111,14 @@ pub fn dk_name(table: &[u8], record: u32, start: &mut u64, len: &mut u64) -> u32
         ≡ name_told (name_answer table.now «record») }
 {
     match table::names::name_refusal(table, record) {
-        NameResult::Named {
-            start: from,
-            length,
-        } => {
-            *start = from as u64;
-            *len = length as u64;
-            return 0;
+        Ok(part) => {
+            *start = part.start as u64;
+            *len = part.length as u64;
+            0
         }
-        NameResult::Refused(refusal) => {
+        Err(refusal) => {
             *len = 0;
-            return told(refusal, start);
+            told(refusal, start)
         }
     }
 }

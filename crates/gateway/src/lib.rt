@@ -19,14 +19,13 @@ ghost use Rattle.judge.specs.Judge.{judge_answer};
 ghost use Rattle.judge.specs.Clauses.Answers as judges;
 ghost use Rattle.gateway.specs.Interface.{AnswerIs, compile_told, compile_numbers, check_told, check_numbers, merge_told, merge_numbers, judge_told, judge_numbers, name_told, name_numbers};
 
-use compile::CompileResult;
-use judge::JudgeResult;
-use table::check::CheckAnswer;
-use table::names::NameResult;
-use table_merge::MergeResult;
+use judge::Denial;
+use refusals::Refusal;
+use table::names::NamePart;
+use table_merge::{MergeRefusal, Merged};
 
 // Compiles a constraint text into a table whose numbers are in the order asked: demands 1, 2 and 3.
-pub fn compile(text: &[u8], little: bool, out: &mut [u8]) -> CompileResult
+pub fn compile(text: &[u8], little: bool, out: &mut [u8]) -> Result<usize, Refusal>
     ensures answer_is { AnswerIs compile_told (compile_answer text.now little out.old)
         (compile_numbers result) out.new }
     ensures out_after { answered (compiles.answer_of result) out.new
@@ -36,7 +35,7 @@ pub fn compile(text: &[u8], little: bool, out: &mut [u8]) -> CompileResult
 }
 
 // Checks whether bytes are a table: demands 1 and 2.
-pub fn check(table: &[u8]) -> CheckAnswer
+pub fn check(table: &[u8]) -> Result<(), Refusal>
     ensures result_value { check_numbers result ≡ check_told (table_fault table.now) }
     ensures result_value_2 { fault_of result ≡ table_fault table.now }
 {
@@ -44,7 +43,7 @@ pub fn check(table: &[u8]) -> CheckAnswer
 }
 
 // Merges two tables into one whose numbers are in the order asked: demands 1 and 3.
-pub fn merge(first: &[u8], second: &[u8], little: bool, out: &mut [u8]) -> MergeResult
+pub fn merge(first: &[u8], second: &[u8], little: bool, out: &mut [u8]) -> Result<Merged, MergeRefusal>
     ensures answer_is { AnswerIs merge_told
         (merge_answer (request first.now second.now little) out.old)
         (merge_numbers result) out.new }
@@ -55,7 +54,7 @@ pub fn merge(first: &[u8], second: &[u8], little: bool, out: &mut [u8]) -> Merge
 }
 
 // Judges a data text by a table at a root: demands 1, 2 and 3.
-pub fn judge(table: &[u8], root: u32, text: &[u8]) -> JudgeResult
+pub fn judge(table: &[u8], root: u32, text: &[u8]) -> Result<(), Denial>
     ensures result_value { judge_numbers result ≡ judge_told (judge_answer table.now root text.now) }
     ensures result_value_2 { judges.answer_of result ≡ judge_answer table.now root text.now }
 {
@@ -70,7 +69,7 @@ pub fn name<'a>(table: &'a [u8], record: u32) -> &'a [u8]
 }
 
 // Tells where the name of a record lies in a table, and else why it has none.
-pub fn name_refusal(table: &[u8], record: u32) -> NameResult
+pub fn name_refusal(table: &[u8], record: u32) -> Result<NamePart, Refusal>
     ensures result_value { name_numbers result ≡ name_told (name_answer table.now «record») }
     ensures result_value_2 { tables.answer_of result ≡ name_answer table.now «record» }
 {

@@ -1,39 +1,37 @@
--- The steps of copying the front of one buffer to another. Assumes nothing.
-use mathlib.Core.Path.{◌≡◌, refl, ◌∙◌}
-use mathlib.Core.List.{List, []}
-use Prim.Native.Nat.{ℕ, zero, suc, ◌+◌, ◌-◌, ◌≤◌, ◌<◌}
+-- The front of one buffer copied to another is what was to be copied. Assumes nothing.
+use mathlib.Core.Path.{◌≡◌, refl, sym, ap, ◌∙◌}
+use mathlib.Core.Bool.{Bool, true, false}
+use mathlib.Core.List.{List, [], ◌∷◌, ◌++◌}
+use Prim.Native.Nat.{ℕ, ◌+◌, ◌≤◌, ◌<◌, min}
 use native.Mathlib.Omega.{arith}
-use lib.ListN.{length, get_or, set, take, drop, drop_of_length-le, length-set}
-use lib.Seq.{sets, drop-cons}
+use lib.Dec.{leb}
+use lib.ListN.{length, take, drop, length-take, length-append, length-drop}
+use lib.Seq.{sets, sets-eq, take_all}
+use borrow.Author.Tests.{leb-true, leb-false}
 use Rattle.vectors.specs.Reading.{Copied}
 
--- the first i bytes are written: with those that are left the buffer is what it is to be
-pub record InCopy (from before : List ℕ) (i : ℕ) (after : List ℕ) : Type 0 where
-  pub is : sets after i (take (length before - i) (drop i from)) ≡ sets before 0 (take (length before) from)
-  pub long : length after ≡ length before
+-- as many bytes as both have are those of the first as far as the second goes
+same_front : (from : List ℕ) (m : ℕ) → take (min (length from) m) from ≡ take m from
+same_front from m = by (leb (length from) m) refl
+  where
+    by : (b : Bool) → leb (length from) m ≡ b → take (min (length from) m) from ≡ take m from
+    by true h =
+        let k = leb-true (length from) m h in
+        let e : min (length from) m ≡ length from = omega arith in
+        rw e (take_all (length from) from (omega arith) ∙ sym (take_all m from k))
+    by false h =
+        let k = leb-false (length from) m h in
+        let e : min (length from) m ≡ m = omega arith in
+        rw e
 
-pub copy_starts : (from before : List ℕ) → InCopy from before 0 before
-copy_starts from before = let e : length before - 0 ≡ length before = omega arith in record { is = rw e; long = refl }
-
-nothing_taken : (n : ℕ) (xs : List ℕ) → xs ≡ [] → take n xs ≡ []
-nothing_taken zero xs e = refl
-nothing_taken (suc n) xs e = rw e
-
-module _ {from before : List ℕ} {i : ℕ} {after : List ℕ} (inv : InCopy from before i after) where
-  pub copy_goes_on : i < length after → i < length from → InCopy from before (i + 1) (set after i (get_or from i 0))
-  copy_goes_on h k =
-      let l = inv.long in
-      let a : i + 1 ≡ suc i = omega arith in
-      let b : length before - i ≡ suc (length before - suc i) = omega arith in
-      record { is = rw a (rw (drop-cons from i 0 k, b) at inv.is); long = length-set after i _ ∙ l }
-
-  pub copy_full : length after ≤ i → Copied from before after
-  copy_full h =
-      let l = inv.long in
-      let b : length before - i ≡ 0 = omega arith in
-      record { is = rw b at inv.is; long = l }
-
-  pub copy_ends : length from ≤ i → Copied from before after
-  copy_ends h = record { is = rw (nothing_taken (length before - i) (drop i from) (drop_of_length-le from h)) at inv.is; long = inv.long }
-
-pub ruleset copy_steps = (copy_starts, copy_goes_on, copy_full, copy_ends)
+pub front_copied : (from before : List ℕ) (n : ℕ) → n ≡ min (length from) (length before) → (front : List ℕ)
+    → front ≡ take n from → Copied from before (front ++ drop n before)
+front_copied from before n e front f =
+    let k : length (take n from) ≡ n = length-take n from ∙ omega arith in
+    let same : take n from ≡ take (length before) from = ap (λ i. take i from) e ∙ same_front from (length before) in
+    let z : 0 + n ≡ n = omega arith in
+    let whole = sets-eq (take n from) before 0 (omega (arith, k)) in
+    record {
+      is = rw (f, ← same) (sym (rw (k, z) at whole));
+      long = rw f (length-append (take n from) (drop n before) ∙ omega (arith, k, length-drop n before));
+    }

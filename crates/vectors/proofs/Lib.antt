@@ -1,4 +1,2 @@
 mod CopySteps
 mod DigestSteps
-mod Counting
-mod HeadSteps

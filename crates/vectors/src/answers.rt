@@ -1,59 +1,47 @@
 // The answers of the jobs, printed.
 use crate::output::{say, say_number, say_refusal};
-use compile::CompileResult;
-use judge::JudgeResult;
-use table_merge::MergeResult;
+use judge::Denial;
+use refusals::Refusal;
+use table_merge::{MergeRefusal, Merged};
 
 // What compiling answers; how long the table is, 0 where there is none.
-pub fn say_compile(answer: CompileResult) -> usize {
+pub fn say_compile(answer: Result<usize, Refusal>) -> usize {
     match answer {
-        CompileResult::Done { length } => {
+        Ok(length) => {
             say_number(b" length ", length as u64);
-            return length;
+            length
         }
-        CompileResult::Refused(refusal) => {
+        Err(refusal) => {
             say_refusal(refusal);
-            return 0;
+            0
         }
     }
 }
 
 // What a merge answers.
-pub fn say_merge(answer: MergeResult) {
+pub fn say_merge(answer: Result<Merged, MergeRefusal>) {
     match answer {
-        MergeResult::Done {
-            length,
-            records,
-            pool,
-        } => {
-            say_number(b" length ", length as u64);
-            say_number(b", shifts ", records.0 as u64);
-            say_number(b" and ", pool.0 as u64);
+        Ok(merged) => {
+            say_number(b" length ", merged.length as u64);
+            say_number(b", shifts ", u64::from(merged.records.0));
+            say_number(b" and ", u64::from(merged.pool.0));
         }
-        MergeResult::Refused { table, refusal } => {
+        Err(MergeRefusal { table, refusal }) => {
             say_refusal(refusal);
-            say_number(b", table ", table as u64);
+            say_number(b", table ", u64::from(u8::from(table)));
         }
     }
 }
 
 // What judging answers.
-pub fn say_judge(answer: JudgeResult) {
+pub fn say_judge(answer: Result<(), Denial>) {
     match answer {
-        JudgeResult::Valid => {
-            say(b" valid");
-        }
-        JudgeResult::Refused(refusal) => {
-            say_refusal(refusal);
-        }
-        JudgeResult::Failed {
-            reason,
-            record,
-            place,
-        } => {
-            say_number(b" reason ", reason as u64);
-            say_number(b", record ", record.0 as u64);
-            say_number(b", place ", place as u64);
+        Ok(()) => say(b" valid"),
+        Err(Denial::Refused(refusal)) => say_refusal(refusal),
+        Err(Denial::Failed(failure)) => {
+            say_number(b" reason ", u64::from(u8::from(failure.reason)));
+            say_number(b", record ", u64::from(failure.record.0));
+            say_number(b", place ", failure.place as u64);
         }
     }
 }

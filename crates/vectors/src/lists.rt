@@ -3,7 +3,7 @@ use crate::answers::{say_compile, say_judge, say_merge};
 use crate::reading::{Head, TABLE_ROOM, TEXT_ROOM, copy, read_bytes, within};
 use compile::compile;
 use judge::judge;
-use table_merge::{MergeResult, merge};
+use table_merge::{MergeRefusal, Merged, merge};
 
 // The start of a list: a text, whose table is carried from here on.
 pub fn start_case(little: bool, table: &mut [u8]) -> usize {
@@ -21,11 +21,18 @@ pub fn judge_carried(root: u32, table: &[u8]) {
 }
 
 // A merge of the carried table with another, as first or as second.
-fn run_merge(first: bool, table: &[u8], other: &[u8], little: bool, out: &mut [u8]) -> MergeResult {
+fn run_merge(
+    first: bool,
+    table: &[u8],
+    other: &[u8],
+    little: bool,
+    out: &mut [u8],
+) -> Result<Merged, MergeRefusal> {
     if first {
-        return merge(table, other, little, out);
+        merge(table, other, little, out)
+    } else {
+        merge(other, table, little, out)
     }
-    merge(other, table, little, out)
 }
 
 // The carried table merged with another; the table written is carried from here on, and its length answered.
@@ -41,20 +48,11 @@ fn merge_step(
     let answer = run_merge(first, &table[..n], other, little, out);
     say_merge(answer);
     match answer {
-        MergeResult::Done {
-            length: size,
-            records: _,
-            pool: _,
-        } => {
+        Ok(merged) => {
             copy(out, table);
-            return size;
+            merged.length
         }
-        MergeResult::Refused {
-            table: _,
-            refusal: _,
-        } => {
-            return length;
-        }
+        Err(_) => length,
     }
 }
 

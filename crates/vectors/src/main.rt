@@ -17,92 +17,53 @@ use crate::tables::{check_case, merge_case, name_case};
 use crate::texts::{compile_case, judge_case};
 use crate::titles::say_title;
 
-// Whether there was a case, and how long the carried table is behind it.
-#[derive(Clone, Copy)]
-struct Carried {
-    more: bool,
-    length: usize,
-}
-
 // Runs a case of a job by its kind.
 fn run_job(head: Head) {
-    let kind = head.kind;
-    match kind {
-        b'c' => {
-            check_case();
-        }
-        b'n' => {
-            name_case(head.number);
-        }
-        b'm' => {
-            merge_case(head.little);
-        }
-        b'j' => {
-            judge_case(head.number);
-        }
-        b't' => {
-            compile_case(head.little);
-        }
-        _ => {
-            say(b" no such case");
-        }
+    match head.kind {
+        b'c' => check_case(),
+        b'n' => name_case(head.number),
+        b'm' => merge_case(head.little),
+        b'j' => judge_case(head.number),
+        b't' => compile_case(head.little),
+        _ => say(b" no such case"),
     }
 }
 
 // Runs a case by its kind, and answers how long the carried table is behind it.
 fn run_kind(head: Head, table: &mut [u8], length: usize) -> usize {
-    let kind = head.kind;
-    match kind {
-        b's' => {
-            return start_case(head.little, table);
-        }
-        b'f' => {
-            return step_case(true, head, table, length);
-        }
-        b'l' => {
-            return step_case(false, head, table, length);
-        }
+    match head.kind {
+        b's' => start_case(head.little, table),
+        b'f' => step_case(true, head, table, length),
+        b'l' => step_case(false, head, table, length),
         b'v' => {
             let n = within(length, table);
             judge_carried(head.number, &table[..n]);
-            return length;
+            length
         }
         _ => {
             run_job(head);
-            return length;
+            length
         }
     }
 }
 
-// Runs a case, if there is one.
-fn run_case(table: &mut [u8], length: usize) -> Carried {
-    let head = read_head();
-    if head.kind == 0 {
-        return Carried {
-            more: false,
-            length,
-        };
-    }
+// Runs a case, if there is one, and answers how long the carried table is behind it.
+fn run_case(table: &mut [u8], length: usize) -> Option<usize> {
+    let head = read_head()?;
     say_title();
     let next = run_kind(head, table, length);
     say(b"\n");
-    Carried {
-        more: true,
-        length: next,
-    }
+    Some(next)
 }
 
-// A proved loop has to end, and nothing says that the input does: so the turns are counted down.
+// Runs all cases. A proved loop has to end, and nothing says that the input does: so the turns are counted.
 fn run_all(table: &mut [u8]) {
     let mut length: usize = 0;
-    let mut turns = u64::MAX;
-    while turns > 0 {
-        let carried = run_case(table, length);
-        if !carried.more {
+    for _ in 0..u64::MAX {
+        let Some(next) = run_case(table, length) else {
             return;
-        }
-        length = carried.length;
-        turns -= 1;
+        };
+        length = next;
     }
 }
 

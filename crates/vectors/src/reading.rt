@@ -15,7 +15,7 @@ pub const TABLE_ROOM: usize = 65_568;
 
 pub const TEXT_ROOM: usize = 16_400;
 
-// What a case begins with. Kind 0 says that no case is left.
+// What a case begins with.
 #[derive(Clone, Copy)]
 pub struct Head {
     pub kind: u8,
@@ -23,27 +23,22 @@ pub struct Head {
     pub number: u32,
 }
 
-// What six bytes say that a case begins with; none where fewer were read.
-fn head_of(head: &[u8], n: usize) -> Head
-    requires { 6 ≤ length head.now }
+// What six bytes say that a case begins with; nothing where fewer were read, or where the kind is 0.
+fn head_of(head: &[u8; 6], n: usize) -> Option<Head>
     ensures { result ≡ case_head head.now n }
 {
-    if n < 6 {
-        return Head {
-            kind: 0,
-            little: false,
-            number: 0,
-        };
+    if n < 6 || head[0] == 0 {
+        return None;
     }
-    Head {
+    Some(Head {
         kind: head[0],
         little: head[1] == 1,
         number: get32(head, 2, false),
-    }
+    })
 }
 
-// Reads what the next case begins with. Of the bytes that are read nothing can be said.
-pub fn read_head() -> Head
+// Reads what the next case begins with, if one is left. Of the bytes that are read nothing can be said.
+pub fn read_head() -> Option<Head>
     ensures { HeadRead result }
 {
     let mut head = [0u8; 6];
@@ -56,52 +51,44 @@ fn repeat(buf: &mut [u8], from: usize, size: usize, end: usize)
     requires { (size ≤ from) × (end ≤ length buf.old) }
     ensures { length buf.new ≡ length buf.old }
 {
-    let mut i = from;
-    while i < end {
+    for i in from..end {
         buf[i] = buf[i - size];
-        i += 1;
     }
 }
 
-// Reads a piece to a place, and answers the place behind it; the same place where no piece is left or it has no room.
-fn read_piece(buf: &mut [u8], at: usize) -> usize
+// Reads a piece to a place, and answers the place behind it, if one is left that has room there.
+fn read_piece(buf: &mut [u8], at: usize) -> Option<usize>
     requires { at ≤ length buf.old }
     ensures { Grown at buf.old buf.new result }
 {
     let mut head = [0u8; 4];
     let n = io::read_full(0, &mut head);
     if n < 4 {
-        return at;
+        return None;
     }
     let size = get16(&head, 2, false) as usize;
     let all = get16(&head, 0, false) as usize;
-    if all < size {
-        return at;
-    }
-    if buf.len() - at < all {
-        return at;
+    if all == 0 || all < size || buf.len() - at < all {
+        return None;
     }
     let from = at + size;
     let got = io::read_full(0, &mut buf[at..from]);
     if got < size {
-        return at;
+        return None;
     }
     repeat(buf, from, size, at + all);
-    at + all
+    Some(at + all)
 }
 
 // Reads an argument to the front of a buffer, and answers how many bytes it has.
 pub fn read_bytes(buf: &mut [u8]) -> usize
     ensures { IsPrefixLen result buf.new }
 {
-    let mut at = 0;
-    loop {
-        let next = read_piece(buf, at);
-        if next <= at {
-            return at;
-        }
-        at = next;
+    let mut filled = 0;
+    while let Some(next) = read_piece(buf, filled) {
+        filled = next;
     }
+    filled
 }
 
 // So many bytes of a buffer, or all where it has fewer.
@@ -109,19 +96,14 @@ pub fn within(n: usize, buf: &[u8]) -> usize
     ensures prefix_len { IsPrefixLen result buf.now }
     ensures value { result ≡ cut n buf.now }
 {
-    if n < buf.len() { n } else { buf.len() }
+    n.min(buf.len())
 }
 
 // Copies the front of one buffer to the front of another, as far as both go.
+#[tactic(auto, using(crate::proofs::CopySteps::front_copied))]
 pub fn copy(from: &[u8], to: &mut [u8])
     ensures { Copied from.now to.old to.new }
 {
-    let mut i = 0;
-    while i < to.len() {
-        if from.len() <= i {
-            return;
-        }
-        to[i] = from[i];
-        i += 1;
-    }
+    let n = from.len().min(to.len());
+    to[..n].copy_from_slice(&from[..n]);
 }

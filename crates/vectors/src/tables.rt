@@ -2,8 +2,8 @@
 use crate::answers::say_merge;
 use crate::output::{digest, say, say_number, say_refusal};
 use crate::reading::{TABLE_ROOM, read_bytes};
-use table::check::{CheckAnswer, check};
-use table::names::{NameResult, name, name_refusal};
+use table::check::check;
+use table::names::{name, name_refusal};
 use table_merge::merge;
 
 // A case of the check: a table.
@@ -11,25 +11,19 @@ pub fn check_case() {
     let mut table = [0u8; TABLE_ROOM];
     let n = read_bytes(&mut table);
     match check(&table[..n]) {
-        CheckAnswer::Passed => {
-            say(b" passed");
-        }
-        CheckAnswer::Refused(refusal) => {
-            say_refusal(refusal);
-        }
+        Ok(()) => say(b" passed"),
+        Err(refusal) => say_refusal(refusal),
     }
 }
 
 // The name of a record, where it lies and its bytes.
 fn say_name(table: &[u8], record: u32) {
     match name_refusal(table, record) {
-        NameResult::Named { start, length } => {
-            say_number(b" start ", start as u64);
-            say_number(b", length ", length as u64);
+        Ok(part) => {
+            say_number(b" start ", part.start as u64);
+            say_number(b", length ", part.length as u64);
         }
-        NameResult::Refused(refusal) => {
-            say_refusal(refusal);
-        }
+        Err(refusal) => say_refusal(refusal),
     }
     say_number(b", bytes ", digest(name(table, record)));
 }

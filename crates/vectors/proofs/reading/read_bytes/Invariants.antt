@@ -1,11 +1,11 @@
--- The loops of `vectors::reading::read_bytes`. Assumes nothing.
-use Prim.Native.Nat.{◌-◌}
+-- The loop of `vectors::reading::read_bytes`. Assumes nothing.
+use mathlib.Core.Path.{◌≡◌}
+use Prim.Native.Nat.{◌-◌, ◌≤◌}
 use lib.ListN.{length}
-use Rattle.vectors.specs.Reading.{Grown}
 use Rattle.vectors.proofs.reading.read_bytes.Given as goal
 
-abbrev pub invariant-loop-at : goal.invariant-loop-at
-invariant-loop-at l = Grown 0 l.initial.buf l.buf l.at
+abbrev pub invariant-loop-next : goal.invariant-loop-next
+invariant-loop-next l = (l.filled ≤ length l.buf) × (length l.buf ≡ length l.initial.buf)
 
-abbrev pub decreases-loop-at : goal.decreases-loop-at
-decreases-loop-at l = length l.initial.buf - l.at
+abbrev pub decreases-loop-next : goal.decreases-loop-next
+decreases-loop-next l = length l.initial.buf - l.filled
