@@ -17,7 +17,7 @@ pub returns-in-101-to-227 : goal.returns-in-101-to-227
 returns-in-101-to-227 c = search (single_duration c.args.s.now c.args.number c.args.t c.if-is_boolean.ensures)
 
 pub returns-in_default : goal.returns-in_default
-returns-in_default c = 
+returns-in_default c =
     single_other _ _ _ c.if-is_boolean.ensures
     (λ a b. elim c.in_default.branch [ in_default-via-then-sort-lt31 w ↦ omega arith | in_default-via-else-sort-lt31+else-sort-lt36+then-sort-lt41 w ↦ omega arith | in_default-via-else-sort-lt31+else-sort-lt36+else-sort-lt41+else-sort-lt45+then-sort-lt101 w ↦ omega arith | in_default-via-else-sort-lt31+else-sort-lt36+else-sort-lt41+else-sort-lt45+else-sort-lt101+else-sort-lt228 w ↦ omega arith ])
     (λ a b. elim c.in_default.branch [ in_default-via-then-sort-lt31 w ↦ omega arith | in_default-via-else-sort-lt31+else-sort-lt36+then-sort-lt41 w ↦ omega arith | in_default-via-else-sort-lt31+else-sort-lt36+else-sort-lt41+else-sort-lt45+then-sort-lt101 w ↦ omega arith | in_default-via-else-sort-lt31+else-sort-lt36+else-sort-lt41+else-sort-lt45+else-sort-lt101+else-sort-lt228 w ↦ omega arith ])
