@@ -13,7 +13,7 @@ returns-then-leads_in c = record { memo_after = search item-set; items_marked = 
 pub returns-else-is_listed-clause-memo_after : goal.returns-else-is_listed-clause-memo_after
 returns-else-is_listed-clause-memo_after c =
     elim c.else-is_listed.branch [
-      else-is_listed-via-then-is_listed+else-leads_in w ↦ item_kept _ _ _ _ _ _ _ _ c.entry_at-e.ensures _ c.is_listed.ensures w.if-is_listed.true _ w.leads_in.ensures w.if-leads_in.false
+      | else-is_listed-via-then-is_listed+else-leads_in w ↦ item_kept _ _ _ _ _ _ _ _ c.entry_at-e.ensures _ c.is_listed.ensures w.if-is_listed.true _ w.leads_in.ensures w.if-leads_in.false
       | else-is_listed-via-else-is_listed w ↦ item_unlisted _ _ _ _ _ _ _ _ c.entry_at-e.ensures _ c.is_listed.ensures w.if-is_listed.false
     ]
 
