@@ -8,7 +8,7 @@ use native.Mathlib.Nat.{add-zero}
 use lib.Dec.{eqb, leb}
 use lib.ListN.{length, drop}
 use lib.Seq.{get_or-take, get_or-drop}
-use borrow.Author.Tests.{eqb-true, eq-eqb, ne_eqb, leb-true, le-leb, lt-leb, not-true, not-false}
+use borrow.Author.Tests.{eqb-true, eq-eqb, ne_eqb, leb-true, le-leb, not-true, not-false}
 use Rattle.lexis.specs.Text.{byte}
 use Rattle.lexis.specs.Runs.{byte_at, part}
 use Rattle.lexis.specs.Spelling.{close_brace}
@@ -22,11 +22,6 @@ use Rattle.lexis.proofs.Options.{none_zero, some_above}
 use Rattle.lexis.proofs.Places.{Found, token-found}
 use Rattle.lexis.proofs.TokenSteps.{promised}
 
--- the next token is `}`
-pub closing_told : (s : List ℕ) (from : ℕ) (t : Token) → TokenIs s from (token_at s from) t
-    → eqb t.sort close_brace ≡ eqb (token_at s from).sort close_brace
-closing_told s from t p = ap (λ u. eqb u.sort close_brace) p.is
-
 -- the first byte of a part that has one
 first_of_part : (s : List ℕ) (start end : ℕ) → start < end → byte_at (part s start end) 0 ≡ byte_at s start
 first_of_part s start end l =
@@ -39,22 +34,6 @@ module _ (s : List ℕ) (t : Token) (d : TypeThere s t) where
   pub type_other : (byte_at s t.start ≡ byte "P" → ⊥) → t ≡ pattern_or s t (pattern_slots (spelling s t))
   unfolding pattern_slots slots_of
   type_other n = rw (first_of_part s t.start t.end d.order, ne_eqb (byte_at s t.start) (byte "P") n) refl
-
-  module _ (o : Option ℕ) (q : FlagIs (pattern_slots (part s t.start t.end)) o) where
-    pub type_no_pattern : o ≡ None → t ≡ pattern_or s t (pattern_slots (spelling s t))
-    type_no_pattern n = rw (none_zero (pattern_slots (part s t.start t.end)) (sym n ∙ q.is)) refl
-
-    module _ (flag : ℕ) (e : o ≡ Some flag) (r : Bool) (p : r ≡ eqb (token_at s t.end).sort close_brace) where
-      is_flag : (flag ≡ pattern_slots (part s t.start t.end)) × (1 ≤ pattern_slots (part s t.start t.end))
-      is_flag =
-          let f = some_above (pattern_slots (part s t.start t.end)) flag (sym e ∙ q.is) in
-          (f.0, omega (arith, f.1))
-
-      pub type_stays : not r ≡ true → t ≡ pattern_or s t (pattern_slots (spelling s t))
-      type_stays n = rw (le-leb 1 (pattern_slots (part s t.start t.end)) is_flag.1, ← p, not-true r n) refl
-
-      pub type_pattern : not r ≡ false → token (duration_pattern + flag) t.start t.end ≡ pattern_or s t (pattern_slots (spelling s t))
-      type_pattern n = rw (le-leb 1 (pattern_slots (part s t.start t.end)) is_flag.1, ← p, not-false r n, is_flag.0) refl
 
 -- a TYPE that was read
 pub type_there : (s : List ℕ) (from : ℕ) (t : Token) → TokenIs s from (token_at s from) t → t.sort ≡ type_name
@@ -89,17 +68,18 @@ content_found s from h =
 
 -- the next token where a value may stand
 module _ (s : List ℕ) (from : ℕ) (h : from ≤ length s) (t : Token) (p : TokenIs s from (token_at s from) t) where
-  pub content_type : (r : Token) → t.sort ≡ type_name → r ≡ pattern_or s t (pattern_slots (spelling s t))
-      → TokenIs s from (content_token_at s from) r
+  pub content_type : t.sort ≡ 2 → TokenIs s from (content_token_at s from) (pattern_or s t (pattern_slots (spelling s t)))
   unfolding content_token_at
-  content_type r e q = promised s from (content_token_at s from) r (q ∙ as_content t p.is e) (content_found s from h)
+  content_type e = promised s from (content_token_at s from) _ (as_content t p.is e) (content_found s from h)
     where
       as_content : (u : Token) → u ≡ token_at s from → u.sort ≡ type_name → pattern_or s u (pattern_slots (spelling s u)) ≡ content_token_at s from
       as_content u i k = rw (← i, eq-eqb u.sort type_name k) refl
 
-  pub content_other : (t.sort ≡ type_name → ⊥) → TokenIs s from (content_token_at s from) t
+  pub content_other : (t.sort ≡ 2 → ⊥) → TokenIs s from (content_token_at s from) t
   unfolding content_token_at
   content_other n = promised s from (content_token_at s from) t (as_content t p.is n) (content_found s from h)
     where
       as_content : (u : Token) → u ≡ token_at s from → (u.sort ≡ type_name → ⊥) → u ≡ content_token_at s from
       as_content u i k = rw (← i, ne_eqb u.sort type_name k) refl
+
+pub ruleset of_content = (type_there, content_type, content_other)

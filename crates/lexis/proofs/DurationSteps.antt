@@ -1,4 +1,4 @@
--- The steps of a walk over slots: a lemma for each way out, in the form that `search` takes. Assumes nothing.
+-- The steps of a walk over slots: a lemma for each way out. Assumes nothing.
 use mathlib.Core.Path.{◌≡◌, refl, sym, ap, ◌∙◌}
 use mathlib.Core.Bool.{Bool, true, false, cond}
 use mathlib.Core.List.{List, [], ◌∷◌}
@@ -17,14 +17,6 @@ use Rattle.lexis.specs.declared.durations.Slots.{Slots}
 use Rattle.std.specs.Prelude.{Option, Some, None}
 use Rattle.lexis.proofs.Options.{above_some, none_zero, some_above}
 use Rattle.lexis.proofs.Places.{drop_in}
-
--- the letter in either case
-module _ (letter b : ℕ) where
-  pub case_same : b ≡ letter → true ≡ in_either_case letter b
-  case_same e = rw (eq-eqb b letter e)
-
-  pub case_other : (b ≡ letter → ⊥) → eqb (b + 32) letter ≡ in_either_case letter b
-  case_other n = rw (ne_eqb b letter n)
 
 -- a slot of a pattern
 module _ (w : List ℕ) (at letter : ℕ) where
@@ -206,7 +198,12 @@ module _ (slot : ℕ → List ℕ → ℕ) (w : List ℕ) where
           → FlagIs (slots_of slot w) r
       slots_time r e k = record { is = rw (opened, unended, eq-eqb (byte_at w x.at) (byte "T") e) k.is; few = k.few }
 
--- without digits it is a pattern
-pub pattern_told : (w : List ℕ) (r : Option ℕ) → FlagIs (slots_of letter_slot w) r → FlagIs (pattern_slots w) r
-unfolding pattern_slots
-pattern_told w r h = h
+pub ruleset of_letters = (letter_none, letter_here, letter_other)
+
+pub ruleset of_digits = (digit_few, digit_many, digit_ended, digit_letter, digit_other)
+
+pub ruleset of_fills = (fill_some, fill_none)
+
+pub ruleset of_times = (time_left, time_none, time_some)
+
+pub ruleset of_slots = (slots_empty, slots_other, slots_end, slots_not_time, slots_time)

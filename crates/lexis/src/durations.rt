@@ -23,10 +23,7 @@ const MOST_DIGITS: usize = 4;
 fn in_either_case(letter: u8, b: u8) -> bool
     ensures { result ≡ in_either_case letter b }
 {
-    if b == letter {
-        return true;
-    }
-    (b as u32) + TO_SMALL == letter as u32
+    b == letter || u32::from(b) + TO_SMALL == u32::from(letter)
 }
 
 // What the slot of a letter is.
@@ -48,6 +45,7 @@ struct DigitsAndLetter;
 impl Slot for LetterAlone {
     ghost size = { letter_slot };
 
+    #[tactic(auto, using(crate::proofs::DurationSteps::of_letters))]
     fn size(w: &[u8], at: usize, letter: u8) -> Option<usize> {
         if at < w.len() && w[at] == letter {
             return Some(1);
@@ -59,10 +57,11 @@ impl Slot for LetterAlone {
 impl Slot for DigitsAndLetter {
     ghost size = { digit_slot };
 
+    #[tactic(auto, using(crate::proofs::DurationSteps::of_digits))]
     fn size(w: &[u8], at: usize, letter: u8) -> Option<usize> {
         let end = past_run::<Digit>(w, at);
         let digits = end - at;
-        if digits < 1 || MOST_DIGITS < digits {
+        if digits == 0 || MOST_DIGITS < digits {
             return None;
         }
         if end < w.len() && in_either_case(letter, w[end]) {
@@ -73,6 +72,7 @@ impl Slot for DigitsAndLetter {
 }
 
 // The slot of a letter, whose bit is given, where one stands next.
+#[tactic(auto, using(crate::proofs::DurationSteps::of_fills))]
 fn fill<S: Slot>(w: &[u8], x: Slots, bit: u8, letter: u8) -> Slots
     requires { FillRoom w.now x bit }
     ensures { FillIs w.now (x.flag + bit) (fill S.size bit letter (filled_at w.now x)) result }
@@ -87,6 +87,7 @@ fn fill<S: Slot>(w: &[u8], x: Slots, bit: u8, letter: u8) -> Slots
 }
 
 // The slots before T.
+#[tactic(auto, using(crate::proofs::DurationSteps::dates_filled))]
 fn fill_dates<S: Slot>(w: &[u8], at: usize) -> Slots
     requires { at ≤ length w.now }
     ensures { FillIs w.now 15 (fill_all S.size 1 (bytes "ymwd") (filled 0 (drop at w.now))) result }
@@ -99,6 +100,7 @@ fn fill_dates<S: Slot>(w: &[u8], at: usize) -> Slots
 }
 
 // The slots behind T.
+#[tactic(auto, using(crate::proofs::DurationSteps::times_filled))]
 fn fill_times<S: Slot>(w: &[u8], at: usize) -> Slots
     requires { at ≤ length w.now }
     ensures { FillIs w.now 112
@@ -111,13 +113,14 @@ fn fill_times<S: Slot>(w: &[u8], at: usize) -> Slots
 }
 
 // Behind T: slots, one at least, and the end.
+#[tactic(auto, using(crate::proofs::DurationSteps::of_times))]
 fn behind_time<S: Slot>(w: &[u8], at: usize, flag: u8) -> Option<u8>
     requires at_in_bounds { at ≤ length w.now }
     requires flag_bound { flag ≤ 15 }
     ensures { FlagIs (behind_time S.size flag (drop at w.now)) result }
 {
     let x = fill_times::<S>(w, at);
-    if x.at < w.len() || x.flag < 1 {
+    if x.at < w.len() || x.flag == 0 {
         return None;
     }
     Some(flag + x.flag)
@@ -132,10 +135,11 @@ fn dates_alone(flag: u8) -> Option<u8>
 }
 
 // P and slots: the slots filled, as a flag, where the bytes are spelled so.
+#[tactic(auto, using(crate::proofs::DurationSteps::of_slots))]
 fn slots_of<S: Slot>(w: &[u8]) -> Option<u8>
     ensures { FlagIs (slots_of S.size w.now) result }
 {
-    if w.len() == 0 || w[0] != b'P' {
+    if w.is_empty() || w[0] != b'P' {
         return None;
     }
     let x = fill_dates::<S>(w, 1);
@@ -150,6 +154,7 @@ fn slots_of<S: Slot>(w: &[u8]) -> Option<u8>
 }
 
 // The flag of the Duration pattern that is spelled so.
+#[tactic(auto, unfolding(crate::specs::Durations::pattern_slots))]
 pub fn pattern_slots(w: &[u8]) -> Option<u8>
     ensures { FlagIs (pattern_slots w.now) result }
 {

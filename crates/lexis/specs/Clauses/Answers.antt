@@ -1,13 +1,13 @@
 -- What the functions of this crate promise of their answers: an equation with a definition, and bounds. Assumes nothing.
 use Rattle.std.specs.Prelude.{◌≡◌, Bool, true, false, cond, not, ◌&&◌, ◌||◌, List, [], ◌∷◌, ℕ, Option, Some, None, IfSome, ◌+◌, ◌≤◌, ◌<◌, eqb, length, drop}
-use Rattle.lexis.specs.Bytes.{among, is, blank, digit, word_byte, string_byte, run_byte, line_end}
+use Rattle.lexis.specs.Bytes.{among, is, blank, word_byte, line_end}
 use Rattle.lexis.specs.Text.{byte, bytes}
-use Rattle.lexis.specs.Runs.{byte_at, allows}
+use Rattle.lexis.specs.Runs.{byte_at}
 use Rattle.lexis.specs.Blanks.{opens_comment, token_start}
-use Rattle.lexis.specs.Spelling.{Literal, less, greater, keywords, booleans}
+use Rattle.lexis.specs.Spelling.{less, greater}
 use Rattle.lexis.specs.Tokens.{token_at, type_name}
-use Rattle.lexis.specs.Durations.{letter_slot, digit_slot, Filled, filled}
-use Rattle.lexis.specs.DataTokens.{equals, open_round, close_round, run_sort, type_sort, data_token_at, type_token_at}
+use Rattle.lexis.specs.Durations.{Filled, filled}
+use Rattle.lexis.specs.DataTokens.{equals, open_round, close_round, data_token_at, type_token_at}
 use Rattle.lexis.specs.declared.Token.{Token}
 use Rattle.lexis.specs.declared.durations.Slots.{Slots}
 use Rattle.lexis.specs.declared.reader.Tokens.{Tokens}
@@ -37,19 +37,6 @@ pub record StartsAlike (s : List ℕ) (from r : ℕ) : Type 0 where
   pub is : token_start s r ≡ token_start s from
   pub low : from ≤ r
   pub high : r ≤ length s
-
--- the byte b stands at a place of the text
-pub record OpensMark (s : List ℕ) (at b : ℕ) : Type 0 where
-  pub inside : at < length s
-  pub is : byte_at s at ≡ b
-
--- a byte with which no longer mark opens stands at a place of the text
-pub record OpensPlain (s : List ℕ) (at : ℕ) : Type 0 where
-  pub inside : at < length s
-  pub less : byte_at s at ≡ byte "<" → ⊥
-  pub greater : byte_at s at ≡ byte ">" → ⊥
-  pub dot : byte_at s at ≡ byte "." → ⊥
-  pub plus : byte_at s at ≡ byte "+" → ⊥
 
 -- the byte is the mark of data text of that sort
 abbrev pub is_mark : ℕ → ℕ → Bool
