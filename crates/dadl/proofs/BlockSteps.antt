@@ -7,7 +7,7 @@ use Prim.Native.Nat.{ℕ, zero, suc, ◌+◌, ◌*◌, ◌-◌, ◌≤◌, ◌<�
 use native.Mathlib.Omega.{arith}
 use native.Mathlib.Nat.{add-zero}
 use native.Mathlib.Numerals.{sub-one}
-use lib.Dec.{eqb, ltb, eqb-suc-zero}
+use lib.Dec.{eqb, ltb}
 use lib.ListN.{length, get_or}
 use lib.Seq.{sets, length-sets}
 use borrow.Author.Tests.{eq-eqb, ne_eqb, eqb-true}
@@ -28,11 +28,11 @@ use Rattle.refusals.specs.declared.Cause.TheVariants.{TooDeep, TooLong, Repeated
 use Rattle.refusals.specs.declared.Refusal.{Refusal}
 use Rattle.refusals.proofs.Readings.{Holds}
 use Rattle.refusals.proofs.Parses.{first_then, then_refused, then_got, Yields, parsed_yields, stopped_yields, noting_yields, any_yields, rank, FaultFrom, InOrder, then_order, order_holds, order_map}
-use Rattle.dadl.specs.Placed.{Span, span, block, Entries, no_more, entry, PlacedContent, string, word, inside}
+use Rattle.dadl.specs.Placed.{Span, block, Entries, no_more, entry, PlacedContent, inside}
 use Rattle.dadl.specs.Data.{Down, expect_data, name_from, content_from, members, block_from, span_of}
 use Rattle.dadl.specs.Clauses.Tape.{row_size, block_rows, entry_rows, content_rows, next_row, type_start, type_end, tape_row_of, block_tape, entries_tape, content_tape}
 use Rattle.lexis.specs.Clauses.Answers.{TokenIs}
-use Rattle.dadl.specs.Clauses.Answers.{part_span, type_span, TypeInside, Opens, sorted_leaf, leaf_of, LeafLies, content_reading, ContentPast, ContentIs, Inside, number_at, earlier_names, NamedRow, Earlier, member_reading, row_numbers, link_of, holds_of, type_part, leaf_row, block_row, Wrote, data_wrote, finished, Finish, member_written, RowsRoom, MemberRoom, MemberIs, entries_written, entries_from, RowsPast, RowsIs}
+use Rattle.dadl.specs.Clauses.Answers.{part_span, type_span, TypeInside, Opens, sorted_leaf, leaf_of, LeafLies, content_reading, ContentPast, ContentIs, Inside, number_at, earlier_names, NamedRow, Earlier, member_reading, row_numbers, link_of, holds_of, type_part, leaf_row, block_row, Wrote, data_wrote, rows_to, finished, Finish, member_written, RowsRoom, MemberRoom, MemberIs, entries_written, entries_from, RowsPast, RowsIs}
 use Rattle.std.specs.Result.{IsErrAnd}
 use Rattle.std.specs.declared.result.Result.{Result}
 use Rattle.std.specs.declared.result.Result.TheVariants.{Ok, Err}
@@ -168,7 +168,7 @@ is_rows n before after rows (refused x) e =
     let z : ◌≡◌ {A = ℕ} 0 1 = cc in
     absurd (omega arith)
 is_rows n before after rows (got ms p) e =
-    let r : Rows = record { end = n + entry_rows ms; place = p } in
+    let r : Rows = rows_to (n + entry_rows ms) p in
     let o : ◌≡◌ {A = Result Rows Refusal} (Ok rows) (Ok r) = ap (λ (q : Wrote Rows). q.answer) e in
     let z : rows ≡ r = cc in
     record { ms = ms; is = ap (λ (y : Rows). got ms y.place) (sym z); count = ap (λ (y : Rows). y.end) z; tape = ap (λ (q : Wrote Rows). q.tape) e }
@@ -179,7 +179,7 @@ rows_refused n before after y (refused x) e =
     let o : ◌≡◌ {A = Result Rows Refusal} (Err y) (Err x) = ap (λ (q : Wrote Rows). q.answer) e in
     cc
 rows_refused n before after y (got ms p) e =
-    let r : Rows = record { end = n + entry_rows ms; place = p } in
+    let r : Rows = rows_to (n + entry_rows ms) p in
     let o : ◌≡◌ {A = Result Rows Refusal} (Err y) (Ok r) = ap (λ (q : Wrote Rows). q.answer) e in
     let z : ◌≡◌ {A = ℕ} 0 1 = cc in
     absurd (omega arith)
@@ -205,7 +205,7 @@ module _ (first : ℕ) {s : List ℕ} {levels : ℕ} {t : Token} {n : ℕ} {befo
     leaf_lies : LeafLies s (t.start + 2) l
     leaf_lies = content_past (Ok (content.Leaf l)) leaf_there
 
-    pub leaf_finish : Finish s n row (n + 1) l.next before
+    pub leaf_finish : Finish s n row (rows_to (n + 1) l.next) before
     leaf_finish =
         let p = leaf_lies in
         let m = room.name in
@@ -214,7 +214,7 @@ module _ (first : ℕ) {s : List ℕ} {levels : ℕ} {t : Token} {n : ℕ} {befo
           fits = record { room = omega arith; name_start = omega arith; name_end = omega arith; place = omega arith; type_start = omega arith; type_end = omega arith; start = omega arith; end = omega arith; link = omega arith };
         })
 
-    leaf_written : data_wrote (Ok (finished s (n + 1) l.next)) (sets before (row_size * n) (row_numbers (leaf_row t l) (link_of (data_token_at s l.next).sort (n + 1))))
+    leaf_written : data_wrote (Ok (finished s (rows_to (n + 1) l.next))) (sets before (row_size * n) (row_numbers (leaf_row t l) (link_of (data_token_at s l.next).sort (n + 1))))
         ≡ member_written s t n before (got (leaf_of l) l.next)
     leaf_written =
         let c = leaf_of l in
@@ -224,11 +224,11 @@ module _ (first : ℕ) {s : List ℕ} {levels : ℕ} {t : Token} {n : ℕ} {befo
         let numbers : row_numbers (leaf_row t l) (link_of k (n + 1)) ≡ tape_row_of (span_of t) c (link_of k (n + 1 + content_rows c))
         = leaf_numbers t l (link_of k (n + 1)) ∙ ap (λ (m : ℕ). tape_row_of (span_of t) c (link_of k m)) cnt in
         λ i. record {
-          answer = Ok (finished s (cnt i) l.next);
+          answer = Ok (finished s (rows_to (cnt i) l.next));
           tape = sets (sets before (row_size * (n + 1)) (sym z.1 i)) (row_size * n) (numbers i);
         }
 
-    pub leaf_member : (m : Member) (after : List ℕ) → m ≡ finished s (n + 1) l.next
+    pub leaf_member : (m : Member) (after : List ℕ) → m ≡ finished s (rows_to (n + 1) l.next)
         → after ≡ sets before (row_size * n) (row_numbers row (link_of (data_token_at s l.next).sort (n + 1)))
         → MemberIs s levels t first n before after (Ok m)
     leaf_member m after a b = record {
@@ -271,7 +271,7 @@ module _ (first : ℕ) {s : List ℕ} {levels : ℕ} {t : Token} {n : ℕ} {befo
         block_count = let h = rows_past in omega arith
 
         pub block_finish : {row : Row} → length after ≡ length before
-            → row ≡ block_row t p (rows.end - (n + 1)) → Finish s n row rows.end rows.place after
+            → row ≡ block_row t p (rows.end - (n + 1)) → Finish s n row rows after
         block_finish l e =
             let h = rows_past in
             let a = block_lies in
@@ -287,7 +287,7 @@ module _ (first : ℕ) {s : List ℕ} {levels : ℕ} {t : Token} {n : ℕ} {befo
 
         block_written : (ms : Entries) → rows.end ≡ n + 1 + entry_rows ms
             → after ≡ sets before (row_size * (n + 1)) (entries_tape ms (n + 1))
-            → data_wrote (Ok (finished s rows.end rows.place)) (sets after (row_size * n) (row_numbers (block_row t p (rows.end - (n + 1))) (link_of (data_token_at s rows.place).sort rows.end)))
+            → data_wrote (Ok (finished s rows)) (sets after (row_size * n) (row_numbers (block_row t p (rows.end - (n + 1))) (link_of (data_token_at s rows.place).sort rows.end)))
             ≡ member_written s t n before (got (inside (block p.place (type_span p.type_name) ms)) rows.place)
         unfolding content_rows block_rows content_tape block_tape
         block_written ms cnt tp =
@@ -295,12 +295,12 @@ module _ (first : ℕ) {s : List ℕ} {levels : ℕ} {t : Token} {n : ℕ} {befo
             let y = type_places p.type_name in
             let rs : rows.end - (n + 1) ≡ entry_rows ms = omega arith in
             λ i. record {
-              answer = Ok (finished s (cnt i) rows.place);
+              answer = Ok (finished s (rows_to (cnt i) rows.place));
               tape = sets (tp i) (row_size * n) (0 ∷ t.start ∷ t.end ∷ p.place ∷ y.0 i ∷ y.1 i ∷ 0 ∷ rs i ∷ link_of k (cnt i) ∷ []);
             }
 
         pub block_member : {row : Row} {last : List ℕ} {m : Member}
-            → row ≡ block_row t p (rows.end - (n + 1)) → m ≡ finished s rows.end rows.place
+            → row ≡ block_row t p (rows.end - (n + 1)) → m ≡ finished s rows
             → last ≡ sets after (row_size * n) (row_numbers row (link_of (data_token_at s rows.place).sort rows.end))
             → MemberIs s levels t first n before last (Ok m)
         block_member e a w =
@@ -462,7 +462,7 @@ is_member s t n before after m (refused x) e =
     let z : ◌≡◌ {A = ℕ} 0 1 = cc in
     absurd (omega arith)
 is_member s t n before after m (got c q) e =
-    let r : Member = finished s (n + 1 + content_rows c) q in
+    let r : Member = finished s (rows_to (n + 1 + content_rows c) q) in
     let o : ◌≡◌ {A = Result Member Refusal} (Ok m) (Ok r) = ap (λ (q : Wrote Member). q.answer) e in
     let z : m ≡ r = cc in
     record { c = c; q = q; is = refl; count = ap (λ (y : Member). y.end) z; token = ap (λ (y : Member). y.after) z; tape = ap (λ (q : Wrote Member). q.tape) e }
@@ -473,7 +473,7 @@ is_not s t n before after y (refused x) e =
     let o : ◌≡◌ {A = Result Member Refusal} (Err y) (Err x) = ap (λ (q : Wrote Member). q.answer) e in
     cc
 is_not s t n before after y (got c q) e =
-    let o : ◌≡◌ {A = Result Member Refusal} (Err y) (Ok (finished s (n + 1 + content_rows c) q)) = ap (λ (q : Wrote Member). q.answer) e in
+    let o : ◌≡◌ {A = Result Member Refusal} (Err y) (Ok (finished s (rows_to (n + 1 + content_rows c) q))) = ap (λ (q : Wrote Member). q.answer) e in
     let z : ◌≡◌ {A = ℕ} 0 1 = cc in
     absurd (omega arith)
 
@@ -648,3 +648,8 @@ module _ {s : List ℕ} {levels from n : ℕ} {before : List ℕ} {rows : ℕ} {
           names = seen_next;
           is = left;
         }
+
+-- what reading the members of a block rests on, and reading one of them
+pub ruleset members_steps = (members_start, member_room, member_earlier, member_less, member_next)
+
+pub ruleset member_steps = (member_faulty, leaf_finish, block_room, block_count, block_finish)

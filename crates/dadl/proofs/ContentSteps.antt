@@ -186,11 +186,11 @@ module _ (s : List ℕ) (from : ℕ) (t : Token) (tok : TokenIs s from (data_tok
       → ContentIs s from (content_of s from) r
   unfolding content_of content_from less_from
   content_less k r d =
-    let n : t.sort ≡ open_round → ⊥ = λ e. omega arith in
-    record {
-    is = λ down. rw (← tok.is, ne_eqb t.sort open_round n, eq-eqb t.sort less k) (d.is down);
-    past = content_lower s from t.start tok.start r d.past;
-  }
+      let n : t.sort ≡ open_round → ⊥ = λ e. omega arith in
+      record {
+        is = λ down. rw (← tok.is, ne_eqb t.sort open_round n, eq-eqb t.sort less k) (d.is down);
+        past = content_lower s from t.start tok.start r d.past;
+      }
 
   pub content_fault : (t.sort ≡ open_round → ⊥) → (t.sort ≡ less → ⊥) → (x : Refusal)
       → x ≡ refusal (syntax_cause t) t.start

@@ -4,7 +4,7 @@ use mathlib.Core.Bool.{Bool, true, false, ◌||◌}
 use mathlib.Core.List.{List, [], ◌∷◌}
 use Prim.Native.Nat.{ℕ, ◌+◌, ◌*◌, ◌-◌, ◌≤◌, ◌<◌}
 use native.Mathlib.Omega.{arith}
-use lib.ListN.{length, take, drop}
+use lib.ListN.{length}
 use borrow.Author.Tests.{lt-ltb, le-ltb}
 use Rattle.lexis.specs.Runs.{byte_at, part, same, listed}
 use Rattle.lexis.specs.Tokens.{spelling}
@@ -28,7 +28,7 @@ use Rattle.dadl.specs.declared.contents.Content.{Content}
 use Rattle.dadl.proofs.TokenSteps.{passed_on}
 use Rattle.refusals.proofs.StepLaws.{expected_fault, expected_token, expected_past}
 use Rattle.refusals.proofs.Parses.{first_then, then_refused, then_got}
-use Rattle.lexis.proofs.Comparing.{InBytes, bytes-start, bytes_end, bytes_differ}
+use Rattle.lexis.proofs.Comparing.{InBytes, bytes-start, bytes_end, bytes_in, bytes_there, bytes_differ, bytes_on}
 use Rattle.lexis.proofs.Parts.{part_length}
 use Rattle.lexis.proofs.RunSteps.{same_long}
 use Rattle.dadl.proofs.ContentSteps.{content_lower}
@@ -38,18 +38,6 @@ chain_low : (s tape : List ℕ) (n end : ℕ) (ws : List (List ℕ)) → Chain s
 unfolding Chain
 chain_low s tape n end [] h = omega arith
 chain_low s tape n end (w ∷ ws) h = omega arith
-
--- the name of a row, as it is read
-module _ (s tape : List ℕ) (n start end : ℕ) (h : NameLies s tape n) (es : start ≡ number_at tape n 1)
-    (ee : end ≡ number_at tape n 2) where
-  pub name_order : start ≤ end
-  name_order = let o = h.order in omega arith
-
-  pub name_ends : end ≤ length s
-  name_ends = let o = h.inside in omega arith
-
-  pub name_is_lem : take (end - start) (drop start s) ≡ name_at s tape n
-  name_is_lem = rw (es, ee)
 
 -- at row n of the search for a name
 pub record InNames (s tape : List ℕ) (low end : ℕ) (name : List ℕ) (n : ℕ) (again : Bool) : Type 0 where
@@ -128,6 +116,9 @@ module _ (s tape : List ℕ) (low end : ℕ) (name : List ℕ) (n : ℕ) (again 
             → (byte_at name i ≡ byte_at other i → ⊥)
             → InNames s tape low end name next r
         bytes_next i r b k d = names_next r b.not_yet (bytes_differ name other i r b k d)
+
+-- what the search rests on
+pub ruleset search_steps = (names_start, link_lies, bytes_begin, longer_next, bytes_next, bytes_in, bytes_there, bytes_on)
 
 -- a name and its `=`
 module _ (s : List ℕ) (seen : List (List ℕ)) (t : Token) (inside : Inside s t.start t.end) where

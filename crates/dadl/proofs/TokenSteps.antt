@@ -27,7 +27,7 @@ use Rattle.lexis.proofs.Parts.{part_length}
 use Rattle.refusals.proofs.StepLaws.{taken_is, expected_fault, expected_token, expected_past}
 use Rattle.refusals.proofs.Parses.{told_read, first_then, then_refused, then_got}
 use Rattle.refusals.specs.Clauses.Answers.{expected_of, ExpectIs}
-use Rattle.dadl.specs.Clauses.Answers.{part_of, part_span, type_reading, TypePast, TypeIs, Opens, OpenPast, OpeningIs, OutermostIs, typed_from}
+use Rattle.dadl.specs.Clauses.Answers.{part_of, part_span, type_reading, TypePast, TypeIs, OpenPast, OpeningIs, OutermostIs, typed_from}
 use Rattle.dadl.specs.declared.tokens.Part.{Part}
 use Rattle.dadl.specs.declared.tokens.TypeName.{TypeName}
 use Rattle.dadl.specs.declared.tokens.Opening.{Opening}

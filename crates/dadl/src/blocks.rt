@@ -16,7 +16,7 @@ use lexis::{GREATER, NAME, Token};
 use refusals::steps::syntax_fault;
 use refusals::{Cause, Refusal};
 
-// The number of the row behind the members, and the place behind them.
+// The number of the row behind what was read, and the place behind it in the text.
 #[derive(Clone, Copy)]
 pub struct Rows {
     pub end: usize,
@@ -37,17 +37,20 @@ fn link_of(sort: u8, end: usize) -> usize
     if sort == NAME { end } else { 0 }
 }
 
-// Writes a member's row, once the token behind the member is seen.
-fn finish(s: &[u8], tape: &mut [u16], n: usize, row: Row, end: usize, from: usize) -> Member
-    requires { Finish s.now n row end from tape.old }
-    ensures answer { result ≡ finished s.now end from }
+// Writes a member's row, once the token behind the member and its rows is seen.
+fn finish(s: &[u8], tape: &mut [u16], n: usize, row: Row, rows: Rows) -> Member
+    requires { Finish s.now n row rows tape.old }
+    ensures answer { result ≡ finished s.now rows }
     ensures wrote { tape.new
-        ≡ sets tape.old (row_size * n) (row_numbers row (link_of (data_token_at s.now from).sort end)) }
+        ≡ sets tape.old (row_size * n) (row_numbers row (link_of (data_token_at s.now rows.place).sort rows.end)) }
 {
-    let after = data_token_at(s, from);
-    let next = link_of(after.sort, end);
+    let after = data_token_at(s, rows.place);
+    let next = link_of(after.sort, rows.end);
     put_row(tape, n, row, next);
-    Member { end, after }
+    Member {
+        end: rows.end,
+        after,
+    }
 }
 
 // A block from behind its `<` on, of at most so many levels: its members from row n on.
@@ -71,7 +74,7 @@ pub fn read_block(
 }
 
 // The members of a block and its `>`; the blocks inside have at most so many levels.
-#[tactic(auto, using(crate::proofs::BlockSteps::members_start, crate::proofs::BlockSteps::members_close, crate::proofs::BlockSteps::members_fault, crate::proofs::BlockSteps::member_room, crate::proofs::BlockSteps::member_earlier, crate::proofs::BlockSteps::member_less, crate::proofs::BlockSteps::member_next, crate::proofs::BlockSteps::member_not))]
+#[tactic(auto, using(crate::proofs::BlockSteps::members_steps))]
 #[cycle(read_block_read_member_read_members)]
 fn read_members(
     s: &[u8],
@@ -99,7 +102,7 @@ fn read_members(
 }
 
 // A member of a block whose first row is `first`; its own row is n.
-#[tactic(auto, using(crate::proofs::BlockSteps::member_faulty, crate::proofs::BlockSteps::leaf_finish, crate::proofs::BlockSteps::leaf_member, crate::proofs::BlockSteps::block_room, crate::proofs::BlockSteps::block_refused, crate::proofs::BlockSteps::block_count, crate::proofs::BlockSteps::block_finish, crate::proofs::BlockSteps::block_member))]
+#[tactic(auto, using(crate::proofs::BlockSteps::member_steps))]
 #[cycle(read_block_read_member_read_members)]
 fn read_member(
     s: &[u8],
@@ -115,13 +118,16 @@ fn read_member(
 {
     match member_start(s, tape, first, n, t)? {
         Content::Leaf(leaf) => {
-            let row = Row::leaf(t, leaf);
-            Ok(finish(s, tape, n, row, n + 1, leaf.next))
+            let rows = Rows {
+                end: n + 1,
+                place: leaf.next,
+            };
+            Ok(finish(s, tape, n, Row::leaf(t, leaf), rows))
         }
         Content::Block(opening) => {
             let rows = read_block(s, levels, opening, tape, n + 1)?;
             let row = Row::block(t, opening, rows.end - (n + 1));
-            Ok(finish(s, tape, n, row, rows.end, rows.place))
+            Ok(finish(s, tape, n, row, rows))
         }
     }
 }

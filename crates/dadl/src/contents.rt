@@ -36,7 +36,6 @@ pub enum Content {
 }
 
 // A string, its quotes left out, and `>`.
-#[tactic(auto, using(crate::proofs::ContentSteps::string_long, crate::proofs::ContentSteps::string_unclosed, crate::proofs::ContentSteps::string_closed))]
 fn string_leaf(s: &[u8], place: usize, from: usize, t: Token) -> Result<Content, Refusal>
     requires token_is { TokenIs s.now from (data_token_at s.now from) t }
     requires behind { Behind s.now place from }
@@ -60,7 +59,6 @@ fn string_leaf(s: &[u8], place: usize, from: usize, t: Token) -> Result<Content,
 }
 
 // A good word and `>`.
-#[tactic(auto, using(crate::proofs::ContentSteps::word_bad, crate::proofs::ContentSteps::word_unclosed, crate::proofs::ContentSteps::word_closed))]
 fn word_leaf(s: &[u8], place: usize, from: usize, t: Token) -> Result<Content, Refusal>
     requires token_is { TokenIs s.now from (data_token_at s.now from) t }
     requires behind { Behind s.now place from }
@@ -80,7 +78,7 @@ fn word_leaf(s: &[u8], place: usize, from: usize, t: Token) -> Result<Content, R
 }
 
 // Behind a `<` with no type: a leaf where a string or a word follows, else a block.
-#[tactic(auto, using(crate::proofs::ContentSteps::less_string, crate::proofs::ContentSteps::less_word, crate::proofs::ContentSteps::less_block))]
+#[tactic(auto, using(crate::proofs::ContentSteps::less_string, crate::proofs::ContentSteps::less_word))]
 fn less_content(s: &[u8], place: usize, from: usize) -> Result<Content, Refusal>
     requires { Behind s.now place from }
     ensures { ContentIs s.now place (less_from s.now place from) result }
@@ -98,7 +96,7 @@ fn less_content(s: &[u8], place: usize, from: usize) -> Result<Content, Refusal>
 }
 
 // What stands behind a member's `=`.
-#[tactic(auto, using(crate::proofs::ContentSteps::content_untyped, crate::proofs::ContentSteps::content_typed, crate::proofs::ContentSteps::content_behind, crate::proofs::ContentSteps::content_less, crate::proofs::ContentSteps::content_fault))]
+#[tactic(auto, using(crate::proofs::ContentSteps::content_typed, crate::proofs::ContentSteps::content_behind, crate::proofs::ContentSteps::content_fault))]
 pub fn content_start(s: &[u8], from: usize) -> Result<Content, Refusal>
     requires { from ≤ length s.now }
     ensures { ContentIs s.now from (content_of s.now from) result }

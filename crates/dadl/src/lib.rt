@@ -32,7 +32,7 @@ pub struct DataText {
 
 // Reads a data text of at most so many levels: its first refusal, or its outermost block, the rows of whose members are then
 // on the tape.
-#[tactic(auto, using(crate::proofs::DataSteps::data_long, crate::proofs::DataSteps::data_shut, crate::proofs::DataSteps::data_room, crate::proofs::DataSteps::data_refused, crate::proofs::DataSteps::data_behind, crate::proofs::DataSteps::data_endless, crate::proofs::DataSteps::data_read))]
+#[tactic(auto, using(crate::proofs::DataSteps::data_long, crate::proofs::DataSteps::data_room, crate::proofs::DataSteps::data_behind, crate::proofs::DataSteps::data_read))]
 pub fn read_data(s: &[u8], levels: usize, tape: &mut [u16]) -> Result<DataText, Refusal>
     requires levels_le_level_limit { levels ≤ level_limit }
     requires tape_room { TapeRoom s.now tape.old }

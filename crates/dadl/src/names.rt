@@ -14,6 +14,7 @@ use refusals::steps::too_long;
 use refusals::{Cause, Refusal};
 
 // Whether bytes are a name of the rows from `first` on, from link to link, up to `end`.
+#[tactic(auto, using(crate::proofs::NameSteps::search_steps))]
 fn repeated(s: &[u8], tape: &[u16], first: usize, end: usize, name: &[u8]) -> bool
     requires { Earlier s.now tape.now first end }
     ensures { result ≡ listed name.now (earlier_names s.now tape.now first end) }
@@ -41,14 +42,8 @@ fn repeated(s: &[u8], tape: &[u16], first: usize, end: usize, name: &[u8]) -> bo
 }
 
 // A member's NAME and `=`: the place behind. The names before it are those of the rows from `first` on up to `end`.
-#[tactic(auto, using(crate::proofs::NameSteps::name_long, crate::proofs::NameSteps::name_again, crate::proofs::NameSteps::name_unclosed, crate::proofs::NameSteps::name_closed))]
-fn name_from(
-    s: &[u8],
-    tape: &[u16],
-    first: usize,
-    end: usize,
-    t: Token,
-) -> Result<usize, Refusal>
+#[tactic(auto, using(crate::proofs::NameSteps::name_long, crate::proofs::NameSteps::name_again))]
+fn name_from(s: &[u8], tape: &[u16], first: usize, end: usize, t: Token) -> Result<usize, Refusal>
     requires earlier { Earlier s.now tape.now first end }
     requires inside { Inside s.now t.start t.end }
     ensures { NameIs s.now t
@@ -65,7 +60,7 @@ fn name_from(
 }
 
 // A member up to its leaf's end, or up to the opening of its block.
-#[tactic(auto, using(crate::proofs::NameSteps::member_bad, crate::proofs::NameSteps::member_next, crate::proofs::NameSteps::member_content))]
+#[tactic(auto, using(crate::proofs::NameSteps::member_next))]
 pub fn member_start(
     s: &[u8],
     tape: &[u16],

@@ -55,7 +55,7 @@ pub fn expect_data(s: &[u8], sort: u8, from: usize) -> Result<Token, Refusal>
 }
 
 // Behind `(`: a TYPE and `)`.
-#[tactic(auto, using(crate::proofs::TokenSteps::type_fault, crate::proofs::TokenSteps::type_long, crate::proofs::TokenSteps::type_unclosed, crate::proofs::TokenSteps::type_closed))]
+#[tactic(auto, using(crate::proofs::TokenSteps::type_fault, crate::proofs::TokenSteps::type_long))]
 fn type_from(s: &[u8], from: usize) -> Result<TypeName, Refusal>
     requires { from ≤ length s.now }
     ensures { TypeIs s.now from (first_in (type_from s.now from)) result }
@@ -75,7 +75,7 @@ fn type_from(s: &[u8], from: usize) -> Result<TypeName, Refusal>
 }
 
 // Behind `(`: a TYPE, `)` and `<`.
-#[tactic(auto, using(crate::proofs::TokenSteps::typed_bad, crate::proofs::TokenSteps::typed_next, crate::proofs::TokenSteps::less_missing, crate::proofs::TokenSteps::less_there))]
+#[tactic(auto, using(crate::proofs::TokenSteps::typed_next, crate::proofs::TokenSteps::less_there))]
 pub fn typed_opening(s: &[u8], from: usize) -> Result<Opening, Refusal>
     requires { from ≤ length s.now }
     ensures { OpeningIs s.now from (typed_from s.now from) result }

@@ -273,20 +273,24 @@ abbrev pub data_wrote : {A : Type 0} → Result A Refusal → List ℕ → Wrote
 data_wrote (Err x) tape = record { answer = Err x; tape = [] }
 data_wrote (Ok a) tape = record { answer = Ok a; tape = tape }
 
+-- rows up to a row, and the place behind them
+abbrev pub rows_to : ℕ → ℕ → Rows
+rows_to end place = record { end = end; place = place }
+
 -- what finishing a member's row answers
-abbrev pub finished : List ℕ → ℕ → ℕ → Member
-finished s end from = record { end = end; after = data_token_at s from }
+abbrev pub finished : List ℕ → Rows → Member
+finished s rows = record { end = rows.end; after = data_token_at s rows.place }
 
 -- a row that can be finished
-pub record Finish (s : List ℕ) (n : ℕ) (row : Row) (rows from : ℕ) (tape : List ℕ) : Type 0 where
-  pub inside : from ≤ length s
-  pub fits : RowFits n row rows tape
+pub record Finish (s : List ℕ) (n : ℕ) (row : Row) (rows : Rows) (tape : List ℕ) : Type 0 where
+  pub inside : rows.place ≤ length s
+  pub fits : RowFits n row rows.end tape
 
 -- what reading a member at row n answers, and its rows on the tape
 abbrev pub member_written : List ℕ → Token → ℕ → List ℕ → Reading PlacedContent → Wrote Member
 member_written s t n tape (refused x) = record { answer = Err x; tape = [] }
 member_written s t n tape (got c q) = record {
-  answer = Ok (finished s (n + 1 + content_rows c) q);
+  answer = Ok (finished s (rows_to (n + 1 + content_rows c) q));
   tape =
       sets (sets tape (row_size * (n + 1)) (content_tape c (n + 1))) (row_size * n)
       (tape_row_of (span_of t) c (link_of (data_token_at s q).sort (n + 1 + content_rows c)));
@@ -315,7 +319,7 @@ pub record MemberIs (s : List ℕ) (levels : ℕ) (t : Token) (first n : ℕ) (b
 abbrev pub entries_written : ℕ → List ℕ → Reading Entries → Wrote Rows
 entries_written n tape (refused x) = record { answer = Err x; tape = [] }
 entries_written n tape (got ms p) = record {
-  answer = Ok (record { end = n + entry_rows ms; place = p });
+  answer = Ok (rows_to (n + entry_rows ms) p);
   tape = sets tape (row_size * n) (entries_tape ms n);
 }
 
