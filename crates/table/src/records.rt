@@ -5,7 +5,7 @@ ghost use Rattle.table.specs.Check.{kind_at};
 ghost use Rattle.table.specs.Clauses.Answers.{plain_entry, record_of, ordered_as, Opened};
 
 use crate::layout::{A_AT, B_AT, C_AT, D_AT, E_AT, FLAG_AT, KIND_AT, MARK, RECORD_SIZE};
-use crate::order::{get16, get32, swapped};
+use crate::order::{get16, get32};
 use refusals::limits::{POOL_LIMIT, RECORD_LIMIT};
 
 // The most records of a table and the most bytes of its pool, as the header holds them.
@@ -64,6 +64,7 @@ impl PoolPlace {
 }
 
 // The record at a place has its lowest bytes first.
+#[tactic(auto, using(crate::proofs::RecordSteps::record_steps))]
 pub fn is_little(s: &[u8], at: usize) -> bool
     requires { at + 2 ≤ length s.now }
     ensures { result ≡ is_little (drop at s.now) }
@@ -72,6 +73,7 @@ pub fn is_little(s: &[u8], at: usize) -> bool
 }
 
 // The record at a place bears one of the two marks.
+#[tactic(auto, using(crate::proofs::RecordSteps::record_steps))]
 pub fn is_marked(s: &[u8], at: usize) -> bool
     requires { at + 2 ≤ length s.now }
     ensures { result ≡ is_marked (drop at s.now) }
@@ -107,6 +109,7 @@ pub fn plain(kind: u8, flag: u8) -> Entry
 }
 
 // A record with the bytes of each number, the lowest first, taken in the order told. The order is tested once for all of them.
+#[tactic(auto, using(crate::proofs::RecordSteps::record_steps))]
 pub fn ordered(r: Entry, little: bool) -> Entry
     ensures { record_of result ≡ ordered_as little (record_of r) }
 {
@@ -116,11 +119,11 @@ pub fn ordered(r: Entry, little: bool) -> Entry
     Entry {
         kind: r.kind,
         flag: r.flag,
-        a: swapped(r.a),
-        b: swapped(r.b),
-        c: swapped(r.c),
-        d: swapped(r.d),
-        e: swapped(r.e),
+        a: r.a.swap_bytes(),
+        b: r.b.swap_bytes(),
+        c: r.c.swap_bytes(),
+        d: r.d.swap_bytes(),
+        e: r.e.swap_bytes(),
     }
 }
 
@@ -150,6 +153,7 @@ pub struct Frame {
 }
 
 // The counts in a table's header.
+#[tactic(auto, using(crate::proofs::FrameLaws::frame_steps))]
 pub fn frame_of(table: &[u8]) -> Frame
     requires { record_size ≤ length table.now }
     ensures { (result.count ≡ field (header table.now) 0)

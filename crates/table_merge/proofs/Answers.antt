@@ -25,7 +25,7 @@ pub record Joined (q : MergeRequest) (m : MergeReport) (out : List ℕ) : Type 0
   pub shifts_are : m.shifts ≡ shifts_by (image_of q.first)
   pub written_is : take m.length out ≡ bytes_of q.little (merged (image_of q.first) (image_of q.second))
 
-none_mapped : (table : ℕ) (f : Option Refusal) → map (of_table table) f ≡ None → f ≡ None
+pub none_mapped : (table : ℕ) (f : Option Refusal) → map (of_table table) f ≡ None → f ≡ None
 none_mapped table None h = refl
 none_mapped table (Some r) h = let z : ◌≡◌ {A = ℕ} 0 1 = cc in absurd (omega arith)
 

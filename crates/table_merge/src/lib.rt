@@ -111,6 +111,7 @@ fn check_table(table: &[u8], at: AtFault) -> Result<(), MergeRefusal>
 }
 
 // Two tables, merged into one whose numbers are in the order asked. The two may be the same bytes.
+#[tactic(auto, using(crate::proofs::MergeSteps::merge_steps))]
 pub fn merge(
     first: &[u8],
     second: &[u8],
