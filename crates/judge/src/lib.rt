@@ -3,7 +3,7 @@
 
 mod walk;
 
-ghost use Rattle.std.specs.Prelude.{◌≡◌, ◌≤◌, length};
+ghost use Rattle.std.specs.Prelude.{◌≡◌};
 ghost use Rattle.std.specs.Prelude.{None};
 ghost use Rattle.dadl.specs.Clauses.Answers.{TapeRoom};
 ghost use Rattle.table.specs.Records.{image_of};
@@ -13,11 +13,11 @@ ghost use Rattle.judge.specs.Judge.{under_root, judge_answer};
 ghost use Rattle.judge_admission.specs.Clauses.Items.{image_from, TableGood};
 ghost use Rattle.judge.specs.declared.Denial.TheVariants.{Refused, Failed};
 ghost use Rattle.judge.specs.Clauses.Answers.{answer_of};
-ghost use Rattle.judge.specs.Clauses.Walk.{short_text};
+ghost use Rattle.judge.specs.Clauses.Walk.{Roomy};
 
 use crate::walk::judge_block;
-use dadl::rows::{MEMBER_SIZE, ROW_SIZE};
 use dadl::read_data;
+use dadl::rows::{MEMBER_SIZE, ROW_SIZE};
 use judge_attributes::Failure;
 use judge_tape::members::Block;
 use refusals::limits::{LEVEL_LIMIT, RECORD_LIMIT, TEXT_LIMIT};
@@ -101,28 +101,21 @@ fn judge_on(
     Ok(())
 }
 
-// The same with a small tape, for a short text.
-fn judge_short(records: &[u8], pool: &[u8], root: RecordNumber, text: &[u8]) -> Result<(), Denial>
+// The same on a new tape of so many numbers.
+fn judge_in<const ROOM: usize>(
+    records: &[u8],
+    pool: &[u8],
+    root: RecordNumber,
+    text: &[u8],
+) -> Result<(), Denial>
     requires table_good { TableGood records.now pool.now }
     requires root_value { kind_at (image_from records.now pool.now) root.0 ≡ 1 }
-    requires text_len_bound { length text.now ≤ short_text }
+    requires tape_room { Roomy text.now ROOM }
     ensures { answer_of result
         ≡ under_root root.0 text.now
         (object_at (image_from records.now pool.now) root.0) }
 {
-    let mut tape = [0u16; SHORT_TAPE];
-    judge_on(records, pool, root, text, &mut tape)
-}
-
-// The same with the tape of the longest text.
-fn judge_long(records: &[u8], pool: &[u8], root: RecordNumber, text: &[u8]) -> Result<(), Denial>
-    requires table_good { TableGood records.now pool.now }
-    requires root_value { kind_at (image_from records.now pool.now) root.0 ≡ 1 }
-    ensures { answer_of result
-        ≡ under_root root.0 text.now
-        (object_at (image_from records.now pool.now) root.0) }
-{
-    let mut tape = [0u16; LONG_TAPE];
+    let mut tape = [0u16; ROOM];
     judge_on(records, pool, root, text, &mut tape)
 }
 
@@ -140,9 +133,10 @@ fn judge_checked(table: &[u8], root: RecordNumber, text: &[u8]) -> Result<(), De
     let records = &table[0..end];
     let pool = &table[end..];
     if text.len() <= SHORT_TEXT {
-        return judge_short(records, pool, root, text);
+        judge_in::<SHORT_TAPE>(records, pool, root, text)
+    } else {
+        judge_in::<LONG_TAPE>(records, pool, root, text)
     }
-    judge_long(records, pool, root, text)
 }
 
 // A data text by the object of a table with a number: the table is checked first, then the root, then the text is read,

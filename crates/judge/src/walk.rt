@@ -11,7 +11,7 @@ ghost use Rattle.judge_tape.specs.Clauses.Memo.{MemoGood};
 
 use dadl::rows::MEMBER_SIZE;
 use judge_admission::{entry_at, name_of};
-use judge_attributes::{Nested, Reason, Verdict, judge_attribute};
+use judge_attributes::{Reason, Verdict, judge_attribute};
 use judge_tape::members::Block;
 use judge_tape::memo::{enter, is_admitted, mark_chain, may_visit};
 use lexis::runs::same_bytes;
@@ -68,10 +68,7 @@ pub fn judge_block(
             return judge_with_memo(records, pool, s, tape, rows, levels, object, block);
         }
         let a = entry_at(records, RecordNumber(n));
-        if let Some(Nested {
-            object: inner,
-            block: part,
-        }) = judge_attribute(
+        if let Some(inner) = judge_attribute(
             records,
             pool,
             s,
@@ -91,8 +88,8 @@ pub fn judge_block(
                 memo,
                 visits,
                 levels - 1,
-                inner,
-                part,
+                inner.object,
+                inner.block,
             )?;
         }
         n = a.d;

@@ -12,7 +12,10 @@ ghost use Rattle.judge_admission.specs.Clauses.Items.{name_of, range_sort, recor
 ghost use Rattle.judge_admission.specs.Clauses.Answers.{finding_of, finding_under, is_admitted, item_admits};
 
 use lexis::runs::same_bytes;
-use table::layout::{BOOLEAN_KIND, DATE_KIND, DATE_PATTERN_KIND, DURATION_PATTERN_KIND, INTEGER_KIND, KIND_AT, STRING_KIND, TIME_PATTERN_KIND};
+use table::layout::{
+    BOOLEAN_KIND, DATE_KIND, DATE_PATTERN_KIND, DURATION_PATTERN_KIND, INTEGER_KIND, KIND_AT,
+    STRING_KIND, TIME_PATTERN_KIND,
+};
 use table::records::{Entry, RecordNumber, read};
 use values::dates::date_of;
 use values::durations::duration_of;

@@ -36,13 +36,13 @@ use Rattle.judge_tape.proofs.MemoLaws.{records_few, memo_entered, memo_listed}
 
 -- the kinds of items of lists
 module _ (k : ℕ) where
-  pub listed-integer : k ≡ 4 → true ≡ is_listed (shape_of k)
+  pub listed_integer : k ≡ 4 → true ≡ is_listed (shape_of k)
   unfolding shape_of
-  listed-integer h = rw h
+  listed_integer h = rw h
 
-  pub listed-string : k ≡ 5 → true ≡ is_listed (shape_of k)
+  pub listed_string : k ≡ 5 → true ≡ is_listed (shape_of k)
   unfolding shape_of
-  listed-string h = rw h
+  listed_string h = rw h
 
   not_listed : (k ≡ 4 → ⊥) → (k ≡ 5 → ⊥) → (k ≡ 7 → ⊥) → (s : Shape) → (is_known s ≡ true → k ≡ kind_of s)
       → false ≡ is_listed s
@@ -54,17 +54,11 @@ module _ (k : ℕ) where
   not_listed f g h (range integers) e = absurd (f (e refl))
   not_listed f g h (range dates) e = absurd (h (e refl))
 
-  pub listed-date : (k ≡ 4 → ⊥) → (k ≡ 5 → ⊥) → eqb k 7 ≡ is_listed (shape_of k)
-  listed-date f g =
-      by (eqb k 7) (λ b. date (eqb-true k 7 b)) (λ b. not_listed f g (eqb-false k 7 b) (shape_of k) (kind_shape k))
-    where
-      by : (b : Bool) → (b ≡ true → true ≡ is_listed (shape_of k)) → (b ≡ false → false ≡ is_listed (shape_of k))
-          → b ≡ is_listed (shape_of k)
-      by true x y = x refl
-      by false x y = y refl
+  pub listed_date : k ≡ 7 → true ≡ is_listed (shape_of k)
+  listed_date e = ap (λ s. is_listed s) (sym (shape_kind (range dates))) ∙ ap (λ j. is_listed (shape_of j)) (sym e)
 
-      date : k ≡ 7 → true ≡ is_listed (shape_of k)
-      date e = ap (λ s. is_listed s) (sym (shape_kind (range dates))) ∙ ap (λ j. is_listed (shape_of j)) (sym e)
+  pub unlisted : (k ≡ 4 → ⊥) → (k ≡ 5 → ⊥) → (k ≡ 7 → ⊥) → false ≡ is_listed (shape_of k)
+  unlisted f g h = not_listed f g h (shape_of k) (kind_shape k)
 
 -- the visits that are left
 module _ (room left : ℕ) where

@@ -69,9 +69,9 @@ module _ (b k : ℕ) (m : k < 8) (t : Bool) (e : t ≡ bit_of b k) where
   bit_room l h = bit_added b k l m (sym e ∙ h)
 
 -- a bit of the memo
-pub marked-inside : (memo : List ℕ) (i : ℕ) (r : Bool) → r ≡ bit_of (get_or memo (i / 8) 0) (i % 8) → r ≡ marked memo i
+pub marked_inside : (memo : List ℕ) (i : ℕ) (r : Bool) → r ≡ bit_of (get_or memo (i / 8) 0) (i % 8) → r ≡ marked memo i
 unfolding marked
-marked-inside memo i r e = e
+marked_inside memo i r e = e
 
 pub no_bit : (k : ℕ) → k < 8 → bit_of 0 k ≡ false
 no_bit k l = not-true (bit_of 0 k) (below 8 (λ i. not (bit_of 0 i)) refl k l)

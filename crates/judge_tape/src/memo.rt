@@ -31,25 +31,21 @@ fn has_bit(b: u8, k: usize) -> bool
 }
 
 // A byte with bit k set.
+#[tactic(auto, using(crate::proofs::MemoSteps::bit_there, crate::proofs::MemoSteps::bit_not, crate::proofs::MemoSteps::bit_room))]
 fn with_bit(b: u8, k: usize) -> u8
     requires { k < 8 }
     ensures { result ≡ with_bit b k }
 {
-    if has_bit(b, k) {
-        return b;
-    }
-    b + (1 << k)
+    if has_bit(b, k) { b } else { b + (1 << k) }
 }
 
 // The bit with a number is set; none is behind the memo's end.
+#[tactic(auto, using(crate::proofs::MemoSteps::marked_inside, crate::proofs::MemoSteps::marked_outside))]
 fn is_marked(memo: &[u8], i: usize) -> bool
     ensures { result ≡ marked memo.now i }
 {
     let at = i / 8;
-    if at < memo.len() {
-        return has_bit(memo[at], i % 8);
-    }
-    false
+    at < memo.len() && has_bit(memo[at], i % 8)
 }
 
 // Sets the bit with a number, if it is not behind the memo's end.
@@ -99,17 +95,12 @@ pub fn enter(records: &[u8], memo: &mut [u8], block: Block) -> Visit
 }
 
 // No attribute is left, or those from the one with a number on are known to admit the block.
+#[tactic(auto, using(crate::proofs::MemoSteps::none_left, crate::proofs::MemoSteps::visit_again, crate::proofs::MemoSteps::visit_first))]
 pub fn is_admitted(memo: &[u8], visit: Visit, n: u32) -> bool
     requires { visit.base ≤ 8388608 }
     ensures { result ≡ admitted_in memo.now visit n }
 {
-    if n == 0 {
-        return true;
-    }
-    if visit.again {
-        return is_marked(memo, pair(visit, n));
-    }
-    false
+    n == 0 || visit.again && is_marked(memo, pair(visit, n))
 }
 
 // Marks the attributes from a record on as admitting the block, up to the first that is marked; on a block's first visit
@@ -145,32 +136,22 @@ pub fn may_visit(memo: &[u8], visits: &mut u32) -> bool
 }
 
 // The kind is that of an item of a list.
+#[tactic(auto, using(crate::proofs::ListSteps::listed_integer, crate::proofs::ListSteps::listed_string, crate::proofs::ListSteps::listed_date, crate::proofs::ListSteps::unlisted))]
 fn is_listed(kind: u8) -> bool
     ensures { result ≡ is_listed (shape_of kind) }
 {
-    if kind == INTEGER_KIND {
-        return true;
-    }
-    if kind == STRING_KIND {
-        return true;
-    }
-    kind == DATE_KIND
+    matches!(kind, INTEGER_KIND | STRING_KIND | DATE_KIND)
 }
 
 // An item admits a value by itself, or the item next to it is marked.
+#[tactic(auto, using(crate::proofs::ListSteps::leads_alone, crate::proofs::ListSteps::leads_none, crate::proofs::ListSteps::leads_next))]
 fn leads_in(pool: &[u8], memo: &[u8], base: usize, e: Entry, value: &[u8], is_string: bool) -> bool
     requires named_record { NamedRecord pool.now (record_of e) }
     requires base_bound { base ≤ 8388608 }
     ensures { result
         ≡ leads_in pool.now memo.now base (record_of e) is_string value.now }
 {
-    if item_admits(pool, e, value, is_string) {
-        return true;
-    }
-    if e.e == 0 {
-        return false;
-    }
-    is_marked(memo, base + (e.e as usize))
+    item_admits(pool, e, value, is_string) || e.e != 0 && is_marked(memo, base + (e.e as usize))
 }
 
 // Marks the item with a number if those from it on admit the value of a row.
@@ -192,10 +173,8 @@ fn mark_item(
         value.now memo.new }
 {
     let e = entry_at(records, n);
-    if is_listed(e.kind) {
-        if leads_in(pool, memo, base, e, value, is_string) {
-            mark(memo, base + (n.0 as usize));
-        }
+    if is_listed(e.kind) && leads_in(pool, memo, base, e, value, is_string) {
+        mark(memo, base + (n.0 as usize));
     }
 }
 
@@ -215,9 +194,7 @@ fn mark_items(
     ensures items_marked { ItemsMarked records.now pool.now memo.old base is_string
         value.now memo.new }
 {
-    let mut n = record_count(records);
-    while 1 < n {
-        n -= 1;
+    for n in (1..record_count(records)).rev() {
         mark_item(
             records,
             pool,

@@ -1,5 +1,5 @@
 -- `judge::judge_checked` meets its contract. Assumes nothing.
-use borrow.Author.Rules.{rules}
+use native.Mathlib.Omega.{arith}
 use Rattle.judge.proofs.JudgeSteps.{root_none, records_end, parts_good, parts_kind, parts_judged}
 use Rattle.table.proofs.NameSteps.{sound_long, sound_open}
 use Rattle.judge.proofs.judge_checked.Goals as goal
@@ -23,14 +23,14 @@ slice_bounds-pool-count c = search records_end
 pub slice_bounds-pool-start : goal.slice_bounds-pool-start
 slice_bounds-pool-start c = search records_end
 
-pub judge_short-requires : goal.judge_short-requires
-judge_short-requires c = record { table_good = search parts_good; root_value = search parts_kind; text_len_bound = search rules }
+pub judge_in-requires : goal.judge_in-requires
+judge_in-requires c = record { table_good = search parts_good; root_value = search parts_kind; tape_room = record { enough = λ h. omega arith } }
 
 pub returns-then-text-le-SHORT_TEXT : goal.returns-then-text-le-SHORT_TEXT
 returns-then-text-le-SHORT_TEXT c = search parts_judged
 
-pub judge_long-requires : goal.judge_long-requires
-judge_long-requires c = record { table_good = search parts_good; root_value = search parts_kind }
+pub judge_in-requires-2 : goal.judge_in-requires-2
+judge_in-requires-2 c = record { table_good = search parts_good; root_value = search parts_kind; tape_room = record { enough = λ h. omega arith } }
 
-pub returns : goal.returns
-returns c = search parts_judged
+pub returns-else-text-le-SHORT_TEXT : goal.returns-else-text-le-SHORT_TEXT
+returns-else-text-le-SHORT_TEXT c = search parts_judged
