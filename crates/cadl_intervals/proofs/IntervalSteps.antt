@@ -40,49 +40,45 @@ use Rattle.cadl_intervals.proofs.IntervalParts.{literal_is, up_is, above_is, spr
 use Rattle.cadl_intervals.proofs.IntervalReading.{Open, Shut, between-ordered, interval-ordered}
 
 -- a literal
-module _ (s : List ℕ) (kind at : ℕ) (r : Result Token Refusal) (e : ExpectIs s kind at (expect s kind at) r) where
-  pub literal_missing : (x : Refusal) → r ≡ Err x → LiteralIs s kind at (Err x)
-  literal_missing x g = record { is = rw (literal_is s kind at, expected_fault e x g); past = tt }
+module _ (s : List ℕ) (kind at : ℕ) where
+  pub literal_missing : (x : Refusal) → ExpectIs s kind at (expect s kind at) (Err x) → LiteralIs s kind at (Err x)
+  literal_missing x e = record { is = rw (literal_is s kind at, expected_fault e x refl); past = tt }
 
-  module _ (t : Token) (g : r ≡ Ok t) (n : Option ℕ) (v : n ≡ literal_value kind (part s t.start t.end)) where
-    pub literal_none : n ≡ None → LiteralIs s kind at (Err (refusal Impossible t.start))
-    literal_none h = let o : literal_value kind (part s t.start t.end) ≡ None = sym v ∙ h in record { is = rw (literal_is s kind at, expected_token e t g, o); past = tt }
+  module _ (t : Token) (e : ExpectIs s kind at (expect s kind at) (Ok t)) where
+    pub literal_none : None ≡ literal_value kind (part s t.start t.end) → LiteralIs s kind at (Err (refusal Impossible t.start))
+    literal_none o = record { is = rw (literal_is s kind at, expected_token e t refl, ← o); past = tt }
 
-    pub literal_there : (value : ℕ) → n ≡ Some value → LiteralIs s kind at (Ok (record { value = value; next = t.end }))
-    literal_there value h =
-        let o : literal_value kind (part s t.start t.end) ≡ Some value = sym v ∙ h in
-        let m : t.end ≤ length s = let p = expected_past e t g in omega arith in
+    pub literal_there : (l : Literal) → l.next ≡ t.end → Some l.value ≡ literal_value kind (part s t.start t.end) → LiteralIs s kind at (Ok l)
+    literal_there l n o =
+        let m : t.end ≤ length s = let p = expected_past e t refl in omega arith in
         record {
-          is = rw (literal_is s kind at, expected_token e t g, o);
-          past = (λ k. real_last value ((value_read kind (part s t.start t.end) value o).day k), m);
+          is = rw (literal_is s kind at, expected_token e t refl, ← o, n);
+          past = (λ k. real_last l.value ((value_read kind (part s t.start t.end) l.value (sym o)).day k), rw n m);
         }
 
 -- what a literal's answer says of the definition
-module _ {s : List ℕ} {kind at : ℕ} {r : Result Literal Refusal} (e : LiteralIs s kind at r) where
-  pub literal_refused : (x : Refusal) → r ≡ Err x → literal s kind at ≡ refused x
-  literal_refused x g = sym e.is ∙ ap literal_reading g
+module _ {s : List ℕ} {kind at : ℕ} where
+  pub literal_refused : (x : Refusal) → LiteralIs s kind at (Err x) → literal s kind at ≡ refused x
+  literal_refused x e = sym e.is
 
-  pub literal_got : (l : Literal) → r ≡ Ok l → literal s kind at ≡ got l.value l.next
-  literal_got l g = sym e.is ∙ ap literal_reading g
-
-  pub literal_past : (l : Literal) → r ≡ Ok l → LiteralPast s kind (Ok l)
-  literal_past l g = rw g at e.past
+  pub literal_got : (l : Literal) → LiteralIs s kind at (Ok l) → literal s kind at ≡ got l.value l.next
+  literal_got l e = sym e.is
 
 -- the high end behind `..`
-module _ (s : List ℕ) (kind low at : ℕ) (t : Token) (tok : TokenIs s at (token_at s at) t) (r : Result Literal Refusal) where
-  module _ (k : t.sort ≡ less) (e : LiteralIs s kind t.end r) where
-    pub below_faulty : (x : Refusal) → r ≡ Err x → refused x ≡ up_to s kind low at
-    below_faulty x g = rw (up_is s kind low at, ← tok.is, eq-eqb t.sort less k, literal_refused e x g)
+module _ (s : List ℕ) (kind low at : ℕ) (t : Token) (tok : TokenIs s at (token_at s at) t) where
+  module _ (k : t.sort ≡ less) where
+    pub below_faulty : (x : Refusal) → LiteralIs s kind t.end (Err x) → refused x ≡ up_to s kind low at
+    below_faulty x e = rw (up_is s kind low at, ← tok.is, eq-eqb t.sort less k, literal_refused x e)
 
-    pub below_there : (l : Literal) → r ≡ Ok l → got (ends kind low l.value true) l.next ≡ up_to s kind low at
-    below_there l g = rw (up_is s kind low at, ← tok.is, eq-eqb t.sort less k, literal_got e l g)
+    pub below_there : (l : Literal) → LiteralIs s kind t.end (Ok l) → got (ends kind low l.value true) l.next ≡ up_to s kind low at
+    below_there l e = rw (up_is s kind low at, ← tok.is, eq-eqb t.sort less k, literal_got l e)
 
-  module _ (n : t.sort ≡ less → ⊥) (e : LiteralIs s kind at r) where
-    pub up_faulty : (x : Refusal) → r ≡ Err x → refused x ≡ up_to s kind low at
-    up_faulty x g = rw (up_is s kind low at, ← tok.is, ne_eqb t.sort less n, literal_refused e x g)
+  module _ (n : t.sort ≡ less → ⊥) where
+    pub up_faulty : (x : Refusal) → LiteralIs s kind at (Err x) → refused x ≡ up_to s kind low at
+    up_faulty x e = rw (up_is s kind low at, ← tok.is, ne_eqb t.sort less n, literal_refused x e)
 
-    pub up_there : (l : Literal) → r ≡ Ok l → got (ends kind low l.value false) l.next ≡ up_to s kind low at
-    up_there l g = rw (up_is s kind low at, ← tok.is, ne_eqb t.sort less n, literal_got e l g)
+    pub up_there : (l : Literal) → LiteralIs s kind at (Ok l) → got (ends kind low l.value false) l.next ≡ up_to s kind low at
+    up_there l e = rw (up_is s kind low at, ← tok.is, ne_eqb t.sort less n, literal_got l e)
 
 -- behind `|>a`
 module _ (s : List ℕ) (kind a low at : ℕ) (m : low ≡ after kind a) (t : Token)
@@ -96,18 +92,17 @@ module _ (s : List ℕ) (kind a low at : ℕ) (m : low ≡ after kind a) (t : To
   above_open n high h = rw (above_is s kind a at, ← tok.is, ne_eqb t.sort dots n, ← m, h)
 
 -- the d of `+/-`
-module _ (s : List ℕ) (a at : ℕ) (t : Token) (tok : TokenIs s at (token_at s at) t) (r : Result Literal Refusal)
-    (e : LiteralIs s integer at r) where
-  pub spread_faulty : (x : Refusal) → r ≡ Err x → refused x ≡ spread s a at
-  spread_faulty x g = rw (spread_is s a at, literal_refused e x g)
+module _ (s : List ℕ) (a at : ℕ) (t : Token) (tok : TokenIs s at (token_at s at) t) where
+  pub spread_faulty : (x : Refusal) → LiteralIs s integer at (Err x) → refused x ≡ spread s a at
+  spread_faulty x e = rw (spread_is s a at, literal_refused x e)
 
-  module _ (d : Literal) (g : r ≡ Ok d) (b : Bool) (h : b ≡ inside a d.value) where
-    pub spread_outside : b ≡ false → refused (refusal OutOfRange t.start) ≡ spread s a at
-    spread_outside k = rw (spread_is s a at, literal_got e d g, ← h, k, ← tok.is)
+  module _ (d : Literal) (e : LiteralIs s integer at (Ok d)) where
+    pub spread_outside : false ≡ inside a d.value → refused (refusal OutOfRange t.start) ≡ spread s a at
+    spread_outside k = rw (spread_is s a at, literal_got d e, ← k, ← tok.is)
 
-    pub spread_ends : b ≡ true → (l m low : ℕ) → pair l m ≡ around a d.value → low ≡ l
+    pub spread_ends : true ≡ inside a d.value → (l m low : ℕ) → pair l m ≡ around a d.value → low ≡ l
         → got (ends integer low m false) d.next ≡ spread s a at
-    spread_ends k l m low o q = rw (spread_is s a at, literal_got e d g, ← h, k, ← o, q)
+    spread_ends k l m low o q = rw (spread_is s a at, literal_got d e, ← k, ← o, q)
 
 -- behind `|a`
 module _ (s : List ℕ) (kind a at : ℕ) (t : Token) (tok : TokenIs s at (token_at s at) t) where
@@ -153,17 +148,16 @@ module _ (s : List ℕ) (mark kind a at : ℕ) where
   by_none g l m n r e = rw (ne_eqb mark greater g, ne_eqb mark less l, ne_eqb mark at_most m, ne_eqb mark at_least n) e
 
 -- the literal, and what it makes
-module _ (s : List ℕ) (kind mark at : ℕ) (t : Token) (tok : TokenIs s at (token_at s at) t) (k : ℕ)
-    (f : k ≡ kind_by kind t) (r : Result Literal Refusal) (e : LiteralIs s k at r) where
+module _ (s : List ℕ) (kind mark at : ℕ) (t : Token) (tok : TokenIs s at (token_at s at) t) (k : ℕ) (f : k ≡ kind_by kind t) where
   kind_is : k ≡ kind_by kind (token_at s at)
   kind_is = f ∙ ap (kind_by kind) tok.is
 
-  pub with_faulty : (x : Refusal) → r ≡ Err x → refused x ≡ with_literal s kind at (ends_by s mark)
-  with_faulty x g = rw (← kind_is, literal_refused e x g)
+  pub with_faulty : (x : Refusal) → LiteralIs s k at (Err x) → refused x ≡ with_literal s kind at (ends_by s mark)
+  with_faulty x e = rw (← kind_is, literal_refused x e)
 
-  pub with_ends : (l : Literal) → r ≡ Ok l → (o : Result Ends Refusal) → ends_reading o ≡ ends_by s mark k l.value l.next
+  pub with_ends : (l : Literal) → LiteralIs s k at (Ok l) → (o : Result Ends Refusal) → ends_reading o ≡ ends_by s mark k l.value l.next
       → ends_reading o ≡ with_literal s kind at (ends_by s mark)
-  with_ends l g o d = rw (← kind_is, literal_got e l g) d
+  with_ends l e o d = rw (← kind_is, literal_got l e) d
 
 -- between the bars, by the sort of the first token
 abbrev chosen : List ℕ → ℕ → ℕ → ℕ → ℕ → Reading text.Ends
@@ -226,37 +220,33 @@ interval_past s kind at h (Ok i) e =
     (o.most, λ m. o.kind)
 
 -- an interval
-module _ (s : List ℕ) (kind at : ℕ) (d : At s kind at) (r : Result Ends Refusal) (e : ends_reading r ≡ between s kind at) where
-  pub interval_faulty : (x : Refusal) → r ≡ Err x → IntervalIs s (interval s kind at) (Err x)
-  interval_faulty x g = let h : between s kind at ≡ refused x = sym e ∙ ap ends_reading g in record { is = rw (interval_is s kind at, h); past = tt }
+module _ (s : List ℕ) (kind at : ℕ) where
+  pub interval_faulty : (x : Refusal) → refused x ≡ between s kind at → IntervalIs s (interval s kind at) (Err x)
+  interval_faulty x e = record { is = rw (interval_is s kind at, ← e); past = tt }
 
-  module _ (a : Ends) (g : r ≡ Ok a) where
-    ends_got : between s kind at ≡ got (ends_of a) a.next
-    ends_got = sym e ∙ ap ends_reading g
-
+  module _ (a : Ends) (e : got (ends_of a) a.next ≡ between s kind at) (d : At s kind at) where
     ends_open : Open s kind (at + 1) true 0 (ends_of a) a.next
     unfolding between Holds
-    ends_open = rw ends_got at (ordered_holds s _ true 0 _ (between-ordered s kind d.asked true 0 at (omega arith) d.inside))
+    ends_open = rw (sym e) at (ordered_holds s _ true 0 _ (between-ordered s kind d.asked true 0 at (omega arith) d.inside))
 
     pub ends_inside : a.next ≤ length s
     ends_inside = ends_open.most
 
-    pub ends_some : empty (ends_of a) ≡ false → NotEmpty a
+    pub ends_some : false ≡ empty (ends_of a) → NotEmpty a
     ends_some h = record {
-      some = h;
+      some = sym h;
       day = λ z l. let g = ends_open.good refl in let m = real_last (value_of a.high) (g.high.day z) in let q = real_first a.low (g.low z (omega arith)) in omega arith;
     }
 
-    module _ (b : Result Token Refusal) (f : ExpectIs s bar a.next (expect s bar a.next) b) where
-      pub bar_missing : (x : Refusal) → b ≡ Err x → IntervalIs s (interval s kind at) (Err x)
-      bar_missing x h = record { is = rw (interval_is s kind at, ends_got, expected_fault f x h); past = tt }
+    pub bar_missing : (x : Refusal) → ExpectIs s bar a.next (expect s bar a.next) (Err x) → IntervalIs s (interval s kind at) (Err x)
+    bar_missing x f = record { is = rw (interval_is s kind at, ← e, expected_fault f x refl); past = tt }
 
-      module _ (t : Token) (h : b ≡ Ok t) where
-        pub bar_empty : empty (ends_of a) ≡ true → IntervalIs s (interval s kind at) (Err (refusal EmptyInterval t.start))
-        bar_empty k = record { is = rw (interval_is s kind at, ends_got, expected_token f t h, k); past = tt }
+    module _ (t : Token) (f : ExpectIs s bar a.next (expect s bar a.next) (Ok t)) where
+      pub bar_empty : true ≡ empty (ends_of a) → IntervalIs s (interval s kind at) (Err (refusal EmptyInterval t.start))
+      bar_empty k = record { is = rw (interval_is s kind at, ← e, expected_token f t refl, ← k); past = tt }
 
-        pub bar_closed : empty (ends_of a) ≡ false → (i : Interval) → interval_reading (Ok i) ≡ got (shut a.kind (closed (ends_of a))) t.end
-            → IntervalIs s (interval s kind at) (Ok i)
-        bar_closed k i m =
-            let z : interval_reading (Ok i) ≡ interval s kind at = rw (interval_is s kind at, ends_got, expected_token f t h, k) m in
-            record { is = z; past = interval_past s kind at d (Ok i) z }
+      pub bar_closed : false ≡ empty (ends_of a) → (i : Interval) → interval_reading (Ok i) ≡ got (shut a.kind (closed (ends_of a))) t.end
+          → IntervalIs s (interval s kind at) (Ok i)
+      bar_closed k i m =
+          let z : interval_reading (Ok i) ≡ interval s kind at = rw (interval_is s kind at, ← e, expected_token f t refl, ← k) m in
+          record { is = z; past = interval_past s kind at d (Ok i) z }

@@ -216,7 +216,7 @@ fn ends_by(s: &[u8], mark: u8, kind: u8, a: u32, next: usize) -> Result<Ends, Re
 }
 
 // A literal of the kind asked for, or of either where that is open, and what it makes behind a mark.
-#[tactic(auto, using(crate::proofs::IntervalSteps::with_faulty, crate::proofs::IntervalSteps::with_ends, crate::proofs::IntervalSteps::literal_past))]
+#[tactic(auto, using(crate::proofs::IntervalSteps::with_faulty, crate::proofs::IntervalSteps::with_ends))]
 fn with_literal(s: &[u8], kind: u8, mark: u8, at: usize) -> Result<Ends, Refusal>
     requires { at ≤ length s.now }
     ensures { ends_reading result ≡ with_literal s.now kind at (ends_by s.now mark) }

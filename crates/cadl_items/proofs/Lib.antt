@@ -4,5 +4,8 @@ pub mod RangeReading
 pub mod LeafReading
 pub mod SpanSteps
 pub mod ItemLaws
+pub mod RangeSteps
+pub mod StringSteps
+pub mod LeafSteps
 pub mod Computes
 pub mod Examples

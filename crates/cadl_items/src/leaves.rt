@@ -5,7 +5,7 @@ ghost use Rattle.lexis.specs.Clauses.Answers.{TokenIs};
 ghost use Rattle.cadl_items.specs.Leaves.{is_boolean, boolean_flag};
 ghost use Rattle.cadl_items.specs.Clauses.Told.{leaf};
 ghost use Rattle.cadl_items.specs.Clauses.Answers.{LeafRoom, LeafIs};
-ghost use Rattle.cadl_items.specs.Clauses.Items.{ListRoom, second_by, booleans_by, EveryIs, OneIs, room, pattern, single_leaf, ranges_leaf, string_leaf};
+ghost use Rattle.cadl_items.specs.Clauses.Items.{ListRoom, second_by, booleans_by, EveryIs, OneIs, pattern, single_leaf, ranges_leaf, string_leaf};
 
 use crate::ranges::read_ranges;
 use crate::spans::SCRATCH_ROOM;
@@ -86,6 +86,7 @@ fn boolean_flag(t: Token) -> u8
 }
 
 // The second Boolean, behind a comma.
+#[tactic(auto, using(crate::proofs::LeafSteps::second_other, crate::proofs::LeafSteps::second_same, crate::proofs::LeafSteps::second_both))]
 fn second_boolean(s: &[u8], flag: u8, from: usize) -> Result<Leaf, Refusal>
     requires { from ≤ length s.now }
     ensures { EveryIs s.now (second_by s.now flag from) result }
@@ -105,6 +106,7 @@ fn second_boolean(s: &[u8], flag: u8, from: usize) -> Result<Leaf, Refusal>
 }
 
 // Booleans, the first of which is the token.
+#[tactic(auto, using(crate::proofs::LeafSteps::list_second, crate::proofs::LeafSteps::list_one))]
 fn boolean_list(s: &[u8], t: Token) -> Result<Leaf, Refusal>
     requires { t.end ≤ length s.now }
     ensures { EveryIs s.now (booleans_by s.now t) result }
@@ -121,21 +123,13 @@ fn boolean_list(s: &[u8], t: Token) -> Result<Leaf, Refusal>
     })
 }
 
-// There is room for a leaf's record.
-fn room(number: usize, place: usize) -> Result<(), Refusal>
-    ensures { result ≡ room number place }
-{
-    if number == RECORD_LIMIT {
-        return Err(Cause::TooManyRecords.at(place));
-    }
-    Ok(())
-}
-
-// A pattern.
+// A pattern, if there is room for its record.
 fn pattern_leaf(number: usize, t: Token, sort: SingleSort, flag: u8) -> Result<Leaf, Refusal>
     ensures { result ≡ pattern number t sort flag }
 {
-    room(number, t.start)?;
+    if number == RECORD_LIMIT {
+        return Err(Cause::TooManyRecords.at(t.start));
+    }
     Ok(Leaf::Single {
         sort,
         flag,
@@ -144,16 +138,19 @@ fn pattern_leaf(number: usize, t: Token, sort: SingleSort, flag: u8) -> Result<L
 }
 
 // A leaf of one record: Booleans or a pattern, whose first token is t.
+#[tactic(auto, using(crate::proofs::LeafSteps::single_full, crate::proofs::LeafSteps::single_boolean, crate::proofs::LeafSteps::single_date, crate::proofs::LeafSteps::single_time, crate::proofs::LeafSteps::single_duration, crate::proofs::LeafSteps::single_other))]
 fn single_leaf(s: &[u8], number: usize, t: Token) -> Result<Leaf, Refusal>
     requires { t.end ≤ length s.now }
     ensures { OneIs s.now number (single_leaf s.now number t) result }
 {
+    if is_boolean(t) {
+        if number == RECORD_LIMIT {
+            return Err(Cause::TooManyRecords.at(t.start));
+        }
+        return boolean_list(s, t);
+    }
     let sort = t.sort;
     match sort {
-        TRUE_WORD | FALSE_WORD => {
-            room(number, t.start)?;
-            boolean_list(s, t)
-        }
         FIRST_DATE_PATTERN..=LAST_DATE_PATTERN => {
             pattern_leaf(number, t, SingleSort::DatePattern, sort - DATE_PATTERN)
         }
@@ -171,6 +168,7 @@ fn single_leaf(s: &[u8], number: usize, t: Token) -> Result<Leaf, Refusal>
 }
 
 // A list of integers or of dates.
+#[tactic(auto, using(crate::proofs::LeafSteps::range_faulty, crate::proofs::LeafSteps::range_dates, crate::proofs::LeafSteps::range_integers))]
 fn range_leaf(
     s: &[u8],
     number: usize,
@@ -195,6 +193,7 @@ fn range_leaf(
 }
 
 // A list of strings.
+#[tactic(auto, using(crate::proofs::LeafSteps::strings_faulty, crate::proofs::LeafSteps::strings_there))]
 fn string_leaf(
     s: &[u8],
     number: usize,
@@ -213,6 +212,7 @@ fn string_leaf(
 }
 
 // A leaf from a place on, whose first token is t, given the next record's number.
+#[tactic(auto, using(crate::proofs::LeafSteps::leaf_integers, crate::proofs::LeafSteps::leaf_intervals, crate::proofs::LeafSteps::leaf_strings, crate::proofs::LeafSteps::leaf_single))]
 pub fn read_leaf(
     s: &[u8],
     number: usize,

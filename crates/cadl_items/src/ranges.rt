@@ -48,6 +48,7 @@ fn value_follows(sort: u8, kind: u8) -> bool
 }
 
 // The first token of an integer or date item.
+#[tactic(auto, using(crate::proofs::RangeSteps::start_bar, crate::proofs::RangeSteps::start_other, crate::proofs::RangeSteps::start_faulty, crate::proofs::RangeSteps::start_value))]
 fn read_start(s: &[u8], kind: u8, from: usize) -> Result<Start, Refusal>
     requires { from ≤ length s.now }
     ensures { start_reading result ≡ start s.now kind from }
@@ -72,6 +73,7 @@ fn read_start(s: &[u8], kind: u8, from: usize) -> Result<Start, Refusal>
 }
 
 // The first token of an item, if there is room for one more item and one more record.
+#[tactic(auto, using(crate::proofs::RangeSteps::room_faulty, crate::proofs::RangeSteps::room_items, crate::proofs::RangeSteps::room_records, crate::proofs::RangeSteps::room_there))]
 fn roomy_start(
     s: &[u8],
     kind: u8,
@@ -116,6 +118,7 @@ fn meet(low: u32, high: u32, a: u32, b: u32) -> bool
 }
 
 // The pair overlaps one of the first items.
+#[tactic(auto, using(crate::proofs::RangeSteps::pairs_start, crate::proofs::RangeSteps::pairs_on, crate::proofs::RangeSteps::pairs_meet))]
 fn overlaps(scratch: &[u32], count: usize, low: u32, high: u32) -> bool
     requires { 2 * count ≤ length scratch.now }
     ensures { result ≡ overlaps (pair low high) (pairs_of scratch.now count) }
@@ -129,6 +132,7 @@ fn overlaps(scratch: &[u32], count: usize, low: u32, high: u32) -> bool
 }
 
 // Puts an item into the scratch, if it overlaps none, and looks for a comma behind it.
+#[tactic(auto, using(crate::proofs::RangeSteps::keep_overlap, crate::proofs::RangeSteps::keep_more, crate::proofs::RangeSteps::keep_last))]
 fn keep_range(
     s: &[u8],
     number: usize,
@@ -159,6 +163,7 @@ fn keep_range(
 }
 
 // An item of a list behind so many others.
+#[tactic(auto, using(crate::proofs::RangeSteps::step_faulty, crate::proofs::RangeSteps::step_at, crate::proofs::RangeSteps::step_bad, crate::proofs::RangeSteps::step_room, crate::proofs::RangeSteps::step_kept))]
 fn range_item(
     s: &[u8],
     kind: u8,
@@ -178,6 +183,7 @@ fn range_item(
 }
 
 // The items of a list.
+#[tactic(auto, using(crate::proofs::RangeSteps::ranges_start, crate::proofs::RangeSteps::ranges_room, crate::proofs::RangeSteps::ranges_faulty, crate::proofs::RangeSteps::ranges_last, crate::proofs::RangeSteps::ranges_more, crate::proofs::RangeSteps::ranges_less))]
 pub fn read_ranges(
     s: &[u8],
     number: usize,

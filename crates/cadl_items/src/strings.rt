@@ -34,6 +34,7 @@ pub struct Strings {
 }
 
 // A string that is not too long.
+#[tactic(auto, using(crate::proofs::StringSteps::string_missing, crate::proofs::StringSteps::string_long, crate::proofs::StringSteps::string_there))]
 fn start_string(s: &[u8], from: usize) -> Result<Token, Refusal>
     requires { from ≤ length s.now }
     ensures { ExpectIs s.now string from (start_string s.now from) result }
@@ -46,6 +47,7 @@ fn start_string(s: &[u8], from: usize) -> Result<Token, Refusal>
 }
 
 // The same, if there is room for one more item and one more record.
+#[tactic(auto, using(crate::proofs::StringSteps::text_faulty, crate::proofs::StringSteps::text_items, crate::proofs::StringSteps::text_records, crate::proofs::StringSteps::text_there))]
 fn roomy_string(s: &[u8], number: usize, count: usize, from: usize) -> Result<Token, Refusal>
     requires { Before s.now number count from }
     ensures { StringStartIs s.now number count from result }
@@ -61,6 +63,7 @@ fn roomy_string(s: &[u8], number: usize, count: usize, from: usize) -> Result<To
 }
 
 // Puts a string's places into the scratch, if no earlier one is equal, and looks for a comma behind it.
+#[tactic(auto, using(crate::proofs::StringSteps::keep_equal, crate::proofs::StringSteps::keep_comma, crate::proofs::StringSteps::keep_end))]
 fn keep_string(
     s: &[u8],
     number: usize,
@@ -88,6 +91,7 @@ fn keep_string(
 }
 
 // A string of a list behind so many others.
+#[tactic(auto, using(crate::proofs::StringSteps::step_faulty, crate::proofs::StringSteps::step_room, crate::proofs::StringSteps::step_kept))]
 fn string_item(
     s: &[u8],
     number: usize,
@@ -106,6 +110,7 @@ fn string_item(
 }
 
 // The strings of a list.
+#[tactic(auto, using(crate::proofs::StringSteps::strings_start, crate::proofs::StringSteps::strings_room, crate::proofs::StringSteps::strings_faulty, crate::proofs::StringSteps::strings_last, crate::proofs::StringSteps::strings_more, crate::proofs::StringSteps::strings_less))]
 pub fn read_strings(
     s: &[u8],
     number: usize,

@@ -39,32 +39,10 @@ agree g f low (suc n) t b h k =
     by_place (yes l) p q = q l
     by_place (no l) p q = let e : low ≡ b = omega arith in rw e at p
 
-and-true : (x : Bool) → x ≡ (x && true)
-and-true true = refl
-and-true false = refl
-
--- a byte other than the two that no string holds
-pub string_last : (b : ℕ) → 32 ≤ b → (b ≡ 34 → ⊥) → (b ≡ 92 → ⊥) → leb b 126 ≡ string_byte b
-unfolding string_byte
-string_last b h n m = rw (le-leb 32 b h, ne_eqb b 34 n, ne_eqb b 92 m) (and-true (leb b 126))
-
 -- a byte of words is one of runs
 pub run-word : (b : ℕ) (r : Bool) → r ≡ word_byte b → r ≡ true → true ≡ run_byte b
 unfolding run_byte
 run-word b r h e = rw (← h, e)
-
--- a byte that is none of three that runs hold besides the bytes of words
-pub mark_last : (b : ℕ) → (b ≡ 43 → ⊥) → (b ≡ 45 → ⊥) → (b ≡ 46 → ⊥) → eqb b 58 ≡ run_mark b
-mark_last b n m k = rw (ne_eqb b 43 n, ne_eqb b 45 m, ne_eqb b 46 k) (or-false (eqb b 58))
-  where
-    or-false : (x : Bool) → x ≡ (x || false)
-    or-false true = refl
-    or-false false = refl
-
--- a byte that is none of words is one of runs where it is one of those
-pub run-other : (b : ℕ) (r q : Bool) → r ≡ word_byte b → r ≡ false → q ≡ run_mark b → q ≡ run_byte b
-unfolding run_byte
-run-other b r q h e p = rw (← h, e) p
 
 -- the test of the table of sorts: each of its 256 entries is the sort of its byte
 abbrev pub sorts_right : List ℕ → Bool

@@ -111,35 +111,11 @@ run_words at (b ∷ bs) = by_byte (run_words (at + 1) bs) (word_byte b) refl (ru
 -- the end of the word at a place and the end of the run there
 module _ (s : List ℕ) (at w : ℕ) (p : PlaceIs s at (past word_byte at (drop at s)) w) where
   module _ (end : ℕ) (q : PlaceIs s w (past run_byte w (drop w s)) end) where
-    run_end : end ≡ past run_byte at (drop at s)
+    pub run_end : end ≡ past run_byte at (drop at s)
     run_end = q.is ∙ run_on word_byte run_byte word_runs s at w p
 
     pub run_whole : eqb w end ≡ all word_byte (part s at end)
     run_whole = rw (p.is, run_end) (run_words at (drop at s))
-
-    pub run_is : (sorted : List ℕ → ℕ → ℕ) (k : ℕ) → k ≡ sorted (part s at end) (byte_at s at)
-        → token k at end ≡ run sorted s at
-    run_is sorted k e = rw (e, run_end)
-
--- the token that starts at a place
-module _ (sorted : List ℕ → ℕ → ℕ) (s : List ℕ) (at : ℕ) where
-  pub data_end : length s ≤ at → token text_end at at ≡ data_token_on sorted s at
-  unfolding data_token_on
-  data_end h = rw (le-leb (length s) at h)
-
-  module _ (t : Token) (r : Bool) (h : at < length s) (q : r ≡ run_byte (byte_at s at)) where
-    pub data_run : r ≡ true → t ≡ run sorted s at → t ≡ data_token_on sorted s at
-    unfolding data_token_on
-    data_run e p = rw (lt-leb (length s) at h, ← q, e) p
-
-    pub data_string : r ≡ false → byte_at s at ≡ byte "\"" → t ≡ quoted s at → t ≡ data_token_on sorted s at
-    unfolding data_token_on
-    data_string e b p = rw (lt-leb (length s) at h, ← q, e, eq-eqb (byte_at s at) (byte "\"") b) p
-
-    pub data_mark : r ≡ false → (byte_at s at ≡ byte "\"" → ⊥) → t ≡ spelled data_marks at (drop at s) (no_token at)
-        → t ≡ data_token_on sorted s at
-    unfolding data_token_on
-    data_mark e n p = rw (lt-leb (length s) at h, ← q, e, ne_eqb (byte_at s at) (byte "\"") n) p
 
 -- the next token
 module _ (s : List ℕ) (from : ℕ) (r : Token) (h : from ≤ length s) where

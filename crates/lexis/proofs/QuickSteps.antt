@@ -20,38 +20,12 @@ use Rattle.lexis.proofs.Places.{byte_inside, drop_in}
 use Rattle.lexis.proofs.StartBack.{start_here, clear_at}
 use Rattle.lexis.proofs.DataTokenSteps.{run_on, run_ends, data_told}
 
--- a space, and no space
-module _ (s : List ℕ) (from b : ℕ) (q : b ≡ byte_at s from) where
-  space_inside : b ≡ byte " " → from < length s
-  space_inside e = byte_inside s from (byte " ") (sym q ∙ e) (λ z. eqb-false (byte " ") 0 refl z)
-
-  pub behind_blank : b ≡ byte " " → StartsAlike s from (from + 1)
-  unfolding skip sort_of
-  behind_blank e = let h = space_inside e in record { is = rw (drop_in s from h, ← q, e); low = omega arith; high = omega arith }
-
-pub behind_none : (s : List ℕ) (from : ℕ) → from ≤ length s → StartsAlike s from from
-behind_none s from h = record { is = refl; low = omega arith; high = h }
-
--- the mark of each sort
-module _ (b sort : ℕ) where
-  pub mark-less : sort ≡ 18 → eqb b 60 ≡ is_mark b sort
-  mark-less e = rw e
-
-  pub mark-greater : sort ≡ 19 → eqb b 62 ≡ is_mark b sort
-  mark-greater e = rw e
-
-  pub mark-equals : sort ≡ 23 → eqb b 61 ≡ is_mark b sort
-  mark-equals e = rw e
-
-  pub mark_open : sort ≡ 24 → eqb b 40 ≡ is_mark b sort
-  mark_open e = rw e
-
-  pub mark_close : sort ≡ 25 → eqb b 41 ≡ is_mark b sort
-  mark_close e = rw e
-
-  pub mark_none : (sort ≡ 18 → ⊥) → (sort ≡ 19 → ⊥) → (sort ≡ 23 → ⊥) → (sort ≡ 24 → ⊥) → (sort ≡ 25 → ⊥)
-      → false ≡ is_mark b sort
-  mark_none l g e o k = rw (ne_eqb sort 18 l, ne_eqb sort 19 g, ne_eqb sort 23 e, ne_eqb sort 24 o, ne_eqb sort 25 k)
+-- behind a space
+pub behind_blank : (s : List ℕ) (from : ℕ) → byte_at s from ≡ byte " " → StartsAlike s from (from + 1)
+unfolding skip sort_of
+behind_blank s from e =
+    let h = byte_inside s from (byte " ") e (λ z. eqb-false (byte " ") 0 refl z) in
+    record { is = rw (drop_in s from h, e); low = omega arith; high = omega arith }
 
 -- what holds of each mark and its sort
 mark_cases : (P : ℕ → ℕ → Type 0) → P 60 18 → P 62 19 → P 61 23 → P 40 24 → P 41 25 → (b sort : ℕ)
@@ -91,26 +65,26 @@ module _ (s : List ℕ) (at b sort : ℕ) (m : Bool) (q : b ≡ byte_at s at) (k
   alone : Alone (byte_at s at) sort
   alone = rw q at (mark_alone b sort (sym k ∙ e))
 
-  pub mark-inside : at < length s
-  mark-inside = byte_inside s at (byte_at s at) refl alone.some
+  pub mark_inside : at < length s
+  mark_inside = byte_inside s at (byte_at s at) refl alone.some
 
   pub mark_told : (from : ℕ) → from ≤ length s → StartsAlike s from at
       → TokenIs s from (data_token_at s from) (token sort at (at + 1))
   unfolding data_token_at
   mark_told from h l =
       let n = starts_here s at alone.plain alone.dash in
-      data_told s from (token sort at (at + 1)) h (sym (alone.on s at mark-inside refl) ∙ rw (← l.is, n))
+      data_told s from (token sort at (at + 1)) h (sym (alone.on s at mark_inside refl) ∙ rw (← l.is, n))
 
 -- a string at a place
 module _ (s : List ℕ) (from b : ℕ) (q : b ≡ byte_at s from) (h : from ≤ length s) where
-  pub string-inside : b ≡ byte "\"" → from < length s
-  string-inside e = byte_inside s from (byte "\"") (sym q ∙ e) (λ z. eqb-false (byte "\"") 0 refl z)
+  pub string_inside : b ≡ byte "\"" → from < length s
+  string_inside e = byte_inside s from (byte "\"") (sym q ∙ e) (λ z. eqb-false (byte "\"") 0 refl z)
 
   pub string_told : b ≡ byte "\"" → (t : Token) → t ≡ quoted s from → TokenIs s from (data_token_at s from) t
   unfolding sort_of word_byte run_byte data_token_on data_token_at
   string_told e t p =
       let y = sym q ∙ e in
-      let l = string-inside e in
+      let l = string_inside e in
       let n = starts_here s from (rw y) (rw y) in
       data_told s from t h (rw (n, lt-leb (length s) from l, y) p)
 

@@ -22,45 +22,27 @@ pub byte_behind : (s : List ℕ) (at : ℕ) → length s ≤ at → 0 ≡ byte_a
 byte_behind s at h = sym (get_or-eq_default s 0 h)
 
 -- in a run: what is left of it ends where the run does
-pub record InRun (test : ℕ → Bool) (s : List ℕ) (from x at : ℕ) : Type 0 where
+pub record InRun (test : ℕ → Bool) (s : List ℕ) (from at : ℕ) : Type 0 where
   pub low : from ≤ at
   pub high : at ≤ length s
-  pub is : past test at (drop at s) ≡ x
+  pub is : past test at (drop at s) ≡ past test from (drop from s)
 
-pub run_first : (test : ℕ → Bool) (s : List ℕ) (from : ℕ) → from ≤ length s
-    → InRun test s from (past test from (drop from s)) from
-run_first test s from h = record { low = omega arith; high = h; is = refl }
-
-module _ (test : ℕ → Bool) (s : List ℕ) (from x at : ℕ) (inv : InRun test s from x at) where
-  pub run_end : length s ≤ at → PlaceIs s from x (length s)
+module _ (test : ℕ → Bool) (s : List ℕ) (from at : ℕ) (inv : InRun test s from at) where
+  pub run_end : length s ≤ at → PlaceIs s from (past test from (drop from s)) (length s)
   unfolding past
   run_end h =
       let here : at ≡ length s = let k = inv.high in omega arith in
       let low = inv.low in
       record { is = sym here ∙ (rw (drop_of_length-le s h) at inv.is); low = omega arith; high = omega arith }
 
-  module _ (r : Bool) (h : at < length s) (q : r ≡ test (byte_at s at)) where
-    pub run_out : not r ≡ true → PlaceIs s from x at
+  module _ (h : at < length s) where
+    pub run_out : test (byte_at s at) ≡ false → PlaceIs s from (past test from (drop from s)) at
     unfolding past
-    run_out e = record { is = rw (drop_in s at h, ← q, not-true r e) at inv.is; low = inv.low; high = inv.high }
+    run_out e = record { is = rw (drop_in s at h, e) at inv.is; low = inv.low; high = inv.high }
 
-    pub run_on : not r ≡ false → InRun test s from x (at + 1)
+    pub run_on : test (byte_at s at) ≡ true → InRun test s from (at + 1)
     unfolding past
-    run_on e = record { low = omega arith; high = omega arith; is = rw (drop_in s at h, ← q, not-false r e) at inv.is }
-
--- behind a byte of a text
-module _ (s : List ℕ) (at : ℕ) (inside : Bool) where
-  pub open_inside : (r : Bool) → inside ≡ true → r ≡ line_end (byte_at s at)
-      → not r ≡ comment_open inside (byte_at s at) (drop (at + 1) s)
-  open_inside r i h = rw (i, h)
-
-  pub open_other : inside ≡ false → (byte_at s at ≡ byte "-" → ⊥)
-      → false ≡ comment_open inside (byte_at s at) (drop (at + 1) s)
-  open_other i n = rw (i, ne_eqb (byte_at s at) (byte "-") n)
-
-  pub open_two : (b : ℕ) → inside ≡ false → byte_at s at ≡ byte "-" → b ≡ byte_at s (at + 1)
-      → eqb b (byte "-") ≡ comment_open inside (byte_at s at) (drop (at + 1) s)
-  open_two b i e q = rw (i, eq-eqb (byte_at s at) (byte "-") e, get_or-drop (at + 1) s 0 0, add-zero, ← q)
+    run_on e = record { low = omega arith; high = omega arith; is = rw (drop_in s at h, e) at inv.is }
 
 skip_end : (inside : Bool) (at : ℕ) → skip inside at [] ≡ at
 unfolding skip
@@ -102,25 +84,14 @@ module _ (s : List ℕ) (at : ℕ) (inside : Bool) where
   unfolding sort_of
   here_two b i e q = rw (i, e, get_or-drop (at + 1) s 0 0, add-zero, ← q)
 
-  pub here_other : (r : Bool) → inside ≡ false → (byte_at s at ≡ byte "-" → ⊥) → r ≡ is blank (byte_at s at)
-      → not r ≡ token_here inside (byte_at s at) (drop (at + 1) s)
-  here_other r i n q = rw (i, ne_eqb (byte_at s at) (byte "-") n, q) (clear (is blank (byte_at s at)))
-    where
-      clear : (k : Bool) → not k ≡ not (k || false)
-      clear true = refl
-      clear false = refl
-
 -- in blanks and comments: what is left of them ends where the next token starts
-pub record InBlanks (s : List ℕ) (from x at : ℕ) (inside : Bool) : Type 0 where
+pub record InBlanks (s : List ℕ) (from at : ℕ) (inside : Bool) : Type 0 where
   pub low : from ≤ at
   pub high : at ≤ length s
-  pub is : skip inside at (drop at s) ≡ x
+  pub is : skip inside at (drop at s) ≡ token_start s from
 
-pub blanks_first : (s : List ℕ) (from : ℕ) → from ≤ length s → InBlanks s from (token_start s from) from false
-blanks_first s from h = record { low = omega arith; high = h; is = refl }
-
-module _ (s : List ℕ) (from x at : ℕ) (inside : Bool) (inv : InBlanks s from x at inside) where
-  pub blanks_end : length s ≤ at → PlaceIs s from x (length s)
+module _ (s : List ℕ) (from at : ℕ) (inside : Bool) (inv : InBlanks s from at inside) where
+  pub blanks_end : length s ≤ at → PlaceIs s from (token_start s from) (length s)
   blanks_end h =
       let here : at ≡ length s = let k = inv.high in omega arith in
       let low = inv.low in
@@ -130,17 +101,17 @@ module _ (s : List ℕ) (from x at : ℕ) (inside : Bool) (inv : InBlanks s from
         high = omega arith;
       }
 
-  module _ (r : Bool) (h : at < length s) (t : r ≡ token_here inside (byte_at s at) (drop (at + 1) s)) where
-    pub blanks_out : r ≡ true → PlaceIs s from x at
+  module _ (h : at < length s) where
+    pub blanks_out : token_here inside (byte_at s at) (drop (at + 1) s) ≡ true → PlaceIs s from (token_start s from) at
     blanks_out e =
-        let k = skip_here inside at (byte_at s at) (drop (at + 1) s) (sym t ∙ e) in
+        let k = skip_here inside at (byte_at s at) (drop (at + 1) s) e in
         record { is = sym k ∙ (rw (drop_in s at h) at inv.is); low = inv.low; high = inv.high }
 
-    pub blanks_on : (after : Bool) → r ≡ false → after ≡ comment_open inside (byte_at s at) (drop (at + 1) s)
-        → InBlanks s from x (at + 1) after
-    blanks_on after e q =
-        let k = skip_more inside at (byte_at s at) (drop (at + 1) s) (sym t ∙ e) in
-        record { low = omega arith; high = omega arith; is = rw q (sym k ∙ (rw (drop_in s at h) at inv.is)) }
+    pub blanks_on : token_here inside (byte_at s at) (drop (at + 1) s) ≡ false
+        → InBlanks s from (at + 1) (comment_open inside (byte_at s at) (drop (at + 1) s))
+    blanks_on e =
+        let k = skip_more inside at (byte_at s at) (drop (at + 1) s) e in
+        record { low = omega arith; high = omega arith; is = sym k ∙ (rw (drop_in s at h) at inv.is) }
 
 and_none : (x y : Bool) → false ≡ y → false ≡ (x && y)
 and_none true y h = h
@@ -186,17 +157,17 @@ module _ (f : ℕ → ℕ → Bool) (w s : List ℕ) (at i : ℕ) (x : Bool) (in
     word_on e = record { high = omega arith; room = inv.room; is = rw (next, not-false r e) at inv.is }
 
 -- a spelling and a shape are two rules for one walk
-pub starts_begins : (w bs : List ℕ) (r : Bool) → r ≡ begins_by eqb w bs → r ≡ starts_with w bs
+pub starts_begins : (w bs : List ℕ) → begins_by eqb w bs ≡ starts_with w bs
 unfolding begins_by starts_with
-starts_begins [] bs r q = q
-starts_begins (x ∷ w) [] r q = q
-starts_begins (x ∷ w) (b ∷ bs) r q = q ∙ ap (λ k. eqb x b && k) (starts_begins w bs (begins_by eqb w bs) refl)
+starts_begins [] bs = refl
+starts_begins (x ∷ w) [] = refl
+starts_begins (x ∷ w) (b ∷ bs) = ap (λ k. eqb x b && k) (starts_begins w bs)
 
-pub shaped_begins : (w bs : List ℕ) (r : Bool) → r ≡ begins_by allows w bs → r ≡ shaped w bs
+pub shaped_begins : (w bs : List ℕ) → begins_by allows w bs ≡ shaped w bs
 unfolding begins_by shaped
-shaped_begins [] bs r q = q
-shaped_begins (x ∷ w) [] r q = q
-shaped_begins (x ∷ w) (b ∷ bs) r q = q ∙ ap (λ k. allows x b && k) (shaped_begins w bs (begins_by allows w bs) refl)
+shaped_begins [] bs = refl
+shaped_begins (x ∷ w) [] = refl
+shaped_begins (x ∷ w) (b ∷ bs) = ap (λ k. allows x b && k) (shaped_begins w bs)
 
 -- the library's equality of slices
 pub same_pointwise : (a b : List ℕ) → pointwise eqb a b ≡ same a b

@@ -68,17 +68,20 @@ impl Standing for BehindRound {
 }
 
 // The end of the run that goes on where a word ends.
+#[tactic(auto, using(crate::proofs::DataTokenSteps::end_here))]
 fn run_end(s: &[u8], at: usize) -> usize
     requires { WordEnds s.now at }
     ensures { PlaceIs s.now at (past run_byte at (drop at s.now)) result }
 {
-    if !run_mark(byte_at(s, at)) {
-        return at;
+    if run_mark(byte_at(s, at)) {
+        past_run::<Run>(s, at)
+    } else {
+        at
     }
-    past_run::<Run>(s, at)
 }
 
 // The run at a place. It is a word where the word at the place ends with it.
+#[tactic(auto, using(crate::proofs::DataTokenSteps::word_stops, crate::proofs::DataTokenSteps::run_whole, crate::proofs::DataTokenSteps::run_end))]
 fn run<P: Standing>(s: &[u8], at: usize) -> Token
     requires { at < length s.now }
     ensures { result ≡ run P.sorting s.now at }
@@ -86,24 +89,17 @@ fn run<P: Standing>(s: &[u8], at: usize) -> Token
     let word_end = past_run::<Word>(s, at);
     let end = run_end(s, word_end);
     let k = P::run_sort(&s[at..end], s[at], word_end == end);
-    Token {
-        sort: k,
-        start: at,
-        end,
-    }
+    Token::new(k, at, end)
 }
 
 // The token that starts at a place; the text's end is a token.
+#[tactic(auto, unfolding(crate::specs::DataTokens::data_token_on))]
 pub fn data_token_on<P: Standing>(s: &[u8], at: usize) -> Token
     requires { at ≤ length s.now }
     ensures { result ≡ data_token_on P.sorting s.now at }
 {
     if s.len() <= at {
-        return Token {
-            sort: TEXT_END,
-            start: at,
-            end: at,
-        };
+        return Token::new(TEXT_END, at, at);
     }
     if run_byte(s[at]) {
         return run::<P>(s, at);
@@ -115,6 +111,7 @@ pub fn data_token_on<P: Standing>(s: &[u8], at: usize) -> Token
 }
 
 // The next token of data text, from a place on.
+#[tactic(auto, using(crate::proofs::DataTokenSteps::data_told))]
 pub fn data_token_at(s: &[u8], from: usize) -> Token
     requires { from ≤ length s.now }
     ensures { TokenIs s.now from (data_token_at s.now from) result }
@@ -123,6 +120,7 @@ pub fn data_token_at(s: &[u8], from: usize) -> Token
 }
 
 // The next token of data text, from a place behind `(` on.
+#[tactic(auto, using(crate::proofs::DataTokenSteps::type_told))]
 pub fn type_token_at(s: &[u8], from: usize) -> Token
     requires { from ≤ length s.now }
     ensures { TokenIs s.now from (type_token_at s.now from) result }
@@ -131,14 +129,16 @@ pub fn type_token_at(s: &[u8], from: usize) -> Token
 }
 
 // Behind a space at a place, or else the place.
+#[tactic(auto, using(crate::proofs::QuickSteps::behind_blank))]
 fn behind_space(s: &[u8], from: usize) -> usize
     requires { from ≤ length s.now }
     ensures { StartsAlike s.now from result }
 {
     if byte_at(s, from) == b' ' {
-        return from + 1;
+        from + 1
+    } else {
+        from
     }
-    from
 }
 
 // The byte is the mark of that sort.
@@ -156,6 +156,7 @@ fn is_mark(b: u8, sort: u8) -> bool
 }
 
 // The next token of data text, from a place on: quick where it is a mark of one of two sorts, at the place or behind a space there.
+#[tactic(auto, using(crate::proofs::QuickSteps::mark_told))]
 pub fn mark_token_at(s: &[u8], from: usize, first: u8, second: u8) -> Token
     requires { from ≤ length s.now }
     ensures { TokenIs s.now from (data_token_at s.now from) result }
@@ -163,23 +164,16 @@ pub fn mark_token_at(s: &[u8], from: usize, first: u8, second: u8) -> Token
     let at = behind_space(s, from);
     let b = byte_at(s, at);
     if is_mark(b, first) {
-        return Token {
-            sort: first,
-            start: at,
-            end: at + 1,
-        };
+        return Token::new(first, at, at + 1);
     }
     if is_mark(b, second) {
-        return Token {
-            sort: second,
-            start: at,
-            end: at + 1,
-        };
+        return Token::new(second, at, at + 1);
     }
     data_token_at(s, from)
 }
 
 // The next token of data text, from a place on: quick where it is a string or a run of digits, at the place.
+#[tactic(auto, using(crate::proofs::QuickSteps::string_inside, crate::proofs::QuickSteps::string_told, crate::proofs::QuickSteps::digits_told))]
 pub fn value_token_at(s: &[u8], from: usize) -> Token
     requires { from ≤ length s.now }
     ensures { TokenIs s.now from (data_token_at s.now from) result }
@@ -191,11 +185,7 @@ pub fn value_token_at(s: &[u8], from: usize) -> Token
     if is_digit(b) {
         let end = past_run::<Digit>(s, from);
         if !run_byte(byte_at(s, end)) {
-            return Token {
-                sort: WORD_RUN,
-                start: from,
-                end,
-            };
+            return Token::new(WORD_RUN, from, end);
         }
     }
     data_token_at(s, from)

@@ -23,10 +23,7 @@ const MOST_DIGITS: usize = 4;
 fn in_either_case(letter: u8, b: u8) -> bool
     ensures { result ≡ in_either_case letter b }
 {
-    if b == letter {
-        return true;
-    }
-    (b as u32) + TO_SMALL == letter as u32
+    b == letter || u32::from(b) + TO_SMALL == u32::from(letter)
 }
 
 // What the slot of a letter is.
@@ -48,6 +45,7 @@ struct DigitsAndLetter;
 impl Slot for LetterAlone {
     ghost size = { letter_slot };
 
+    #[tactic(auto, using(crate::proofs::DurationSteps::letter_none, crate::proofs::DurationSteps::letter_here, crate::proofs::DurationSteps::letter_other))]
     fn size(w: &[u8], at: usize, letter: u8) -> Option<usize> {
         if at < w.len() && w[at] == letter {
             return Some(1);
@@ -59,6 +57,7 @@ impl Slot for LetterAlone {
 impl Slot for DigitsAndLetter {
     ghost size = { digit_slot };
 
+    #[tactic(auto, using(crate::proofs::DurationSteps::digit_few, crate::proofs::DurationSteps::digit_many, crate::proofs::DurationSteps::digit_ended, crate::proofs::DurationSteps::digit_letter, crate::proofs::DurationSteps::digit_other))]
     fn size(w: &[u8], at: usize, letter: u8) -> Option<usize> {
         let end = past_run::<Digit>(w, at);
         let digits = end - at;
@@ -73,6 +72,7 @@ impl Slot for DigitsAndLetter {
 }
 
 // The slot of a letter, whose bit is given, where one stands next.
+#[tactic(auto, using(crate::proofs::DurationSteps::fill_some, crate::proofs::DurationSteps::fill_none))]
 fn fill<S: Slot>(w: &[u8], x: Slots, bit: u8, letter: u8) -> Slots
     requires { FillRoom w.now x bit }
     ensures { FillIs w.now (x.flag + bit) (fill S.size bit letter (filled_at w.now x)) result }
@@ -87,6 +87,7 @@ fn fill<S: Slot>(w: &[u8], x: Slots, bit: u8, letter: u8) -> Slots
 }
 
 // The slots before T.
+#[tactic(auto, using(crate::proofs::DurationSteps::dates_filled))]
 fn fill_dates<S: Slot>(w: &[u8], at: usize) -> Slots
     requires { at ≤ length w.now }
     ensures { FillIs w.now 15 (fill_all S.size 1 (bytes "ymwd") (filled 0 (drop at w.now))) result }
@@ -99,6 +100,7 @@ fn fill_dates<S: Slot>(w: &[u8], at: usize) -> Slots
 }
 
 // The slots behind T.
+#[tactic(auto, using(crate::proofs::DurationSteps::times_filled))]
 fn fill_times<S: Slot>(w: &[u8], at: usize) -> Slots
     requires { at ≤ length w.now }
     ensures { FillIs w.now 112
@@ -111,6 +113,7 @@ fn fill_times<S: Slot>(w: &[u8], at: usize) -> Slots
 }
 
 // Behind T: slots, one at least, and the end.
+#[tactic(auto, using(crate::proofs::DurationSteps::time_left, crate::proofs::DurationSteps::time_none, crate::proofs::DurationSteps::time_some))]
 fn behind_time<S: Slot>(w: &[u8], at: usize, flag: u8) -> Option<u8>
     requires at_in_bounds { at ≤ length w.now }
     requires flag_bound { flag ≤ 15 }
@@ -132,6 +135,7 @@ fn dates_alone(flag: u8) -> Option<u8>
 }
 
 // P and slots: the slots filled, as a flag, where the bytes are spelled so.
+#[tactic(auto, using(crate::proofs::DurationSteps::slots_empty, crate::proofs::DurationSteps::slots_other, crate::proofs::DurationSteps::slots_end, crate::proofs::DurationSteps::slots_not_time, crate::proofs::DurationSteps::slots_time))]
 fn slots_of<S: Slot>(w: &[u8]) -> Option<u8>
     ensures { FlagIs (slots_of S.size w.now) result }
 {
@@ -150,6 +154,7 @@ fn slots_of<S: Slot>(w: &[u8]) -> Option<u8>
 }
 
 // The flag of the Duration pattern that is spelled so.
+#[tactic(auto, unfolding(crate::specs::Durations::pattern_slots))]
 pub fn pattern_slots(w: &[u8]) -> Option<u8>
     ensures { FlagIs (pattern_slots w.now) result }
 {

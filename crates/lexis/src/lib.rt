@@ -2,7 +2,7 @@
 #![tactic(auto)]
 
 ghost use Rattle.std.specs.Prelude.{◌≡◌};
-ghost use Rattle.lexis.specs.Tokens.{no_token};
+ghost use Rattle.lexis.specs.Tokens.{token, no_token};
 
 pub mod data_tokens;
 pub mod durations;
@@ -18,6 +18,15 @@ pub struct Token {
     pub sort: u8,
     pub start: usize,
     pub end: usize,
+}
+
+impl Token {
+    // The token of a sort from one place up to another.
+    pub fn new(sort: u8, start: usize, end: usize) -> Token
+        ensures { result ≡ token sort start end }
+    {
+        Token { sort, start, end }
+    }
 }
 
 // The sorts of tokens: the text's end, what cannot be read, and what is spelled in many ways.
@@ -87,9 +96,5 @@ pub const DURATION_PATTERN: u8 = 100;
 pub fn no_token(at: usize) -> Token
     ensures { result ≡ no_token at }
 {
-    Token {
-        sort: UNREADABLE,
-        start: at,
-        end: at,
-    }
+    Token::new(UNREADABLE, at, at)
 }

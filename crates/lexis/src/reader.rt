@@ -22,15 +22,12 @@ pub struct Reader<'a> {
 }
 
 // The next token of a text, from a place on.
+#[tactic(auto, using(crate::proofs::ReaderSteps::next_end, crate::proofs::ReaderSteps::next_constraint, crate::proofs::ReaderSteps::next_data, crate::proofs::ReaderSteps::next_behind))]
 fn token_of(s: &[u8], from: usize, tokens: Tokens) -> Token
     ensures { result ≡ token_by tokens s.now from }
 {
     if s.len() < from {
-        return Token {
-            sort: TEXT_END,
-            start: from,
-            end: from,
-        };
+        return Token::new(TEXT_END, from, from);
     }
     let at = token_start(s, from);
     match tokens {

@@ -61,6 +61,7 @@ impl Class for Run {
 }
 
 // The first place from one on whose byte is not of the class.
+#[tactic(auto, using(crate::proofs::RunSteps::run_out, crate::proofs::RunSteps::run_on, crate::proofs::RunSteps::run_end))]
 pub fn past_run<C: Class>(s: &[u8], from: usize) -> usize
     requires { from ≤ length s.now }
     ensures { PlaceIs s.now from (past C.test from (drop from s.now)) result }
@@ -79,15 +80,14 @@ fn comment_open(s: &[u8], at: usize, inside: bool) -> bool
     ensures { result ≡ comment_open inside (byte_at s.now at) (drop (at + 1) s.now) }
 {
     if inside {
-        return !line_end(s[at]);
+        !line_end(s[at])
+    } else {
+        s[at] == b'-' && byte_at(s, at + 1) == b'-'
     }
-    if s[at] != b'-' {
-        return false;
-    }
-    byte_at(s, at + 1) == b'-'
 }
 
 // Whether a token starts at a byte: no comment is open before it or behind it, and it is no blank. No byte above `-` is a blank or opens a comment.
+#[tactic(auto, using(crate::proofs::RunSteps::here_far, crate::proofs::RunSteps::here_two))]
 fn token_here(s: &[u8], at: usize, inside: bool) -> bool
     requires { at < length s.now }
     ensures { result ≡ token_here inside (byte_at s.now at) (drop (at + 1) s.now) }
@@ -106,6 +106,7 @@ fn token_here(s: &[u8], at: usize, inside: bool) -> bool
 }
 
 // Where the next token starts: behind blanks and comments.
+#[tactic(auto, using(crate::proofs::RunSteps::blanks_out, crate::proofs::RunSteps::blanks_on, crate::proofs::RunSteps::blanks_end))]
 pub fn token_start(s: &[u8], from: usize) -> usize
     requires { from ≤ length s.now }
     ensures { PlaceIs s.now from (token_start s.now from) result }
@@ -151,6 +152,7 @@ impl Spelling for Shape {
 }
 
 // The bytes at a place begin as is spelled.
+#[tactic(auto, using(crate::proofs::RunSteps::begins_short, crate::proofs::RunSteps::word_out, crate::proofs::RunSteps::word_on, crate::proofs::RunSteps::word_end))]
 fn begins<S: Spelling>(s: &[u8], at: usize, w: &[u8]) -> bool
     requires { at ≤ length s.now }
     ensures { result ≡ begins_by S.admits w.now (drop at s.now) }
@@ -167,6 +169,7 @@ fn begins<S: Spelling>(s: &[u8], at: usize, w: &[u8]) -> bool
 }
 
 // The bytes at a place begin with those of the word.
+#[tactic(auto, using(crate::proofs::RunSteps::starts_begins))]
 pub fn starts_with(s: &[u8], at: usize, w: &[u8]) -> bool
     requires { at ≤ length s.now }
     ensures { result ≡ starts_with w.now (drop at s.now) }
@@ -175,6 +178,7 @@ pub fn starts_with(s: &[u8], at: usize, w: &[u8]) -> bool
 }
 
 // The bytes at a place begin in that shape.
+#[tactic(auto, using(crate::proofs::RunSteps::shaped_begins))]
 pub fn shaped(s: &[u8], at: usize, shape: &[u8]) -> bool
     requires { at ≤ length s.now }
     ensures { result ≡ shaped shape.now (drop at s.now) }
@@ -183,6 +187,7 @@ pub fn shaped(s: &[u8], at: usize, shape: &[u8]) -> bool
 }
 
 // Two runs of bytes are the same.
+#[tactic(auto, using(crate::proofs::RunSteps::same_pointwise))]
 pub fn same_bytes(a: &[u8], b: &[u8]) -> bool
     ensures { result ≡ same a.now b.now }
 {

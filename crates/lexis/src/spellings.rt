@@ -4,10 +4,8 @@ ghost use Rattle.std.specs.Prelude.{◌≡◌, List, [], ◌∷◌, ◌<◌, len
 ghost use Rattle.lexis.specs.Spelling.{Literal, literal_of, mark_spellings, element_sign, date_pattern_spellings, time_pattern_spellings, keywords, booleans, word_sort};
 ghost use Rattle.lexis.specs.Tokens.{no_token, spelled};
 ghost use Rattle.lexis.specs.DataTokens.{data_marks};
-ghost use Rattle.lexis.specs.Clauses.Answers.{OpensMark, OpensPlain};
 
 use crate::runs::{same_bytes, starts_with};
-use crate::sorts::byte_at;
 use crate::{
     AT_LEAST, AT_MOST, BAR, CLOSE_BRACE, CLOSE_ROUND, COMMA, DATE_PATTERN, DOTS, EQUALS, EXISTENCE,
     FALSE_WORD, GREATER, LESS, MATCHES, OPEN_BRACE, OPEN_ROUND, PLUS_MINUS, STAR, TIME_PATTERN,
@@ -32,6 +30,7 @@ pub struct Booleans;
 impl Words for Keywords {
     ghost words = { keywords };
 
+    #[tactic(auto, using(crate::proofs::WordSteps::sort_first))]
     fn sort_of(w: &[u8], sort: u8) -> u8 {
         let second = sort_if(w, b"existence", EXISTENCE, sort);
         sort_if(w, b"matches", MATCHES, second)
@@ -41,144 +40,44 @@ impl Words for Keywords {
 impl Words for Booleans {
     ghost words = { booleans };
 
+    #[tactic(auto, using(crate::proofs::WordSteps::sort_first))]
     fn sort_of(w: &[u8], sort: u8) -> u8 {
         let second = sort_if(w, b"False", FALSE_WORD, sort);
         sort_if(w, b"True", TRUE_WORD, second)
     }
 }
 
-// The mark `<` or `<=` at a place.
-fn less_mark(s: &[u8], at: usize) -> Token
-    requires { OpensMark s.now at 60 }
-    ensures { result ≡ spelled mark_spellings at (drop at s.now) (no_token at) }
-{
-    if byte_at(s, at + 1) == b'=' {
-        return Token {
-            sort: AT_MOST,
-            start: at,
-            end: at + 2,
-        };
-    }
-    Token {
-        sort: LESS,
-        start: at,
-        end: at + 1,
-    }
-}
-
-// The mark `>` or `>=` at a place.
-fn greater_mark(s: &[u8], at: usize) -> Token
-    requires { OpensMark s.now at 62 }
-    ensures { result ≡ spelled mark_spellings at (drop at s.now) (no_token at) }
-{
-    if byte_at(s, at + 1) == b'=' {
-        return Token {
-            sort: AT_LEAST,
-            start: at,
-            end: at + 2,
-        };
-    }
-    Token {
-        sort: GREATER,
-        start: at,
-        end: at + 1,
-    }
-}
-
-// The mark `..` at a place, of which the first dot stands there.
-fn dots_mark(s: &[u8], at: usize) -> Token
-    requires { OpensMark s.now at 46 }
-    ensures { result ≡ spelled mark_spellings at (drop at s.now) (no_token at) }
-{
-    if byte_at(s, at + 1) == b'.' {
-        return Token {
-            sort: DOTS,
-            start: at,
-            end: at + 2,
-        };
-    }
-    no_token(at)
-}
-
-// The mark `+/-` at a place, of which the first byte stands there.
-fn plus_minus_mark(s: &[u8], at: usize) -> Token
-    requires { OpensMark s.now at 43 }
-    ensures { result ≡ spelled mark_spellings at (drop at s.now) (no_token at) }
-{
-    if starts_with(s, at, b"+/-") {
-        return Token {
-            sort: PLUS_MINUS,
-            start: at,
-            end: at + 3,
-        };
-    }
-    no_token(at)
-}
-
-// The mark at a place that is the only one that opens with its byte.
-fn plain_mark(s: &[u8], at: usize) -> Token
-    requires { OpensPlain s.now at }
-    ensures { result ≡ spelled mark_spellings at (drop at s.now) (no_token at) }
-{
-    let b = s[at];
-    match b {
-        b'{' => Token {
-            sort: OPEN_BRACE,
-            start: at,
-            end: at + 1,
-        },
-        b'}' => Token {
-            sort: CLOSE_BRACE,
-            start: at,
-            end: at + 1,
-        },
-        b',' => Token {
-            sort: COMMA,
-            start: at,
-            end: at + 1,
-        },
-        b'*' => Token {
-            sort: STAR,
-            start: at,
-            end: at + 1,
-        },
-        b'|' => Token {
-            sort: BAR,
-            start: at,
-            end: at + 1,
-        },
-        _ => no_token(at),
-    }
-}
-
-// The first mark of constraint text with which the bytes at a place begin, as a token; where there is none, an unreadable token.
-pub fn mark(s: &[u8], at: usize) -> Token
-    requires { at < length s.now }
-    ensures { result ≡ spelled mark_spellings at (drop at s.now) (no_token at) }
-{
-    let b = s[at];
-    match b {
-        b'<' => less_mark(s, at),
-        b'>' => greater_mark(s, at),
-        b'.' => dots_mark(s, at),
-        b'+' => plus_minus_mark(s, at),
-        _ => plain_mark(s, at),
-    }
-}
-
 // The spelling w at a place, as a token of a sort; where it does not stand there, the token given.
+#[tactic(auto, unfolding(crate::specs::Tokens::spelled))]
 fn spelling(s: &[u8], at: usize, w: &[u8], sort: u8, other: Token) -> Token
     requires { at < length s.now }
     ensures { result ≡ spelled (literal_of sort w.now ∷ []) at (drop at s.now) other }
 {
     if starts_with(s, at, w) {
-        return Token {
-            sort,
-            start: at,
-            end: at + w.len(),
-        };
+        Token::new(sort, at, at + w.len())
+    } else {
+        other
     }
-    other
+}
+
+// The first mark of constraint text with which the bytes at a place begin, as a token; where there is none, an unreadable token.
+#[tactic(auto, using(crate::proofs::SpellingSteps::marks))]
+pub fn mark(s: &[u8], at: usize) -> Token
+    requires { at < length s.now }
+    ensures { result ≡ spelled mark_spellings at (drop at s.now) (no_token at) }
+{
+    match s[at] {
+        b'{' => Token::new(OPEN_BRACE, at, at + 1),
+        b'}' => Token::new(CLOSE_BRACE, at, at + 1),
+        b',' => Token::new(COMMA, at, at + 1),
+        b'*' => Token::new(STAR, at, at + 1),
+        b'|' => Token::new(BAR, at, at + 1),
+        b'.' => spelling(s, at, b"..", DOTS, no_token(at)),
+        b'<' => spelling(s, at, b"<=", AT_MOST, Token::new(LESS, at, at + 1)),
+        b'>' => spelling(s, at, b">=", AT_LEAST, Token::new(GREATER, at, at + 1)),
+        b'+' => spelling(s, at, b"+/-", PLUS_MINUS, no_token(at)),
+        _ => no_token(at),
+    }
 }
 
 // The sign ∈ at a place, as a token.
@@ -190,42 +89,23 @@ pub fn element_sign(s: &[u8], at: usize) -> Token
 }
 
 // The mark of data text at a place, as a token.
+#[tactic(auto, using(crate::proofs::SpellingSteps::of_data))]
 pub fn data_mark(s: &[u8], at: usize) -> Token
     requires { at < length s.now }
     ensures { result ≡ spelled data_marks at (drop at s.now) (no_token at) }
 {
-    let b = s[at];
-    match b {
-        b'<' => Token {
-            sort: LESS,
-            start: at,
-            end: at + 1,
-        },
-        b'>' => Token {
-            sort: GREATER,
-            start: at,
-            end: at + 1,
-        },
-        b'=' => Token {
-            sort: EQUALS,
-            start: at,
-            end: at + 1,
-        },
-        b'(' => Token {
-            sort: OPEN_ROUND,
-            start: at,
-            end: at + 1,
-        },
-        b')' => Token {
-            sort: CLOSE_ROUND,
-            start: at,
-            end: at + 1,
-        },
+    match s[at] {
+        b'<' => Token::new(LESS, at, at + 1),
+        b'>' => Token::new(GREATER, at, at + 1),
+        b'=' => Token::new(EQUALS, at, at + 1),
+        b'(' => Token::new(OPEN_ROUND, at, at + 1),
+        b')' => Token::new(CLOSE_ROUND, at, at + 1),
         _ => no_token(at),
     }
 }
 
 // The date pattern at a place, as a token; where there is none, the token given.
+#[tactic(auto, using(crate::proofs::SpellingSteps::date_other, crate::proofs::SpellingSteps::spelled_first))]
 pub fn date_pattern(s: &[u8], at: usize, other: Token) -> Token
     requires { at < length s.now }
     ensures { result ≡ spelled date_pattern_spellings at (drop at s.now) other }
@@ -241,6 +121,7 @@ pub fn date_pattern(s: &[u8], at: usize, other: Token) -> Token
 }
 
 // The time pattern at a place, as a token; where there is none, the token given.
+#[tactic(auto, using(crate::proofs::SpellingSteps::time_other, crate::proofs::SpellingSteps::spelled_first))]
 pub fn time_pattern(s: &[u8], at: usize, other: Token) -> Token
     requires { at < length s.now }
     ensures { result ≡ spelled time_pattern_spellings at (drop at s.now) other }
@@ -255,11 +136,9 @@ pub fn time_pattern(s: &[u8], at: usize, other: Token) -> Token
 }
 
 // The sort given where a word has that spelling, else the other one.
+#[tactic(auto, unfolding(crate::specs::Spelling::word_sort))]
 fn sort_if(w: &[u8], spelling: &[u8], sort: u8, other: u8) -> u8
     ensures { result ≡ word_sort (literal_of sort spelling.now ∷ []) w.now other }
 {
-    if same_bytes(spelling, w) {
-        return sort;
-    }
-    other
+    if same_bytes(spelling, w) { sort } else { other }
 }

@@ -27,11 +27,7 @@ fn word<W: Words>(s: &[u8], at: usize, sort: u8) -> Token
 {
     let end = past_run::<Word>(s, at);
     let k = W::sort_of(&s[at..end], sort);
-    Token {
-        sort: k,
-        start: at,
-        end,
-    }
+    Token::new(k, at, end)
 }
 
 // A time pattern, or else a word that opens with a capital.
@@ -60,18 +56,10 @@ fn number(s: &[u8], at: usize) -> Token
     ensures { result ≡ number s.now at }
 {
     if shaped(s, at, b"dddd-dd-dd") {
-        return Token {
-            sort: DATE,
-            start: at,
-            end: at + 10,
-        };
+        return Token::new(DATE, at, at + 10);
     }
     let end = past_run::<Digit>(s, at);
-    Token {
-        sort: INTEGER,
-        start: at,
-        end,
-    }
+    Token::new(INTEGER, at, end)
 }
 
 // A `-` with a digit behind it stands at a place.
@@ -80,10 +68,7 @@ fn negative(s: &[u8], at: usize) -> bool
     ensures { result
         ≡ (eqb (byte_at s.now at) (byte "-") && is digit (byte_at s.now (at + 1))) }
 {
-    if s[at] != b'-' {
-        return false;
-    }
-    is_digit(byte_at(s, at + 1))
+    s[at] == b'-' && is_digit(byte_at(s, at + 1))
 }
 
 // An integer with its sign, or else a mark.
@@ -93,11 +78,7 @@ fn sign(s: &[u8], at: usize) -> Token
 {
     if negative(s, at) {
         let end = past_run::<Digit>(s, at + 1);
-        return Token {
-            sort: INTEGER,
-            start: at,
-            end,
-        };
+        return Token::new(INTEGER, at, end);
     }
     mark(s, at)
 }
@@ -109,11 +90,7 @@ pub fn quoted(s: &[u8], at: usize) -> Token
 {
     let end = past_run::<Text>(s, at + 1);
     if byte_at(s, end) == b'"' {
-        return Token {
-            sort: STRING,
-            start: at,
-            end: end + 1,
-        };
+        return Token::new(STRING, at, end + 1);
     }
     no_token(at)
 }
@@ -122,26 +99,18 @@ pub fn quoted(s: &[u8], at: usize) -> Token
 fn code_byte(b: u8, some: bool) -> bool
     ensures { result ≡ (is digit b || eqb b (byte ".") && some) }
 {
-    if is_digit(b) {
-        return true;
-    }
-    if b == b'.' {
-        return some;
-    }
-    false
+    is_digit(b) || (b == b'.' && some)
 }
 
 // A bracket behind a digit, which ends a code.
 fn code_close(b: u8, some: bool) -> bool
     ensures { result ≡ (eqb b (byte "]") && some) }
 {
-    if b == b']' {
-        return some;
-    }
-    false
+    b == b']' && some
 }
 
 // Behind `[at`: the place behind the code's closing bracket, where a code ends.
+#[tactic(auto, using(crate::proofs::TokenSteps::code_on, crate::proofs::TokenSteps::code_close, crate::proofs::TokenSteps::code_stop, crate::proofs::TokenSteps::code_none))]
 fn code_end(s: &[u8], from: usize) -> Option<usize>
     requires { from ≤ length s.now }
     ensures { result ≡ unless_zero (code_end false from (drop from s.now)) }
@@ -160,6 +129,7 @@ fn code_end(s: &[u8], from: usize) -> Option<usize>
 }
 
 // A code with its brackets.
+#[tactic(auto, using(crate::proofs::TokenSteps::code_room))]
 fn bracket(s: &[u8], at: usize) -> Token
     requires { at ≤ length s.now }
     ensures { result ≡ bracket s.now at }
@@ -168,11 +138,7 @@ fn bracket(s: &[u8], at: usize) -> Token
         return no_token(at);
     }
     match code_end(s, at + 3) {
-        Some(end) => Token {
-            sort: CODE,
-            start: at,
-            end,
-        },
+        Some(end) => Token::new(CODE, at, end),
         None => no_token(at),
     }
 }
@@ -182,29 +148,23 @@ fn special(s: &[u8], at: usize) -> Token
     requires { at < length s.now }
     ensures { result ≡ special s.now at }
 {
-    if s[at] == b'"' {
-        return quoted(s, at);
+    match s[at] {
+        b'"' => quoted(s, at),
+        b'[' => bracket(s, at),
+        _ => element_sign(s, at),
     }
-    if s[at] == b'[' {
-        return bracket(s, at);
-    }
-    element_sign(s, at)
 }
 
 // The token that starts at a place, by the sort of the byte there; the text's end is a token.
+#[tactic(auto, using(crate::proofs::TokenSteps::on_end, crate::proofs::TokenSteps::on_capital, crate::proofs::TokenSteps::on_small, crate::proofs::TokenSteps::on_digit, crate::proofs::TokenSteps::on_mark, crate::proofs::TokenSteps::on_other))]
 pub fn token_on(s: &[u8], at: usize) -> Token
     requires { at ≤ length s.now }
     ensures { result ≡ token_on s.now at }
 {
     if s.len() <= at {
-        return Token {
-            sort: TEXT_END,
-            start: at,
-            end: at,
-        };
+        return Token::new(TEXT_END, at, at);
     }
-    let k = sort_of(s[at]);
-    match k {
+    match sort_of(s[at]) {
         CAPITAL => capital_token(s, at),
         SMALL => small_token(s, at),
         DIGIT => number(s, at),
@@ -214,6 +174,7 @@ pub fn token_on(s: &[u8], at: usize) -> Token
 }
 
 // The next token of constraint text, from a place on.
+#[tactic(auto, using(crate::proofs::TokenSteps::token_told))]
 pub fn token_at(s: &[u8], from: usize) -> Token
     requires { from ≤ length s.now }
     ensures { TokenIs s.now from (token_at s.now from) result }
@@ -231,6 +192,7 @@ fn closes(s: &[u8], from: usize) -> bool
 }
 
 // The Duration pattern that a TYPE is spelled as, where `}` follows, or else the TYPE.
+#[tactic(auto, using(crate::proofs::ContentSteps::type_other))]
 fn pattern_or_type(s: &[u8], t: Token) -> Token
     requires { TypeThere s.now t }
     ensures { result ≡ pattern_or s.now t (pattern_slots (spelling s.now t)) }
@@ -246,14 +208,11 @@ fn pattern_or_type(s: &[u8], t: Token) -> Token
     if !closes(s, end) {
         return t;
     }
-    Token {
-        sort: DURATION_PATTERN + flag,
-        start,
-        end,
-    }
+    Token::new(DURATION_PATTERN + flag, start, end)
 }
 
 // The next token of constraint text where a value may stand, from a place on.
+#[tactic(auto, using(crate::proofs::ContentSteps::type_there, crate::proofs::ContentSteps::content_type, crate::proofs::ContentSteps::content_other))]
 pub fn content_token_at(s: &[u8], from: usize) -> Token
     requires { from ≤ length s.now }
     ensures { TokenIs s.now from (content_token_at s.now from) result }

@@ -1,4 +1,4 @@
--- What each way through the code of durations answers is what the definition says. Assumes nothing.
+-- What the code of durations stands on. Assumes nothing.
 use mathlib.Core.Path.{◌≡◌, refl}
 use mathlib.Core.List.{List, [], ◌∷◌}
 use Prim.Native.Nat.{ℕ, ◌-◌, ◌<◌}
@@ -23,3 +23,5 @@ pub duration_empty : (w : List ℕ) → length w < 1 → duration_of w ≡ slots
 unfolding duration_of
 duration_empty [] l = refl
 duration_empty (b ∷ bs) l = absurd (omega arith)
+
+pub ruleset steps = (duration_signed, duration_unsigned, duration_empty)

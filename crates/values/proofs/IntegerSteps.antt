@@ -1,25 +1,22 @@
--- What each way through the code of integers answers is what the definition says. Assumes nothing.
+-- What the code of integers stands on. Assumes nothing.
 use mathlib.Core.Path.{◌≡◌, refl, sym, ap, ◌∙◌}
-use mathlib.Core.Bool.{Bool, true, false, cond, not, ◌&&◌, and-true, and-false, false≢true}
+use mathlib.Core.Bool.{Bool, true, false, cond, ◌&&◌, and-true, and-false, false≢true}
 use Rattle.std.specs.Prelude.{Option, None, Some}
 use mathlib.Core.List.{List, [], ◌∷◌}
 use Prim.Native.Nat.{ℕ, ◌+◌, ◌*◌, ◌-◌, ◌^◌, ◌≤◌, ◌<◌}
 use native.Mathlib.Omega.{arith}
 use lib.Dec.{eqb, leb}
-use lib.ListN.{length, get_or, take, drop, length-drop, drop_of_length-le}
-use lib.Seq.{take_all}
+use lib.ListN.{length, get_or, take, drop, drop_of_length-le}
 use Rattle.core.specs.Bool.{then_some}
 use Rattle.core.specs.Option.{SomeIff}
-use borrow.Author.Tests.{le-leb, lt-leb, leb-true, leb-false, eq-eqb, ne_eqb, not-true, not-false}
-use mir.Syntax.{w32}
-use mir.Val.{Fits}
+use borrow.Author.Tests.{le-leb, lt-leb, leb-true, leb-false, eq-eqb, ne_eqb}
 use Rattle.lexis.specs.Text.{byte}
 use Rattle.lexis.specs.Bytes.{within, among, blanks, marks, sort_of, is, blank, digit, small, capital, mark, other}
 use Rattle.lexis.specs.Runs.{past, all}
 use Rattle.lexis.specs.Clauses.Answers.{PlaceIs}
 use Rattle.lexis.proofs.Cases.{either, and_left, and_right}
-use Rattle.values.specs.Integers.{value_of, nought, greatest, plain, negative, not_negative, integer_of, pair, magnitude, inside, around}
-use Rattle.values.specs.Clauses.Answers.{DigitIs, digits_from, plain_number, short_integer}
+use Rattle.values.specs.Integers.{value_of, nought, plain, negative, not_negative, integer_of}
+use Rattle.values.specs.Clauses.Answers.{digits_from, plain_number, short_integer}
 use Rattle.values.specs.Words.{reads}
 use Rattle.values.proofs.Common.{le_right, by_order, rest_is}
 use Rattle.values.proofs.DigitLaws.{tenfold, tenfold_more}
@@ -217,3 +214,14 @@ short_reads w e =
     let t = tenfold_more (length w) 9 1 l in
     let d = first_digit w (leb-true 1 (length w) (and_right x y xy)) a in
     rw (digit_dash (get_or w 0 0) d, p, le-leb (value_of 0 w) 2_147_483_647 (omega (arith, v, t)))
+
+-- what each function stands on
+pub ruleset digits_steps = (digits_end, digits_other, digits_large, digits_on)
+
+pub ruleset plain_steps = (plain_empty, plain_zero, plain_one, plain_more)
+
+pub ruleset negative_steps = (plain_most, negative_none, negative_nought, negative_some)
+
+pub ruleset unsigned_steps = (unsigned_none, unsigned_there)
+
+pub ruleset integer_steps = (integer_minus, integer_digits, integer_empty)

@@ -17,7 +17,6 @@ pub mod Examples
 mod CalendarSteps
 mod IntegerSteps
 mod ShapeSteps
-mod DateSteps
 mod TimeSteps
 mod DurationSteps
 mod WordSteps

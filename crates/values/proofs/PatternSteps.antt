@@ -1,23 +1,15 @@
--- What each way through the code of patterns answers is what the definition says. Assumes nothing.
-use mathlib.Core.Path.{◌≡◌, refl, sym, subst, ◌∙◌}
-use mathlib.Core.Bool.{Bool, true, false, not, ◌&&◌, and-false, beq}
+-- What the code of patterns stands on. Assumes nothing.
+use mathlib.Core.Path.{◌≡◌, refl, sym, ◌∙◌}
+use mathlib.Core.Bool.{Bool, true, false, ◌&&◌, and-false, beq}
 use mathlib.Core.List.{List, [], ◌∷◌}
-use Prim.Native.Nat.{ℕ, zero, suc, ◌-◌, ◌/◌, ◌%◌, ◌≤◌, ◌<◌}
+use Prim.Native.Nat.{ℕ, zero, suc, ◌-◌, ◌/◌, ◌≤◌, ◌<◌}
 use native.Mathlib.Omega.{arith}
-use lib.Dec.{eqb, leb}
+use lib.Dec.{eqb}
 use lib.ListN.{length, get_or, get_or-eq_default}
-use borrow.Author.Tests.{le-leb, lt-leb, eq-eqb, ne_eqb, not-true, not-false}
+use borrow.Author.Tests.{lt-leb, ne_eqb}
 use Rattle.lexis.specs.Bytes.{within}
 use Rattle.values.specs.Patterns.{Part, fits, date_patterns, time_patterns, fits_date, fits_time, slot_fits, slots_fit, fits_duration}
 use Rattle.values.proofs.Common.{all_below, below, by_order}
-
--- between two numbers
-module _ (low high n : ℕ) where
-  pub within_below : n < low → false ≡ within low high n
-  within_below h = rw (lt-leb low n h)
-
-  pub within-from : low ≤ n → leb n high ≡ within low high n
-  within-from h = rw (le-leb low n h)
 
 -- more parts than the pattern has do not fit
 too_many : (ps : List Part) (n : ℕ) → length ps < n → fits ps n ≡ false
@@ -106,51 +98,23 @@ module _ (flag parts : ℕ) where
     unfolding fits fits_time
     time_other = let l : 5 ≤ flag = omega arith in rw (get_or-eq_default ([] ∷ time_patterns) [] {n = flag} l)
 
--- one slot
-module _ (pattern filled : ℕ) where
-  pub slot_free : filled % 2 ≡ 0 → true ≡ slot_fits pattern filled
-  slot_free q = rw (eq-eqb (filled % 2) 0 q)
-
-  pub slot_filled : (filled % 2 ≡ 0 → ⊥) → eqb (pattern % 2) 1 ≡ slot_fits pattern filled
-  slot_filled n = rw (ne_eqb (filled % 2) 0 n)
-
 -- the slots that are left, all of them at first
 pub slots_all : (pattern filled : ℕ) → slots_fit 7 pattern filled ≡ fits_duration pattern filled
 unfolding fits_duration
 slots_all pattern filled = refl
 
-module _ (left p f : ℕ) where
-  pub slots_end : left ≤ 0 → slots_fit left p f ≡ true
-  unfolding slots_fit
-  slots_end l = let e : left ≡ 0 = omega arith in rw e
+pub slots_end : (left p f : ℕ) → left ≤ 0 → slots_fit left p f ≡ true
+unfolding slots_fit
+slots_end zero p f l = refl
+slots_end (suc left) p f l = absurd (omega arith)
 
-  pub slots_on : 0 < left → slots_fit left p f ≡ slot_fits p f && slots_fit (left - 1) (p / 2) (f / 2)
-  unfolding slots_fit
-  slots_on l = let e : left ≡ suc (left - 1) = omega arith in subst (λ (n : ℕ). slots_fit n p f ≡ slot_fits p f && slots_fit (left - 1) (p / 2) (f / 2)) (sym e) refl
+pub slots_on : (left p f : ℕ) → 0 < left → slots_fit left p f ≡ slot_fits p f && slots_fit (left - 1) (p / 2) (f / 2)
+unfolding slots_fit
+slots_on zero p f l = absurd (omega arith)
+slots_on (suc left) p f l = let n : suc left - 1 ≡ left = omega arith in rw n
 
 pub ruleset date_steps = (date_zero, date_first, date_second, date_third, date_fourth, date_fifth, date-other)
 
 pub ruleset time_steps = (time_zero, time_first, time_second, time_third, time_fourth, time_other)
 
-pub ruleset steps = (
-  within_below,
-  within-from,
-  date_zero,
-  date_first,
-  date_second,
-  date_third,
-  date_fourth,
-  date_fifth,
-  date-other,
-  time_zero,
-  time_first,
-  time_second,
-  time_third,
-  time_fourth,
-  time_other,
-  slot_free,
-  slot_filled,
-  slots_all,
-  slots_end,
-  slots_on,
-)
+pub ruleset slot_steps = (slots_all, slots_end, slots_on)

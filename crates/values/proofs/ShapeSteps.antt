@@ -1,31 +1,18 @@
--- What each way through the code of shapes answers is what the definition says. Assumes nothing.
-use mathlib.Core.Path.{◌≡◌, refl, sym, ◌∙◌}
+-- What the code of shapes stands on. Assumes nothing.
+use mathlib.Core.Path.{◌≡◌, refl}
 use mathlib.Core.Bool.{Bool, true, false, not, ◌&&◌}
 use mathlib.Core.List.{List, [], ◌∷◌}
 use Prim.Native.Nat.{ℕ, ◌+◌, ◌*◌, ◌≤◌}
 use native.Mathlib.Omega.{arith}
 use lib.Dec.{eqb, eqb-zero-suc, eqb-suc-zero, eqb-suc-suc}
 use lib.ListN.{length, get_or}
-use borrow.Author.Tests.{eq-eqb, ne_eqb, not-true, eqb-true}
+use borrow.Author.Tests.{not-true}
 use Rattle.lexis.specs.Runs.{same, shaped, any_digit, all}
 use Rattle.lexis.proofs.Cases.{and_left, and_right}
 use Rattle.lexis.proofs.Places.{drop_in}
 use Rattle.values.specs.Integers.{value_of}
 use Rattle.values.specs.Dates.{exactly, digits_at}
 use Rattle.values.specs.Clauses.Answers.{DigitIs, DigitsAre}
-
--- a shape, to the end
-module _ (shape w : List ℕ) where
-  pub exactly_not : (length w ≡ length shape → ⊥) → false ≡ exactly shape w
-  exactly_not n = rw (ne_eqb (length w) (length shape) n)
-
-  pub exactly-shaped : (r : Bool) → r ≡ shaped shape w → length w ≡ length shape → r ≡ exactly shape w
-  exactly-shaped r h q = rw (eq-eqb (length w) (length shape) q) h
-
--- bytes of a shape are as many
-pub exactly_long : (shape w : List ℕ) (r : Bool) → r ≡ exactly shape w → r ≡ true → length w ≡ length shape
-exactly_long shape w r h q =
-    eqb-true (length w) (length shape) (and_left (eqb (length w) (length shape)) (shaped shape w) (sym h ∙ q))
 
 -- a shape in which no digit may stand is a word
 and_swap : (a b c : Bool) → (a && (b && c)) ≡ (b && (a && c))
@@ -73,10 +60,3 @@ four_are w x y h a b =
     let ha = a.fits in
     let hb = b.fits in
     record { is = four_is w x y h a.is b.is; fits = omega arith }
-
-pub ruleset steps = (
-  exactly_not,
-  exactly-shaped,
-  two_are,
-  four_are,
-)

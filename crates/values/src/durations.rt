@@ -5,7 +5,7 @@ ghost use Rattle.values.specs.Durations.{duration_of};
 use lexis::durations::word_slots;
 
 // The slots that the duration that bytes spell fills, as a flag, with or without a sign.
-#[tactic(auto, using(crate::proofs::DurationSteps::duration_signed, crate::proofs::DurationSteps::duration_unsigned, crate::proofs::DurationSteps::duration_empty))]
+#[tactic(auto, using(crate::proofs::DurationSteps::steps))]
 pub fn duration_of(w: &[u8]) -> Option<u8>
     ensures { result ≡ duration_of w.now }
 {

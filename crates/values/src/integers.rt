@@ -14,7 +14,7 @@ const NOUGHT: u32 = 2_147_483_648;
 pub const GREATEST: u32 = 4_294_967_295;
 
 // The number that digits spell, up to 2,147,483,648: a longer run is left as soon as it is larger.
-#[tactic(auto, using(crate::proofs::IntegerSteps::digits_end, crate::proofs::IntegerSteps::digits_other, crate::proofs::IntegerSteps::digits_large, crate::proofs::IntegerSteps::digits_on))]
+#[tactic(auto, using(crate::proofs::IntegerSteps::digits_steps))]
 fn digits(ds: &[u8]) -> Option<u32>
     ensures { result ≡ digits_from 0 ds.now }
 {
@@ -29,7 +29,7 @@ fn digits(ds: &[u8]) -> Option<u32>
 }
 
 // The same of digits without a needless zero in front.
-#[tactic(auto, using(crate::proofs::IntegerSteps::plain_empty, crate::proofs::IntegerSteps::plain_zero, crate::proofs::IntegerSteps::plain_one, crate::proofs::IntegerSteps::plain_more))]
+#[tactic(auto, using(crate::proofs::IntegerSteps::plain_steps))]
 fn plain_number(ds: &[u8]) -> Option<u32>
     ensures { result ≡ plain_number ds.now }
 {
@@ -40,7 +40,7 @@ fn plain_number(ds: &[u8]) -> Option<u32>
 }
 
 // An integer from the digits behind `-`.
-#[tactic(auto, using(crate::proofs::IntegerSteps::plain_most, crate::proofs::IntegerSteps::negative_none, crate::proofs::IntegerSteps::negative_nought, crate::proofs::IntegerSteps::negative_some))]
+#[tactic(auto, using(crate::proofs::IntegerSteps::negative_steps))]
 fn negative(ds: &[u8]) -> Option<u32>
     ensures { result ≡ negative ds.now }
 {
@@ -49,7 +49,7 @@ fn negative(ds: &[u8]) -> Option<u32>
 }
 
 // An integer from digits without `-`: above the greatest the sum is no u32.
-#[tactic(auto, using(crate::proofs::IntegerSteps::unsigned_none, crate::proofs::IntegerSteps::unsigned_there))]
+#[tactic(auto, using(crate::proofs::IntegerSteps::unsigned_steps))]
 fn not_negative(ds: &[u8]) -> Option<u32>
     ensures { result ≡ not_negative ds.now }
 {
@@ -57,7 +57,7 @@ fn not_negative(ds: &[u8]) -> Option<u32>
 }
 
 // The integer that bytes spell, as a distance.
-#[tactic(auto, using(crate::proofs::IntegerSteps::integer_minus, crate::proofs::IntegerSteps::integer_digits, crate::proofs::IntegerSteps::integer_empty))]
+#[tactic(auto, using(crate::proofs::IntegerSteps::integer_steps))]
 pub fn integer_of(w: &[u8]) -> Option<u32>
     ensures { result ≡ integer_of w.now }
 {

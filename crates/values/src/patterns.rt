@@ -41,7 +41,7 @@ fn slot_fits(pattern: u8, filled: u8) -> bool
 }
 
 // Each slot that a duration fills, of y, m, w, d, h, m and s, is in the pattern.
-#[tactic(auto, using(crate::proofs::PatternSteps::slots_all, crate::proofs::PatternSteps::slots_end, crate::proofs::PatternSteps::slots_on))]
+#[tactic(auto, using(crate::proofs::PatternSteps::slot_steps))]
 pub fn fits_duration(pattern: u8, filled: u8) -> bool
     ensures { result ≡ fits_duration pattern filled }
 {

@@ -86,10 +86,7 @@ fn second_time(w: &[u8]) -> bool
     requires { 8 ≤ length w.now }
     ensures { result ≡ second_time w.now }
 {
-    up_to(w, 0, LAST_HOUR)
-        && up_to(w, 3, LAST_MINUTE)
-        && up_to(w, 6, LAST_SECOND)
-        && zone(&w[8..])
+    up_to(w, 0, LAST_HOUR) && up_to(w, 3, LAST_MINUTE) && up_to(w, 6, LAST_SECOND) && zone(&w[8..])
 }
 
 // How many of hours, minutes and seconds the time has that bytes spell, whole or from the hour on, with or without a zone.

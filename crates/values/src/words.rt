@@ -5,20 +5,17 @@ ghost use Rattle.values.specs.Words.{boolean_of, good};
 use crate::dates::date_of;
 use crate::durations::duration_of;
 use crate::integers::{integer_of, short_integer};
-use crate::shapes::exactly;
 use crate::times::time_of;
 
 // The Boolean that bytes spell: 1 for True and 2 for False.
-#[tactic(auto, using(crate::proofs::WordSteps::true_is, crate::proofs::WordSteps::false_is), unfolding(crate::specs::Words::boolean_of))]
+#[tactic(auto, using(crate::proofs::WordSteps::steps), unfolding(crate::specs::Words::boolean_of))]
 pub fn boolean_of(w: &[u8]) -> Option<u8>
     ensures { result ≡ boolean_of w.now }
 {
-    if exactly(b"True", w) {
-        Some(1)
-    } else if exactly(b"False", w) {
-        Some(2)
-    } else {
-        None
+    match w {
+        b"True" => Some(1),
+        b"False" => Some(2),
+        _ => None,
     }
 }
 

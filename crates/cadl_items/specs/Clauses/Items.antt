@@ -228,11 +228,7 @@ pub record OneIs (s : List ℕ) (number : ℕ) (reading : Reading Leaf) (r : Res
   pub is : (scratch : List ℕ) → leaf_reading s number scratch r ≡ reading
   pub one : OneRecord r
 
--- room for a leaf's record
-abbrev pub room : ℕ → ℕ → Result (Unit {0}) Refusal
-room number place = cond (eqb number record_limit) (Err (refusal TooManyRecords place)) (Ok tt)
-
--- a pattern of a sort and a flag
+-- a pattern of a sort and a flag, if there is room for its record
 abbrev pub pattern : ℕ → Token → declared.SingleSort → ℕ → Result declared_leaf.Leaf Refusal
 pattern number t sort flag =
     cond (eqb number record_limit) (Err (refusal TooManyRecords t.start)) (Ok (leaf_read.Single sort flag t.end))

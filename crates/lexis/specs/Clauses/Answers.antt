@@ -38,19 +38,6 @@ pub record StartsAlike (s : List ℕ) (from r : ℕ) : Type 0 where
   pub low : from ≤ r
   pub high : r ≤ length s
 
--- the byte b stands at a place of the text
-pub record OpensMark (s : List ℕ) (at b : ℕ) : Type 0 where
-  pub inside : at < length s
-  pub is : byte_at s at ≡ b
-
--- a byte with which no longer mark opens stands at a place of the text
-pub record OpensPlain (s : List ℕ) (at : ℕ) : Type 0 where
-  pub inside : at < length s
-  pub less : byte_at s at ≡ byte "<" → ⊥
-  pub greater : byte_at s at ≡ byte ">" → ⊥
-  pub dot : byte_at s at ≡ byte "." → ⊥
-  pub plus : byte_at s at ≡ byte "+" → ⊥
-
 -- the byte is the mark of data text of that sort
 abbrev pub is_mark : ℕ → ℕ → Bool
 is_mark b sort =

@@ -6,8 +6,7 @@ use Rattle.lexis.specs.Text.{byte, bytes}
 use Rattle.lexis.specs.Bytes.{is, digit}
 use Rattle.lexis.specs.Runs.{all}
 use Rattle.values.specs.Integers.{value_of, nought, plain}
-use Rattle.values.specs.Calendar.{packed}
-use Rattle.values.specs.Dates.{Date, exactly, digits_at, real_date}
+use Rattle.values.specs.Dates.{exactly, digits_at}
 use Rattle.values.specs.Times.{east, west, zone, hours, minutes, seconds}
 
 -- what a byte counts as a digit
@@ -31,16 +30,6 @@ plain_number ds = cond (plain ds && leb (value_of 0 ds) nought) (Some (value_of 
 -- at most nine digits, which spell an integer plainly
 unfoldable pub short_integer : List ℕ → Bool
 short_integer w = plain w && leb (length w) 9
-
--- yyyy, yyyy-mm and yyyy-mm-dd
-abbrev pub year_date : List ℕ → Option Date
-year_date w = real_date 1 (packed (digits_at 0 4 w) 1 1)
-
-abbrev pub month_date : List ℕ → Option Date
-month_date w = real_date 2 (packed (digits_at 0 4 w) (digits_at 5 2 w) 1)
-
-abbrev pub day_date : List ℕ → Option Date
-day_date w = real_date 3 (packed (digits_at 0 4 w) (digits_at 5 2 w) (digits_at 8 2 w))
 
 -- a zone with `+`, and one with `-`
 abbrev pub east_zone : List ℕ → Bool

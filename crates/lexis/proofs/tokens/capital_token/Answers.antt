@@ -1,6 +1,0 @@
--- `lexis::tokens::capital_token` meets its contract. Assumes nothing.
-use Rattle.lexis.proofs.SpellingSteps.{spelled_else}
-use Rattle.lexis.proofs.tokens.capital_token.Goals as goal
-
-pub returns : goal.returns
-returns c = search spelled_else
