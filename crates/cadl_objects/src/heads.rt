@@ -119,12 +119,7 @@ fn attribute_name(
 
 // What an object begins with: a TYPE, a code where there is one, and `matches {`.
 #[tactic(auto, unfolding(crate::specs::Clauses::Answers::object_head))]
-pub fn object_head(
-    s: &[u8],
-    levels: usize,
-    next: usize,
-    from: usize,
-) -> Result<ObjectHead, Refusal>
+pub fn object_head(s: &[u8], levels: usize, next: usize, from: usize) -> Result<ObjectHead, Refusal>
     requires { Counted s.now next from }
     ensures { ObjectHeadIs s.now levels next from result }
 {

@@ -1,15 +1,14 @@
 -- A rule of numbers in a row, shown of all of them by one test that antt computes; the steps of the tests on bytes. Assumes nothing.
 use mathlib.Core.Path.{◌≡◌, refl, sym}
-use mathlib.Core.Bool.{Bool, true, false, cond, not, ◌&&◌, ◌||◌}
+use mathlib.Core.Bool.{Bool, true, false, cond, not, ◌&&◌}
 use mathlib.Core.List.{List}
 use Prim.Native.Nat.{ℕ, zero, suc, ◌+◌, ◌≤◌, ◌<◌}
 use native.Mathlib.Omega.{arith}
 use native.Mathlib.Decide.{dec_lt}
-use lib.Dec.{eqb, leb}
+use lib.Dec.{eqb}
 use lib.ListN.{get_or}
-use borrow.Author.Tests.{eqb-true, ne_eqb, le-leb}
-use Rattle.lexis.specs.Bytes.{sort_of, word_byte, string_byte, run_byte}
-use Rattle.lexis.specs.Clauses.Answers.{run_mark}
+use borrow.Author.Tests.{eqb-true}
+use Rattle.lexis.specs.Bytes.{sort_of, word_byte, run_byte}
 use Rattle.lexis.proofs.Cases.{and_left, and_right}
 
 -- two tests answer the same

@@ -8,7 +8,7 @@ use native.Mathlib.Nat.{add-zero}
 use lib.Dec.{eqb, leb}
 use lib.ListN.{length, drop}
 use lib.Seq.{get_or-take, get_or-drop}
-use borrow.Author.Tests.{eqb-true, eq-eqb, ne_eqb, leb-true, le-leb, lt-leb, not-true, not-false}
+use borrow.Author.Tests.{eqb-true, eq-eqb, ne_eqb, leb-true, le-leb, not-true, not-false}
 use Rattle.lexis.specs.Text.{byte}
 use Rattle.lexis.specs.Runs.{byte_at, part}
 use Rattle.lexis.specs.Spelling.{close_brace}
@@ -89,17 +89,18 @@ content_found s from h =
 
 -- the next token where a value may stand
 module _ (s : List ℕ) (from : ℕ) (h : from ≤ length s) (t : Token) (p : TokenIs s from (token_at s from) t) where
-  pub content_type : (r : Token) → t.sort ≡ type_name → r ≡ pattern_or s t (pattern_slots (spelling s t))
-      → TokenIs s from (content_token_at s from) r
+  pub content_type : t.sort ≡ 2 → TokenIs s from (content_token_at s from) (pattern_or s t (pattern_slots (spelling s t)))
   unfolding content_token_at
-  content_type r e q = promised s from (content_token_at s from) r (q ∙ as_content t p.is e) (content_found s from h)
+  content_type e = promised s from (content_token_at s from) _ (as_content t p.is e) (content_found s from h)
     where
       as_content : (u : Token) → u ≡ token_at s from → u.sort ≡ type_name → pattern_or s u (pattern_slots (spelling s u)) ≡ content_token_at s from
       as_content u i k = rw (← i, eq-eqb u.sort type_name k) refl
 
-  pub content_other : (t.sort ≡ type_name → ⊥) → TokenIs s from (content_token_at s from) t
+  pub content_other : (t.sort ≡ 2 → ⊥) → TokenIs s from (content_token_at s from) t
   unfolding content_token_at
   content_other n = promised s from (content_token_at s from) t (as_content t p.is n) (content_found s from h)
     where
       as_content : (u : Token) → u ≡ token_at s from → (u.sort ≡ type_name → ⊥) → u ≡ content_token_at s from
       as_content u i k = rw (← i, ne_eqb u.sort type_name k) refl
+
+pub ruleset of_content = (type_there, content_type, content_other)

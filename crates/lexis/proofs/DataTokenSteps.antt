@@ -8,13 +8,10 @@ use native.Mathlib.Decide.{dec_lt}
 use lib.Dec.{eqb}
 use lib.ListN.{length, take, drop, drop_of_length-le}
 use lib.Seq.{drop-drop, drop-nil, get_or-drop}
-use borrow.Author.Tests.{eq-eqb, ne_eqb, le-leb, lt-leb, not-true, not-false}
-use Rattle.lexis.specs.Text.{byte}
-use Rattle.lexis.specs.Bytes.{sort_of, is, small, capital, word_byte, run_byte}
+use borrow.Author.Tests.{eq-eqb, ne_eqb, not-true}
+use Rattle.lexis.specs.Bytes.{sort_of, word_byte, run_byte}
 use Rattle.lexis.specs.Runs.{past, byte_at, part, all}
-use Rattle.lexis.specs.Spelling.{Literal, word_sort, keywords, booleans}
-use Rattle.lexis.specs.Tokens.{token, no_token, spelled, quoted, text_end, type_name, name}
-use Rattle.lexis.specs.DataTokens.{data_marks, name_sort, run, data_token_on, data_token_at, type_token_at}
+use Rattle.lexis.specs.DataTokens.{data_token_at, type_token_at}
 use Rattle.lexis.specs.Clauses.Answers.{PlaceIs, WordEnds, TokenIs, run_mark}
 use Rattle.lexis.specs.declared.Token.{Token}
 use Rattle.lexis.proofs.Places.{past_between, drop_in}
@@ -124,3 +121,5 @@ module _ (s : List ℕ) (from : ℕ) (r : Token) (h : from ≤ length s) where
 
   pub type_told : r ≡ type_token_at s from → TokenIs s from (type_token_at s from) r
   type_told q = promised s from (type_token_at s from) r q (type_token-found s from h)
+
+pub ruleset of_runs = (word_stops, run_whole, run_end)

@@ -210,3 +210,13 @@ module _ (slot : ℕ → List ℕ → ℕ) (w : List ℕ) where
 pub pattern_told : (w : List ℕ) (r : Option ℕ) → FlagIs (slots_of letter_slot w) r → FlagIs (pattern_slots w) r
 unfolding pattern_slots
 pattern_told w r h = h
+
+pub ruleset of_letters = (letter_none, letter_here, letter_other)
+
+pub ruleset of_digits = (digit_few, digit_many, digit_ended, digit_letter, digit_other)
+
+pub ruleset of_fills = (fill_some, fill_none)
+
+pub ruleset of_times = (time_left, time_none, time_some)
+
+pub ruleset of_slots = (slots_empty, slots_other, slots_end, slots_not_time, slots_time)

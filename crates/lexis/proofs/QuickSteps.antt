@@ -1,13 +1,12 @@
 -- The steps of reading tokens of data text that stand at a place or behind a space: a lemma for each way out, in the form that `search` takes. Assumes nothing.
 use mathlib.Core.Path.{◌≡◌, refl, sym, ◌∙◌}
-use mathlib.Core.Bool.{Bool, true, false, cond, not, or-true, false≢true}
+use mathlib.Core.Bool.{Bool, true, false, cond, or-true, false≢true}
 use mathlib.Core.Logic.{◌≢◌}
 use mathlib.Core.List.{List}
 use Prim.Native.Nat.{ℕ, ◌+◌, ◌≤◌, ◌<◌}
-use native.Mathlib.Omega.{arith}
 use lib.Dec.{eqb}
 use lib.ListN.{length, drop}
-use borrow.Author.Tests.{eqb-true, eqb-false, ne_eqb, not-true, lt-leb}
+use borrow.Author.Tests.{eqb-true, eqb-false, ne_eqb, lt-leb}
 use Rattle.lexis.specs.Text.{byte}
 use Rattle.lexis.specs.Bytes.{sort_of, is, blank, digit, word_byte, run_byte}
 use Rattle.lexis.specs.Runs.{past, byte_at, starts_with}
@@ -20,12 +19,14 @@ use Rattle.lexis.proofs.Places.{byte_inside, drop_in}
 use Rattle.lexis.proofs.StartBack.{start_here, clear_at}
 use Rattle.lexis.proofs.DataTokenSteps.{run_on, run_ends, data_told}
 
--- behind a space
-pub behind_blank : (s : List ℕ) (from : ℕ) → byte_at s from ≡ byte " " → StartsAlike s from (from + 1)
-unfolding skip sort_of
-behind_blank s from e =
-    let h = byte_inside s from (byte " ") e (λ z. eqb-false (byte " ") 0 refl z) in
-    record { is = rw (drop_in s from h, e); low = omega arith; high = omega arith }
+-- a space
+module _ (s : List ℕ) (from : ℕ) (e : byte_at s from ≡ 32) where
+  pub space_inside : from < length s
+  space_inside = byte_inside s from (byte " ") e (λ z. eqb-false (byte " ") 0 refl z)
+
+  pub behind_blank : token_start s (from + 1) ≡ token_start s from
+  unfolding skip sort_of
+  behind_blank = rw (drop_in s from space_inside, e)
 
 -- what holds of each mark and its sort
 mark_cases : (P : ℕ → ℕ → Type 0) → P 60 18 → P 62 19 → P 61 23 → P 40 24 → P 41 25 → (b sort : ℕ)
@@ -104,20 +105,18 @@ digit_some : (b : ℕ) → is digit b ≡ true → b ≢ 0
 unfolding sort_of
 digit_some b e z = false≢true (rw z at e)
 
-module _ (s : List ℕ) (from b : ℕ) (q : b ≡ byte_at s from) (h : from ≤ length s) (d : Bool) (k : d ≡ is digit b)
-    (e : d ≡ true) where
-  digit_here : is digit (byte_at s from) ≡ true
-  digit_here = rw (← q, ← k) e
+pub digits_told : (s : List ℕ) (from end : ℕ) → from ≤ length s → is digit (byte_at s from) ≡ true
+    → PlaceIs s from (past (is digit) from (drop from s)) end → run_byte (byte_at s end) ≡ false
+    → TokenIs s from (data_token_at s from) (token 26 from end)
+unfolding data_token_on data_token_at
+digits_told s from end h y p w =
+    let l = byte_inside s from (byte_at s from) refl (digit_some _ y) in
+    let n = starts_here s from (digit-plain _ y) (digit_dash _ y) in
+    let o = run_ends run_byte s end p.high w in
+    let g = o.is ∙ run_on (is digit) run_byte digit-run s from end p in
+    data_told s from (token 26 from end) h
+    (rw (n, lt-leb (length s) from l, digit-run _ y, eqb-true (sort_of (byte_at s from)) digit y, ← g))
 
-  pub digits_told : (end c : ℕ) (r : Bool) → PlaceIs s from (past (is digit) from (drop from s)) end → c ≡ byte_at s end
-      → r ≡ run_byte c → not r ≡ true
-      → TokenIs s from (data_token_at s from) (token 26 from end)
-  unfolding data_token_on data_token_at
-  digits_told end c r p u v w =
-      let y = digit_here in
-      let l = byte_inside s from (byte_at s from) refl (digit_some _ y) in
-      let n = starts_here s from (digit-plain _ y) (digit_dash _ y) in
-      let o = run_ends run_byte s end p.high (rw (← u, ← v) (not-true r w)) in
-      let g = o.is ∙ run_on (is digit) run_byte digit-run s from end p in
-      data_told s from (token 26 from end) h
-      (rw (n, lt-leb (length s) from l, digit-run _ y, eqb-true (sort_of (byte_at s from)) digit y, ← g))
+pub ruleset of_spaces = (space_inside, behind_blank)
+
+pub ruleset of_values = (string_inside, string_told, digits_told)

@@ -1,6 +1,5 @@
 -- The steps of reading the next token of a text: a lemma for each way out, in the form that `search` takes. Assumes nothing.
-use mathlib.Core.Path.{◌≡◌, refl}
-use mathlib.Core.Bool.{Bool}
+use mathlib.Core.Path.{◌≡◌}
 use mathlib.Core.List.{List}
 use Prim.Native.Nat.{ℕ, ◌≤◌, ◌<◌}
 use native.Mathlib.Omega.{arith}
@@ -34,3 +33,5 @@ module _ (s : List ℕ) (from : ℕ) where
     pub next_behind : k ≡ Behind → t ≡ data_token_on type_sort s at → t ≡ token_by k s from
     unfolding type_token_at
     next_behind e q = rw e (rw p.is at q)
+
+pub ruleset of_texts = (next_end, next_constraint, next_data, next_behind)

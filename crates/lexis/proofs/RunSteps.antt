@@ -11,7 +11,7 @@ use lib.ListN.{length, drop, length-drop, drop_of_length-le, get_or-eq_default}
 use lib.Seq.{get_or-drop}
 use borrow.Author.Tests.{eq-eqb, ne_eqb, not-true, not-false}
 use Rattle.lexis.specs.Text.{byte}
-use Rattle.lexis.specs.Bytes.{within, among, marks, sort_of, is, blank, digit, small, capital, mark, other, word_byte, string_byte, run_byte, line_end}
+use Rattle.lexis.specs.Bytes.{within, among, marks, sort_of, is, blank, digit, small, capital, mark, other}
 use Rattle.lexis.specs.Runs.{past, byte_at, same, starts_with, shaped, allows}
 use Rattle.lexis.specs.Blanks.{skip, opens_comment, token_start}
 use Rattle.lexis.specs.Clauses.Answers.{PlaceIs, comment_open, token_here, begins_by}
@@ -209,3 +209,11 @@ module _ (a b : List ℕ) (i : ℕ) (inv : InBoth a b i) where
 
     pub both_on : byte_at a i ≡ byte_at b i → InBoth a b (i + 1)
     both_on e = record { high = omega arith; long = inv.long; is = rw (step, eq-eqb (byte_at a i) (byte_at b i) e) at inv.is }
+
+pub ruleset of_runs = (run_out, run_on, run_end)
+
+pub ruleset of_places = (here_far, here_two)
+
+pub ruleset of_blanks = (blanks_out, blanks_on, blanks_end)
+
+pub ruleset of_words = (begins_short, word_out, word_on, word_end)

@@ -1,22 +1,22 @@
 -- The steps of reading a token of constraint text: a lemma for each way out, in the form that `search` takes. Assumes nothing.
-use mathlib.Core.Path.{◌≡◌, refl, sym, ap, ◌∙◌}
-use mathlib.Core.Bool.{Bool, true, false, not, ◌&&◌, ◌||◌}
+use mathlib.Core.Path.{◌≡◌, sym, ap, ◌∙◌}
+use mathlib.Core.Bool.{Bool, true, false, ◌&&◌, ◌||◌}
 use mathlib.Core.List.{List, ◌∷◌}
 use Prim.Native.Nat.{ℕ, ◌+◌, ◌≤◌, ◌<◌}
 use native.Mathlib.Omega.{arith}
 use lib.Dec.{eqb}
 use lib.ListN.{length, drop, length-drop, drop_of_length-le}
-use borrow.Author.Tests.{eqb-true, eq-eqb, ne_eqb, le-leb, not-true, not-false}
+use borrow.Author.Tests.{eqb-true, ne_eqb, le-leb}
 use Rattle.lexis.specs.Text.{byte}
-use Rattle.lexis.specs.Bytes.{is, sort_of, digit, string_byte}
-use Rattle.lexis.specs.Runs.{past, byte_at, starts_with, shaped}
-use Rattle.lexis.specs.Spelling.{mark_spellings, keywords, element_sign, booleans, date_pattern_spellings, time_pattern_spellings, code_start, date_shape}
-use Rattle.lexis.specs.Tokens.{token, no_token, spelled, word, number, sign, quoted, code_end, bracket, special, token_on, token_at, text_end, type_name, name, integer, date, string, code}
-use Rattle.lexis.specs.Clauses.Answers.{unless_zero, PlaceIs, TokenIs}
+use Rattle.lexis.specs.Bytes.{is, sort_of, digit}
+use Rattle.lexis.specs.Runs.{byte_at, starts_with}
+use Rattle.lexis.specs.Spelling.{keywords, booleans, date_pattern_spellings, time_pattern_spellings, code_start}
+use Rattle.lexis.specs.Tokens.{token, spelled, word, number, sign, code_end, special, token_on, token_at, text_end, type_name, name}
+use Rattle.lexis.specs.Clauses.Answers.{unless_zero, TokenIs}
 use Rattle.lexis.specs.declared.Token.{Token}
-use Rattle.std.specs.Prelude.{Option, Some, None}
+use Rattle.std.specs.Prelude.{Some, None}
 use Rattle.lexis.proofs.Cases.{and_left}
-use Rattle.lexis.proofs.Options.{above_some, none_zero, some_above}
+use Rattle.lexis.proofs.Options.{above_some}
 use Rattle.lexis.proofs.Places.{Found, drop_in, starts_long, token-found}
 use Rattle.lexis.proofs.ReadBack.{on_sort, starting}
 
@@ -103,3 +103,7 @@ promised s from t r e f = record {
 pub token_told : (s : List ℕ) (from : ℕ) (r : Token) → from ≤ length s → r ≡ token_at s from
     → TokenIs s from (token_at s from) r
 token_told s from r h q = promised s from (token_at s from) r q (token-found s from h)
+
+pub ruleset of_codes = (code_on, code_close, code_stop, code_none)
+
+pub ruleset of_sorts = (on_end, on_capital, on_small, on_digit, on_mark, on_other)

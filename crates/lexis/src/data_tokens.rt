@@ -81,7 +81,7 @@ fn run_end(s: &[u8], at: usize) -> usize
 }
 
 // The run at a place. It is a word where the word at the place ends with it.
-#[tactic(auto, using(crate::proofs::DataTokenSteps::word_stops, crate::proofs::DataTokenSteps::run_whole, crate::proofs::DataTokenSteps::run_end))]
+#[tactic(auto, using(crate::proofs::DataTokenSteps::of_runs))]
 fn run<P: Standing>(s: &[u8], at: usize) -> Token
     requires { at < length s.now }
     ensures { result ≡ run P.sorting s.now at }
@@ -129,7 +129,7 @@ pub fn type_token_at(s: &[u8], from: usize) -> Token
 }
 
 // Behind a space at a place, or else the place.
-#[tactic(auto, using(crate::proofs::QuickSteps::behind_blank))]
+#[tactic(auto, using(crate::proofs::QuickSteps::of_spaces))]
 fn behind_space(s: &[u8], from: usize) -> usize
     requires { from ≤ length s.now }
     ensures { StartsAlike s.now from result }
@@ -173,7 +173,7 @@ pub fn mark_token_at(s: &[u8], from: usize, first: u8, second: u8) -> Token
 }
 
 // The next token of data text, from a place on: quick where it is a string or a run of digits, at the place.
-#[tactic(auto, using(crate::proofs::QuickSteps::string_inside, crate::proofs::QuickSteps::string_told, crate::proofs::QuickSteps::digits_told))]
+#[tactic(auto, using(crate::proofs::QuickSteps::of_values))]
 pub fn value_token_at(s: &[u8], from: usize) -> Token
     requires { from ≤ length s.now }
     ensures { TokenIs s.now from (data_token_at s.now from) result }

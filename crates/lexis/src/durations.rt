@@ -45,7 +45,7 @@ struct DigitsAndLetter;
 impl Slot for LetterAlone {
     ghost size = { letter_slot };
 
-    #[tactic(auto, using(crate::proofs::DurationSteps::letter_none, crate::proofs::DurationSteps::letter_here, crate::proofs::DurationSteps::letter_other))]
+    #[tactic(auto, using(crate::proofs::DurationSteps::of_letters))]
     fn size(w: &[u8], at: usize, letter: u8) -> Option<usize> {
         if at < w.len() && w[at] == letter {
             return Some(1);
@@ -57,11 +57,11 @@ impl Slot for LetterAlone {
 impl Slot for DigitsAndLetter {
     ghost size = { digit_slot };
 
-    #[tactic(auto, using(crate::proofs::DurationSteps::digit_few, crate::proofs::DurationSteps::digit_many, crate::proofs::DurationSteps::digit_ended, crate::proofs::DurationSteps::digit_letter, crate::proofs::DurationSteps::digit_other))]
+    #[tactic(auto, using(crate::proofs::DurationSteps::of_digits))]
     fn size(w: &[u8], at: usize, letter: u8) -> Option<usize> {
         let end = past_run::<Digit>(w, at);
         let digits = end - at;
-        if digits < 1 || MOST_DIGITS < digits {
+        if digits == 0 || MOST_DIGITS < digits {
             return None;
         }
         if end < w.len() && in_either_case(letter, w[end]) {
@@ -72,7 +72,7 @@ impl Slot for DigitsAndLetter {
 }
 
 // The slot of a letter, whose bit is given, where one stands next.
-#[tactic(auto, using(crate::proofs::DurationSteps::fill_some, crate::proofs::DurationSteps::fill_none))]
+#[tactic(auto, using(crate::proofs::DurationSteps::of_fills))]
 fn fill<S: Slot>(w: &[u8], x: Slots, bit: u8, letter: u8) -> Slots
     requires { FillRoom w.now x bit }
     ensures { FillIs w.now (x.flag + bit) (fill S.size bit letter (filled_at w.now x)) result }
@@ -113,14 +113,14 @@ fn fill_times<S: Slot>(w: &[u8], at: usize) -> Slots
 }
 
 // Behind T: slots, one at least, and the end.
-#[tactic(auto, using(crate::proofs::DurationSteps::time_left, crate::proofs::DurationSteps::time_none, crate::proofs::DurationSteps::time_some))]
+#[tactic(auto, using(crate::proofs::DurationSteps::of_times))]
 fn behind_time<S: Slot>(w: &[u8], at: usize, flag: u8) -> Option<u8>
     requires at_in_bounds { at ≤ length w.now }
     requires flag_bound { flag ≤ 15 }
     ensures { FlagIs (behind_time S.size flag (drop at w.now)) result }
 {
     let x = fill_times::<S>(w, at);
-    if x.at < w.len() || x.flag < 1 {
+    if x.at < w.len() || x.flag == 0 {
         return None;
     }
     Some(flag + x.flag)
@@ -135,11 +135,11 @@ fn dates_alone(flag: u8) -> Option<u8>
 }
 
 // P and slots: the slots filled, as a flag, where the bytes are spelled so.
-#[tactic(auto, using(crate::proofs::DurationSteps::slots_empty, crate::proofs::DurationSteps::slots_other, crate::proofs::DurationSteps::slots_end, crate::proofs::DurationSteps::slots_not_time, crate::proofs::DurationSteps::slots_time))]
+#[tactic(auto, using(crate::proofs::DurationSteps::of_slots))]
 fn slots_of<S: Slot>(w: &[u8]) -> Option<u8>
     ensures { FlagIs (slots_of S.size w.now) result }
 {
-    if w.len() == 0 || w[0] != b'P' {
+    if w.is_empty() || w[0] != b'P' {
         return None;
     }
     let x = fill_dates::<S>(w, 1);

@@ -22,7 +22,7 @@ pub struct Reader<'a> {
 }
 
 // The next token of a text, from a place on.
-#[tactic(auto, using(crate::proofs::ReaderSteps::next_end, crate::proofs::ReaderSteps::next_constraint, crate::proofs::ReaderSteps::next_data, crate::proofs::ReaderSteps::next_behind))]
+#[tactic(auto, using(crate::proofs::ReaderSteps::of_texts))]
 fn token_of(s: &[u8], from: usize, tokens: Tokens) -> Token
     ensures { result ≡ token_by tokens s.now from }
 {

@@ -61,7 +61,7 @@ impl Class for Run {
 }
 
 // The first place from one on whose byte is not of the class.
-#[tactic(auto, using(crate::proofs::RunSteps::run_out, crate::proofs::RunSteps::run_on, crate::proofs::RunSteps::run_end))]
+#[tactic(auto, using(crate::proofs::RunSteps::of_runs))]
 pub fn past_run<C: Class>(s: &[u8], from: usize) -> usize
     requires { from ≤ length s.now }
     ensures { PlaceIs s.now from (past C.test from (drop from s.now)) result }
@@ -87,7 +87,7 @@ fn comment_open(s: &[u8], at: usize, inside: bool) -> bool
 }
 
 // Whether a token starts at a byte: no comment is open before it or behind it, and it is no blank. No byte above `-` is a blank or opens a comment.
-#[tactic(auto, using(crate::proofs::RunSteps::here_far, crate::proofs::RunSteps::here_two))]
+#[tactic(auto, using(crate::proofs::RunSteps::of_places))]
 fn token_here(s: &[u8], at: usize, inside: bool) -> bool
     requires { at < length s.now }
     ensures { result ≡ token_here inside (byte_at s.now at) (drop (at + 1) s.now) }
@@ -95,18 +95,14 @@ fn token_here(s: &[u8], at: usize, inside: bool) -> bool
     if inside {
         return false;
     }
-    let b = s[at];
-    if b'-' < b {
-        return true;
+    match s[at] {
+        b'-' => byte_at(s, at + 1) != b'-',
+        b => b'-' < b || !is_blank(b),
     }
-    if b == b'-' {
-        return byte_at(s, at + 1) != b'-';
-    }
-    !is_blank(b)
 }
 
 // Where the next token starts: behind blanks and comments.
-#[tactic(auto, using(crate::proofs::RunSteps::blanks_out, crate::proofs::RunSteps::blanks_on, crate::proofs::RunSteps::blanks_end))]
+#[tactic(auto, using(crate::proofs::RunSteps::of_blanks))]
 pub fn token_start(s: &[u8], from: usize) -> usize
     requires { from ≤ length s.now }
     ensures { PlaceIs s.now from (token_start s.now from) result }
@@ -152,7 +148,7 @@ impl Spelling for Shape {
 }
 
 // The bytes at a place begin as is spelled.
-#[tactic(auto, using(crate::proofs::RunSteps::begins_short, crate::proofs::RunSteps::word_out, crate::proofs::RunSteps::word_on, crate::proofs::RunSteps::word_end))]
+#[tactic(auto, using(crate::proofs::RunSteps::of_words))]
 fn begins<S: Spelling>(s: &[u8], at: usize, w: &[u8]) -> bool
     requires { at ≤ length s.now }
     ensures { result ≡ begins_by S.admits w.now (drop at s.now) }

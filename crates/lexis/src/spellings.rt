@@ -30,7 +30,7 @@ pub struct Booleans;
 impl Words for Keywords {
     ghost words = { keywords };
 
-    #[tactic(auto, using(crate::proofs::WordSteps::sort_first))]
+    #[tactic(auto, unfolding(crate::specs::Spelling::word_sort))]
     fn sort_of(w: &[u8], sort: u8) -> u8 {
         let second = sort_if(w, b"existence", EXISTENCE, sort);
         sort_if(w, b"matches", MATCHES, second)
@@ -40,7 +40,7 @@ impl Words for Keywords {
 impl Words for Booleans {
     ghost words = { booleans };
 
-    #[tactic(auto, using(crate::proofs::WordSteps::sort_first))]
+    #[tactic(auto, unfolding(crate::specs::Spelling::word_sort))]
     fn sort_of(w: &[u8], sort: u8) -> u8 {
         let second = sort_if(w, b"False", FALSE_WORD, sort);
         sort_if(w, b"True", TRUE_WORD, second)
@@ -105,7 +105,7 @@ pub fn data_mark(s: &[u8], at: usize) -> Token
 }
 
 // The date pattern at a place, as a token; where there is none, the token given.
-#[tactic(auto, using(crate::proofs::SpellingSteps::date_other, crate::proofs::SpellingSteps::spelled_first))]
+#[tactic(auto, using(crate::proofs::SpellingSteps::date_other), unfolding(crate::specs::Tokens::spelled))]
 pub fn date_pattern(s: &[u8], at: usize, other: Token) -> Token
     requires { at < length s.now }
     ensures { result ≡ spelled date_pattern_spellings at (drop at s.now) other }
@@ -121,7 +121,7 @@ pub fn date_pattern(s: &[u8], at: usize, other: Token) -> Token
 }
 
 // The time pattern at a place, as a token; where there is none, the token given.
-#[tactic(auto, using(crate::proofs::SpellingSteps::time_other, crate::proofs::SpellingSteps::spelled_first))]
+#[tactic(auto, using(crate::proofs::SpellingSteps::time_other), unfolding(crate::specs::Tokens::spelled))]
 pub fn time_pattern(s: &[u8], at: usize, other: Token) -> Token
     requires { at < length s.now }
     ensures { result ≡ spelled time_pattern_spellings at (drop at s.now) other }

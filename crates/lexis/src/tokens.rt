@@ -12,9 +12,7 @@ use crate::durations::pattern_slots;
 use crate::reader::{Tokens, token_from};
 use crate::runs::{Digit, Text, Word, past_run, shaped, starts_with};
 use crate::sorts::{CAPITAL, DIGIT, MARK, SMALL, byte_at, is_digit, sort_of};
-use crate::spellings::{
-    Booleans, Keywords, Words, date_pattern, element_sign, mark, time_pattern,
-};
+use crate::spellings::{Booleans, Keywords, Words, date_pattern, element_sign, mark, time_pattern};
 use crate::{
     CLOSE_BRACE, CODE, DATE, DURATION_PATTERN, INTEGER, NAME, STRING, TEXT_END, TYPE_NAME, Token,
     no_token,
@@ -110,7 +108,7 @@ fn code_close(b: u8, some: bool) -> bool
 }
 
 // Behind `[at`: the place behind the code's closing bracket, where a code ends.
-#[tactic(auto, using(crate::proofs::TokenSteps::code_on, crate::proofs::TokenSteps::code_close, crate::proofs::TokenSteps::code_stop, crate::proofs::TokenSteps::code_none))]
+#[tactic(auto, using(crate::proofs::TokenSteps::of_codes))]
 fn code_end(s: &[u8], from: usize) -> Option<usize>
     requires { from ≤ length s.now }
     ensures { result ≡ unless_zero (code_end false from (drop from s.now)) }
@@ -156,7 +154,7 @@ fn special(s: &[u8], at: usize) -> Token
 }
 
 // The token that starts at a place, by the sort of the byte there; the text's end is a token.
-#[tactic(auto, using(crate::proofs::TokenSteps::on_end, crate::proofs::TokenSteps::on_capital, crate::proofs::TokenSteps::on_small, crate::proofs::TokenSteps::on_digit, crate::proofs::TokenSteps::on_mark, crate::proofs::TokenSteps::on_other))]
+#[tactic(auto, using(crate::proofs::TokenSteps::of_sorts))]
 pub fn token_on(s: &[u8], at: usize) -> Token
     requires { at ≤ length s.now }
     ensures { result ≡ token_on s.now at }
@@ -212,7 +210,7 @@ fn pattern_or_type(s: &[u8], t: Token) -> Token
 }
 
 // The next token of constraint text where a value may stand, from a place on.
-#[tactic(auto, using(crate::proofs::ContentSteps::type_there, crate::proofs::ContentSteps::content_type, crate::proofs::ContentSteps::content_other))]
+#[tactic(auto, using(crate::proofs::ContentSteps::of_content))]
 pub fn content_token_at(s: &[u8], from: usize) -> Token
     requires { from ≤ length s.now }
     ensures { TokenIs s.now from (content_token_at s.now from) result }

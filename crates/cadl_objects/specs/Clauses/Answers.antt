@@ -1,5 +1,5 @@
 -- What the functions of this crate promise of their answers: each answer as the reading of the definitions, and bounds. Assumes nothing.
-use Rattle.std.specs.Prelude.{◌≡◌, Bool, cond, List, ℕ, ◌-◌, ◌≤◌, ◌<◌, eqb, ltb, length}
+use Rattle.std.specs.Prelude.{◌≡◌, cond, List, ℕ, ◌-◌, ◌≤◌, ◌<◌, eqb, ltb, length}
 use Rattle.lexis.specs.Runs.{part}
 use Rattle.lexis.specs.Spelling.{close_brace}
 use Rattle.lexis.specs.Tokens.{spelling}

@@ -1,13 +1,13 @@
 -- What the functions of this crate promise of their answers: an equation with a definition, and bounds. Assumes nothing.
 use Rattle.std.specs.Prelude.{◌≡◌, Bool, true, false, cond, not, ◌&&◌, ◌||◌, List, [], ◌∷◌, ℕ, Option, Some, None, IfSome, ◌+◌, ◌≤◌, ◌<◌, eqb, length, drop}
-use Rattle.lexis.specs.Bytes.{among, is, blank, digit, word_byte, string_byte, run_byte, line_end}
+use Rattle.lexis.specs.Bytes.{among, is, blank, word_byte, line_end}
 use Rattle.lexis.specs.Text.{byte, bytes}
-use Rattle.lexis.specs.Runs.{byte_at, allows}
+use Rattle.lexis.specs.Runs.{byte_at}
 use Rattle.lexis.specs.Blanks.{opens_comment, token_start}
-use Rattle.lexis.specs.Spelling.{Literal, less, greater, keywords, booleans}
+use Rattle.lexis.specs.Spelling.{less, greater}
 use Rattle.lexis.specs.Tokens.{token_at, type_name}
-use Rattle.lexis.specs.Durations.{letter_slot, digit_slot, Filled, filled}
-use Rattle.lexis.specs.DataTokens.{equals, open_round, close_round, run_sort, type_sort, data_token_at, type_token_at}
+use Rattle.lexis.specs.Durations.{Filled, filled}
+use Rattle.lexis.specs.DataTokens.{equals, open_round, close_round, data_token_at, type_token_at}
 use Rattle.lexis.specs.declared.Token.{Token}
 use Rattle.lexis.specs.declared.durations.Slots.{Slots}
 use Rattle.lexis.specs.declared.reader.Tokens.{Tokens}
