@@ -32,36 +32,36 @@ module _ (bs : List ℕ) where
   too_short h = rw (lt-leb record_size (length bs) h)
 
   module _ (k : Bool) (l : 24 ≤ length bs) (e : k ≡ is_marked bs) where
-    pub unmarked : not k ≡ true → false ≡ framed bs
+    pub unmarked : k ≡ false → false ≡ framed bs
     unfolding framed
-    unmarked h = rw (le-leb record_size (length bs) l, ← e, not-true k h)
+    unmarked h = rw (le-leb record_size (length bs) l, ← e, h)
 
     -- and those of the header that was read, in the order taken
-    module _ (h : Entry) (m : not k ≡ false) (q : record_of h ≡ decode (take record_size bs)) where
+    module _ (h : Entry) (m : k ≡ true) (q : record_of h ≡ decode (take record_size bs)) where
       framed_chain : framed bs ≡ (plain_header h && (counts_right h (length bs) && eqb (kind_at (image_of bs) h.c) 1))
       unfolding framed
-      framed_chain = rw (le-leb record_size (length bs) l, ← e, not-false k m, ← q) (simp and_assoc)
+      framed_chain = rw (le-leb record_size (length bs) l, ← e, m, ← q) (simp and_assoc)
 
       module _ (p : Bool) (ep : p ≡ plain_header h) where
-        pub not_plain : not p ≡ true → false ≡ framed bs
-        not_plain g = rw (framed_chain, ← ep, not-true p g)
+        pub not_plain : p ≡ false → false ≡ framed bs
+        not_plain g = rw (framed_chain, ← ep, g)
 
-        module _ (c : Bool) (gp : not p ≡ false) (ec : c ≡ counts_right h (length bs)) where
-          pub counts_wrong : not c ≡ true → false ≡ framed bs
-          counts_wrong g = rw (framed_chain, ← ep, not-false p gp, ← ec, not-true c g)
+        module _ (c : Bool) (gp : p ≡ true) (ec : c ≡ counts_right h (length bs)) where
+          pub counts_wrong : c ≡ false → false ≡ framed bs
+          counts_wrong g = rw (framed_chain, ← ep, gp, ← ec, g)
 
-          pub root_told : (r : ℕ) → not c ≡ false → r ≡ kind_at (image_of bs) h.c → eqb r 1 ≡ framed bs
-          root_told r g er = rw (framed_chain, ← ep, not-false p gp, ← ec, not-false c g, ← er)
+          pub root_told : (r : ℕ) → c ≡ true → r ≡ kind_at (image_of bs) h.c → eqb r 1 ≡ framed bs
+          root_told r g er = rw (framed_chain, ← ep, gp, ← ec, g, ← er)
 
 -- counts that are right open the table
 pub counts_open : (bs : List ℕ) (h : Entry) (c : Bool) → record_of h ≡ decode (take record_size bs)
-    → c ≡ counts_right h (length bs) → not c ≡ false
+    → c ≡ counts_right h (length bs) → c ≡ true
     → Opened bs (record { count = h.a; pool = h.b })
 counts_open bs h c q e g =
     let few = leb h.a record_limit in
     let small = leb h.b pool_limit in
     let whole = eqb (length bs) (record_size * h.a + h.b) in
-    let t : (leb 2 h.a && (few && (small && whole))) ≡ true = sym e ∙ not-false c g in
+    let t : (leb 2 h.a && (few && (small && whole))) ≡ true = sym e ∙ g in
     let t1 = and_right (leb 2 h.a) (few && (small && whole)) t in
     let t2 = and_right few (small && whole) t1 in
     record {

@@ -12,22 +12,26 @@ use crate::rules::rules_kept;
 use refusals::{Cause, Refusal};
 
 // The header's kind, flag and last two numbers are 0.
+#[tactic(auto, using(crate::proofs::Chains::chain_steps))]
 fn plain_header(h: Entry) -> bool
     ensures { result ≡ plain_header h }
 {
-    h.kind == HEADER_KIND && (h.flag == 0 && (h.d == 0 && h.e == 0))
+    h.kind == HEADER_KIND && h.flag == 0 && h.d == 0 && h.e == 0
 }
 
 // The header's counts are within their limits, and make up a table of so many bytes.
+#[tactic(auto, using(crate::proofs::Chains::chain_steps))]
 fn counts_right(h: Entry, length: usize) -> bool
     ensures { result ≡ counts_right h length }
 {
     2 <= h.a
-        && (h.a <= RECORD_MOST
-            && (h.b <= POOL_MOST && length == RECORD_SIZE * (h.a as usize) + (h.b as usize)))
+        && h.a <= RECORD_MOST
+        && h.b <= POOL_MOST
+        && length == RECORD_SIZE * (h.a as usize) + (h.b as usize)
 }
 
 // The table's length, header and root are right.
+#[tactic(auto, using(crate::proofs::CheckSteps::check_steps))]
 fn is_framed(table: &[u8]) -> bool
     ensures { result ≡ framed table.now }
 {
@@ -52,6 +56,7 @@ fn is_framed(table: &[u8]) -> bool
 }
 
 // The record with a number bears a mark and keeps the rules.
+#[tactic(auto, using(crate::proofs::CheckSteps::check_steps))]
 fn record_right(table: &[u8], frame: Frame, n: RecordNumber) -> bool
     requires opened { Opened table.now frame }
     requires n_lt_count { n.0 < frame.count }

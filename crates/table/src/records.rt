@@ -64,6 +64,7 @@ impl PoolPlace {
 }
 
 // The record at a place has its lowest bytes first.
+#[tactic(auto, using(crate::proofs::RecordSteps::record_steps))]
 pub fn is_little(s: &[u8], at: usize) -> bool
     requires { at + 2 ≤ length s.now }
     ensures { result ≡ is_little (drop at s.now) }
@@ -72,6 +73,7 @@ pub fn is_little(s: &[u8], at: usize) -> bool
 }
 
 // The record at a place bears one of the two marks.
+#[tactic(auto, using(crate::proofs::RecordSteps::record_steps))]
 pub fn is_marked(s: &[u8], at: usize) -> bool
     requires { at + 2 ≤ length s.now }
     ensures { result ≡ is_marked (drop at s.now) }
@@ -107,6 +109,7 @@ pub fn plain(kind: u8, flag: u8) -> Entry
 }
 
 // A record with the bytes of each number, the lowest first, taken in the order told. The order is tested once for all of them.
+#[tactic(auto, using(crate::proofs::RecordSteps::record_steps))]
 pub fn ordered(r: Entry, little: bool) -> Entry
     ensures { record_of result ≡ ordered_as little (record_of r) }
 {
@@ -150,6 +153,7 @@ pub struct Frame {
 }
 
 // The counts in a table's header.
+#[tactic(auto, using(crate::proofs::FrameLaws::frame_steps))]
 pub fn frame_of(table: &[u8]) -> Frame
     requires { record_size ≤ length table.now }
     ensures { (result.count ≡ field (header table.now) 0)

@@ -14,6 +14,7 @@ use refusals::limits::{CODE_LIMIT, NAME_LIMIT, STRING_LIMIT};
 use values::calendar::real;
 
 // The kind is a record's, and the flag one of the kind's.
+#[tactic(auto, using(crate::proofs::RuleSteps::flag_steps), unfolding(crate::specs::Rows::shape_of))]
 fn flag_right(kind: u8, flag: u8) -> bool
     ensures { result ≡ flag_right kind flag }
 {
@@ -52,29 +53,28 @@ fn flag_right(kind: u8, flag: u8) -> bool
 }
 
 // A place and a length in a pool of so many bytes: the length is within its limits, and length 0 has place 0.
+#[tactic(auto, using(crate::proofs::RuleSteps::rule_steps))]
 fn place_right(pool: u32, place: PoolPlace, length: u32, least: u32, most: u32) -> bool
     ensures { RecordPlaceIs pool least most place.0 length result }
 {
-    if length < least {
-        return false;
-    }
-    if most < length {
-        return false;
-    }
-    if length == 0 {
-        return place.0 == 0;
-    }
-    (place.0 as u64) + (length as u64) <= pool as u64
+    least <= length
+        && length <= most
+        && if length == 0 {
+            place.0 == 0
+        } else {
+            u64::from(place.0) + u64::from(length) <= u64::from(pool)
+        }
 }
 
 // How far an integer in two's complement lies from the lowest one.
 fn distance(x: u32) -> u64
     ensures { result ≡ twos_complement x }
 {
-    ((x as u64) + 2147483648) % 4294967296
+    (u64::from(x) + 2147483648) % 4294967296
 }
 
 // The low end of a pair of integers is at most the high one.
+#[tactic(auto, using(crate::proofs::RuleSteps::rule_steps))]
 fn integers_right(low: u32, high: u32) -> bool
     ensures { result ≡ pair_right integers low high }
 {
@@ -82,13 +82,15 @@ fn integers_right(low: u32, high: u32) -> bool
 }
 
 // Both ends of a pair of dates are days, and the low one is not the later.
+#[tactic(auto, using(crate::proofs::RuleSteps::rule_steps))]
 fn dates_right(low: u32, high: u32) -> bool
     ensures { result ≡ pair_right dates low high }
 {
-    real(low) && (real(high) && low <= high)
+    real(low) && real(high) && low <= high
 }
 
 // A number is above a record's own and below the count.
+#[tactic(auto, using(crate::proofs::Chains::chain_steps))]
 fn leads_up(frame: Frame, n: RecordNumber, to: RecordNumber) -> bool
     ensures { result ≡ (ltb n.0 to.0 && ltb to.0 frame.count) }
 {
@@ -96,6 +98,7 @@ fn leads_up(frame: Frame, n: RecordNumber, to: RecordNumber) -> bool
 }
 
 // A link is 0, or leads up to a record of the kind.
+#[tactic(auto, using(crate::proofs::RuleSteps::rule_steps))]
 fn link_right(table: &[u8], frame: Frame, n: RecordNumber, to: RecordNumber, kind: u8) -> bool
     requires { Opened table.now frame }
     ensures { result ≡ field_right (image_of table.now) n.0 (link (kind ∷ [])) to.0 0 }
@@ -104,6 +107,7 @@ fn link_right(table: &[u8], frame: Frame, n: RecordNumber, to: RecordNumber, kin
 }
 
 // The kind is an object's or a leaf's first item's.
+#[tactic(auto, using(crate::proofs::RuleSteps::value_steps))]
 fn is_value(kind: u8) -> bool
     ensures { result ≡ among kind (object_kind ∷ items) }
 {
@@ -117,6 +121,7 @@ fn is_value(kind: u8) -> bool
 }
 
 // A link is 0, or leads up to an object or an item.
+#[tactic(auto, using(crate::proofs::RuleSteps::rule_steps))]
 fn value_link_right(table: &[u8], frame: Frame, n: RecordNumber, to: RecordNumber) -> bool
     requires { Opened table.now frame }
     ensures { result ≡ field_right (image_of table.now) n.0 (link (object_kind ∷ items)) to.0 0 }
@@ -132,36 +137,41 @@ const CODE_MOST: u32 = CODE_LIMIT as u32;
 const STRING_MOST: u32 = STRING_LIMIT as u32;
 
 // An object: its type, its code and its first attribute.
+#[tactic(auto, using(crate::proofs::KindSteps::kind_steps, crate::proofs::Chains::chain_steps))]
 fn object_right(table: &[u8], frame: Frame, n: RecordNumber, e: Entry) -> bool
     requires opened { Opened table.now frame }
     requires kind_value { e.kind ≡ 1 }
     ensures { result ≡ fields_kept (image_of table.now) n.0 (record_of e) }
 {
     place_right(frame.pool, PoolPlace(e.a), e.b, 1, NAME_MOST)
-        && (place_right(frame.pool, PoolPlace(e.c), e.d, 0, CODE_MOST)
-            && link_right(table, frame, n, RecordNumber(e.e), ATTRIBUTE_KIND))
+        && place_right(frame.pool, PoolPlace(e.c), e.d, 0, CODE_MOST)
+        && link_right(table, frame, n, RecordNumber(e.e), ATTRIBUTE_KIND)
 }
 
 // An attribute: its name, its object or first item, and the next attribute.
+#[tactic(auto, using(crate::proofs::KindSteps::kind_steps, crate::proofs::Chains::chain_steps))]
 fn attribute_right(table: &[u8], frame: Frame, n: RecordNumber, e: Entry) -> bool
     requires opened { Opened table.now frame }
     requires kind_value { e.kind ≡ 2 }
     ensures { result ≡ fields_kept (image_of table.now) n.0 (record_of e) }
 {
     place_right(frame.pool, PoolPlace(e.a), e.b, 1, NAME_MOST)
-        && (value_link_right(table, frame, n, RecordNumber(e.c))
-            && (link_right(table, frame, n, RecordNumber(e.d), ATTRIBUTE_KIND) && e.e == 0))
+        && value_link_right(table, frame, n, RecordNumber(e.c))
+        && link_right(table, frame, n, RecordNumber(e.d), ATTRIBUTE_KIND)
+        && e.e == 0
 }
 
 // What follows an item's value: the next item, of the same kind, and nothing else.
+#[tactic(auto, using(crate::proofs::KindSteps::kind_steps, crate::proofs::Chains::chain_steps))]
 fn next_right(table: &[u8], frame: Frame, n: RecordNumber, e: Entry) -> bool
     requires { Opened table.now frame }
     ensures { result ≡ next_right (image_of table.now) n.0 e }
 {
-    link_right(table, frame, n, RecordNumber(e.e), e.kind) && (e.c == 0 && e.d == 0)
+    link_right(table, frame, n, RecordNumber(e.e), e.kind) && e.c == 0 && e.d == 0
 }
 
 // An integer item: its ends.
+#[tactic(auto, using(crate::proofs::KindSteps::kind_steps, crate::proofs::Chains::chain_steps))]
 fn integer_right(table: &[u8], frame: Frame, n: RecordNumber, e: Entry) -> bool
     requires opened { Opened table.now frame }
     requires kind_value { e.kind ≡ 4 }
@@ -171,6 +181,7 @@ fn integer_right(table: &[u8], frame: Frame, n: RecordNumber, e: Entry) -> bool
 }
 
 // A string item: its text.
+#[tactic(auto, using(crate::proofs::KindSteps::kind_steps, crate::proofs::Chains::chain_steps))]
 fn string_right(table: &[u8], frame: Frame, n: RecordNumber, e: Entry) -> bool
     requires opened { Opened table.now frame }
     requires kind_value { e.kind ≡ 5 }
@@ -180,6 +191,7 @@ fn string_right(table: &[u8], frame: Frame, n: RecordNumber, e: Entry) -> bool
 }
 
 // A date interval: its ends.
+#[tactic(auto, using(crate::proofs::KindSteps::kind_steps, crate::proofs::Chains::chain_steps))]
 fn interval_right(table: &[u8], frame: Frame, n: RecordNumber, e: Entry) -> bool
     requires opened { Opened table.now frame }
     requires kind_value { e.kind ≡ 7 }
@@ -189,13 +201,15 @@ fn interval_right(table: &[u8], frame: Frame, n: RecordNumber, e: Entry) -> bool
 }
 
 // No field is named, so each is 0.
+#[tactic(auto, using(crate::proofs::KindSteps::kind_steps, crate::proofs::Chains::chain_steps))]
 fn unused(e: Entry) -> bool
     ensures { result ≡ rest_nought none_named (record_of e).fields }
 {
-    e.a == 0 && (e.b == 0 && (e.c == 0 && (e.d == 0 && e.e == 0)))
+    e.a == 0 && e.b == 0 && e.c == 0 && e.d == 0 && e.e == 0
 }
 
 // The fields are as the kind asks. The kinds are told apart three at a time, so that this compiles to comparisons: a table of jumps costs more.
+#[tactic(auto, using(crate::proofs::KindSteps::kind_steps))]
 fn fields_right(table: &[u8], frame: Frame, n: RecordNumber, e: Entry) -> bool
     requires { Opened table.now frame }
     ensures { result ≡ fields_kept (image_of table.now) n.0 (record_of e) }
@@ -219,6 +233,7 @@ fn fields_right(table: &[u8], frame: Frame, n: RecordNumber, e: Entry) -> bool
 }
 
 // The record keeps the rules of its kind.
+#[tactic(auto, using(crate::proofs::KindSteps::kind_steps, crate::proofs::Chains::chain_steps))]
 pub fn rules_kept(table: &[u8], frame: Frame, n: RecordNumber, e: Entry) -> bool
     requires { Opened table.now frame }
     ensures { result ≡ (obeys (image_of table.now) n.0 (record_of e) && clean (record_of e)) }

@@ -17,6 +17,7 @@ fn mark_byte(lowest: bool) -> u8
 }
 
 // A record's first four bytes: the mark, the kind and the flag.
+#[tactic(auto, using(crate::proofs::WriteSteps::write_steps))]
 fn put_head(out: &mut [u8], at: usize, little: bool, kind: u8, flag: u8)
     requires { at + 4 ≤ length out.old }
     ensures { out.new ≡ sets out.old at (put little 2 mark ++ (kind ∷ flag ∷ [])) }

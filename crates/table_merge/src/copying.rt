@@ -10,6 +10,7 @@ use table::records::{PoolShift, RecordNumber, RecordShift, read};
 use table::writing::put_record;
 
 // The record with a number, moved, and written where its moved number stands.
+#[tactic(auto, using(crate::proofs::CopySteps::copy_steps))]
 fn copy_record(
     table: &[u8],
     n: RecordNumber,
@@ -29,6 +30,7 @@ fn copy_record(
 }
 
 // The records of a table below a count, from number 1 on, moved.
+#[tactic(auto, using(crate::proofs::CopySteps::copy_steps))]
 pub fn copy_records(
     table: &[u8],
     count: u32,
@@ -43,9 +45,7 @@ pub fn copy_records(
         (encodes little
         (map (moved (shifts records.0 pool.0)) (decodes (count - 1) (drop record_size table.now)))) }
 {
-    let mut n: u32 = 1;
-    while n < count {
+    for n in 1..count {
         copy_record(table, RecordNumber(n), records, pool, little, out);
-        n += 1;
     }
 }

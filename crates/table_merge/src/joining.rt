@@ -11,10 +11,11 @@ ghost use Rattle.table_merge.specs.Clauses.Answers.{header_with, Joinable, joine
 use crate::copying::copy_records;
 use table::copying::copy_bytes;
 use table::layout::HEADER_KIND;
-use table::records::{Frame, PoolPlace, PoolShift, RecordShift, frame_of, plain, read};
+use table::records::{Entry, Frame, PoolPlace, PoolShift, RecordShift, frame_of, plain, read};
 use table::writing::put_record;
 
 // The counts of a table that passes the check.
+#[tactic(auto, using(table::proofs::NameSteps::sound_long))]
 pub fn open_table(table: &[u8]) -> Frame
     requires { table_fault table.now ≡ None }
     ensures { Opened table.now result }
@@ -23,16 +24,19 @@ pub fn open_table(table: &[u8]) -> Frame
 }
 
 // The header, with the first table's root.
+#[tactic(auto, using(crate::proofs::JoinSteps::join_steps))]
 fn write_header(first: &[u8], count: u32, pool: u32, little: bool, out: &mut [u8])
     requires { (record_size ≤ length first.now) × (record_size ≤ length out.old) }
     ensures { out.new
         ≡ sets out.old 0 (encode little (header_with count pool (field (header first.now) 2))) }
 {
     let h = read(first, 0);
-    let mut merged = plain(HEADER_KIND, 0);
-    merged.a = count;
-    merged.b = pool;
-    merged.c = h.c;
+    let merged = Entry {
+        a: count,
+        b: pool,
+        c: h.c,
+        ..plain(HEADER_KIND, 0)
+    };
     put_record(out, 0, little, merged);
 }
 
@@ -59,6 +63,7 @@ fn write_records(first: &[u8], second: &[u8], x: Frame, y: Frame, little: bool, 
 }
 
 // The pools, one behind the other.
+#[tactic(auto, using(crate::proofs::JoinSteps::join_steps))]
 fn write_pools(first: &[u8], second: &[u8], x: Frame, y: Frame, out: &mut [u8])
     requires joinable { Joinable first.now second.now x y }
     requires y_in_bounds { joined_length x y ≤ length out.old }

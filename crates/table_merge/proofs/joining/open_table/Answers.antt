@@ -1,9 +1,6 @@
 -- `table_merge::joining::open_table` meets its contract. Assumes nothing.
-use Rattle.table.proofs.NameSteps.{sound_long, sound_open}
+use Rattle.table.proofs.NameSteps.{sound_open}
 use Rattle.table_merge.proofs.joining.open_table.Goals as goal
-
-pub frame_of-requires : goal.frame_of-requires
-frame_of-requires c = search sound_long
 
 pub returns : goal.returns
 returns c = search sound_open

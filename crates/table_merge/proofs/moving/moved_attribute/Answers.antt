@@ -1,6 +1,4 @@
 -- `table_merge::moving::moved_attribute` meets its contract. Assumes nothing.
-use borrow.Author.Rules.{rules}
-use Rattle.table_merge.proofs.MoveSteps.{move_steps}
 use Rattle.table_merge.proofs.moving.moved_attribute.Goals as goal
 
 pub moved_place-name-requires : goal.moved_place-name-requires
@@ -11,6 +9,3 @@ moved_link-value-requires c = c.requires.fits 2
 
 pub moved_link-next-requires : goal.moved_link-next-requires
 moved_link-next-requires c = c.requires.fits 3
-
-pub returns : goal.returns
-returns c = search (move_steps, rules)

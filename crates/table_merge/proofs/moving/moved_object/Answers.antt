@@ -1,6 +1,4 @@
 -- `table_merge::moving::moved_object` meets its contract. Assumes nothing.
-use borrow.Author.Rules.{rules}
-use Rattle.table_merge.proofs.MoveSteps.{move_steps}
 use Rattle.table_merge.proofs.moving.moved_object.Goals as goal
 
 pub moved_place-name-requires : goal.moved_place-name-requires
@@ -11,6 +9,3 @@ moved_place-code-requires c = c.requires.fits 2
 
 pub moved_link-first-requires : goal.moved_link-first-requires
 moved_link-first-requires c = c.requires.fits 4
-
-pub returns : goal.returns
-returns c = search (move_steps, rules)

@@ -1,6 +1,4 @@
 -- `table_merge::moving::moved_string` meets its contract. Assumes nothing.
-use borrow.Author.Rules.{rules}
-use Rattle.table_merge.proofs.MoveSteps.{move_steps}
 use Rattle.table_merge.proofs.moving.moved_string.Goals as goal
 
 pub moved_place-text-requires : goal.moved_place-text-requires
@@ -8,6 +6,3 @@ moved_place-text-requires c = c.requires.fits 0
 
 pub moved_link-next-requires : goal.moved_link-next-requires
 moved_link-next-requires c = c.requires.fits 4
-
-pub returns : goal.returns
-returns c = search (move_steps, rules)
