@@ -85,6 +85,16 @@ module _ {s : List ℕ} {p : Spot} (head : ObjectHead) (room : Room s p)
           bytes = k.bytes ∙ rw (t.bytes, t.behind) (sets_behind (part s ts te) (part s cs ce) bs p.pool (p.pool + length (part s ts te)) refl);
         }
 
+-- an attribute's name
+pub name_kept : {s : List ℕ} {p : Spot} {start end top place : ℕ} {bs bs' names names' : List ℕ} {a b pool : ℕ}
+    → a ≡ start → b ≡ end → names' ≡ with_item names top a b → PartPut s start end p.pool bs bs' pool
+    → NameKept (part s start end) p place start end top bs names bs' names' (spot place (p.next + 1) pool)
+name_kept {p = p} {top = top} {place} {names = names} ea eb e k = record {
+  spot = ap (λ (x : ℕ). spot place (p.next + 1) x) k.behind;
+  bytes = k.bytes;
+  stack = e ∙ λ i. with_item names top (ea i) (eb i);
+}
+
 -- an attribute's record
 named_is : (s : List ℕ) (h : AttributeHead) (pool value next : ℕ) → Within s h.name_start h.name_end
     → named_row h pool value next ≡ attribute_row h.existence (part s h.name_start h.name_end) pool value next

@@ -81,6 +81,15 @@ place_part s start end at w = by (ltb start end) refl
 
 -- ---- records one after the other
 
+-- one record
+pub single_put : (little : Bool) (p : Spot) (place kind flag : ℕ) (before after : List ℕ) (e : Entry)
+    → e ≡ plain_entry kind flag → after ≡ sets before (record_size * p.next) (encode little (record_of e))
+    → Puts little p place (make kind flag [] ∷ []) 0 before after (spot place (p.next + 1) p.pool)
+single_put little p place kind flag before after e k w = record {
+  answer = ap (λ x. spot place (p.next + 1) x) (sym (add-zero p.pool));
+  records = rw append-nil (rw k at w);
+}
+
 -- a record in front of others
 pub front : (little : Bool) (r : Record) (rs : List Record) (n : ℕ) (out : List ℕ) → length r.fields ≡ field_count
     → sets (sets out (record_size * n) (encode little r)) (record_size * (n + 1)) (encodes little rs)
