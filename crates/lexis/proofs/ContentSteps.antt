@@ -1,24 +1,22 @@
 -- The steps of reading a token where a value may stand, and where it lies. Assumes nothing.
-use mathlib.Core.Path.{◌≡◌, refl, sym, ap, ◌∙◌}
-use mathlib.Core.Bool.{Bool, true, false, cond, not, ◌&&◌}
+use mathlib.Core.Path.{◌≡◌, refl, ◌∙◌}
+use mathlib.Core.Bool.{Bool, true, false, cond, ◌&&◌}
 use mathlib.Core.List.{List}
-use Prim.Native.Nat.{ℕ, ◌+◌, ◌-◌, ◌≤◌, ◌<◌}
+use Prim.Native.Nat.{ℕ, ◌-◌, ◌≤◌, ◌<◌}
 use native.Mathlib.Omega.{arith}
 use native.Mathlib.Nat.{add-zero}
 use lib.Dec.{eqb, leb}
 use lib.ListN.{length, drop}
 use lib.Seq.{get_or-take, get_or-drop}
-use borrow.Author.Tests.{eqb-true, eq-eqb, ne_eqb, leb-true, le-leb, not-true, not-false}
+use borrow.Author.Tests.{eqb-true, eq-eqb, ne_eqb, leb-true}
 use Rattle.lexis.specs.Text.{byte}
 use Rattle.lexis.specs.Runs.{byte_at, part}
 use Rattle.lexis.specs.Spelling.{close_brace}
-use Rattle.lexis.specs.Durations.{slots_of, pattern_slots, duration_pattern}
+use Rattle.lexis.specs.Durations.{slots_of, pattern_slots}
 use Rattle.lexis.specs.Tokens.{token, type_name, spelling, token_at, duration_flag, pattern_or, content_token_at}
-use Rattle.lexis.specs.Clauses.Answers.{TokenIs, FlagIs, TypeThere}
+use Rattle.lexis.specs.Clauses.Answers.{TokenIs, TypeThere}
 use Rattle.lexis.specs.declared.Token.{Token}
-use Rattle.std.specs.Prelude.{Option, Some, None}
 use Rattle.lexis.proofs.Cases.{by_cond, and_left}
-use Rattle.lexis.proofs.Options.{none_zero, some_above}
 use Rattle.lexis.proofs.Places.{Found, token-found}
 use Rattle.lexis.proofs.TokenSteps.{promised}
 

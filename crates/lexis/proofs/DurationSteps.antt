@@ -11,7 +11,7 @@ use borrow.Author.Tests.{eq-eqb, ne_eqb, le-leb, lt-leb}
 use Rattle.lexis.specs.Text.{byte, bytes}
 use Rattle.lexis.specs.Bytes.{is, digit}
 use Rattle.lexis.specs.Runs.{past, byte_at}
-use Rattle.lexis.specs.Durations.{letter_slot, in_either_case, letter_behind, digit_slot, filled, fill, fill_all, behind_time, behind_date, slots_of, pattern_slots}
+use Rattle.lexis.specs.Durations.{letter_slot, in_either_case, letter_behind, digit_slot, filled, fill, fill_all, behind_time, behind_date, slots_of}
 use Rattle.lexis.specs.Clauses.Answers.{unless_zero, PlaceIs, SlotIs, filled_at, FillRoom, FillIs, FlagIs}
 use Rattle.lexis.specs.declared.durations.Slots.{Slots}
 use Rattle.std.specs.Prelude.{Option, Some, None}

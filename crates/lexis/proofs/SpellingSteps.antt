@@ -8,7 +8,7 @@ use lib.ListN.{length, drop}
 use borrow.Author.Tests.{ne_eqb}
 use Rattle.lexis.specs.Text.{bytes}
 use Rattle.lexis.specs.Runs.{byte_at, starts_with}
-use Rattle.lexis.specs.Spelling.{Literal, literal_of, mark_spellings, date_pattern_spellings, time_pattern_spellings}
+use Rattle.lexis.specs.Spelling.{literal_of, mark_spellings, date_pattern_spellings, time_pattern_spellings}
 use Rattle.lexis.specs.Tokens.{token, no_token, spelled}
 use Rattle.lexis.specs.DataTokens.{data_marks}
 use Rattle.lexis.specs.declared.Token.{Token}
