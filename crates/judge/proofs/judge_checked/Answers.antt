@@ -24,13 +24,13 @@ pub slice_bounds-pool-start : goal.slice_bounds-pool-start
 slice_bounds-pool-start c = search records_end
 
 pub judge_in-requires : goal.judge_in-requires
-judge_in-requires c = record { table_good = search parts_good; root_value = search parts_kind; tape_room = record { enough = λ h. omega arith } }
+judge_in-requires c = record { table_good = search parts_good; root_value = search parts_kind; tape_room = record { enough = λ h. omega arith; few = omega arith } }
 
 pub returns-then-text-le-SHORT_TEXT : goal.returns-then-text-le-SHORT_TEXT
 returns-then-text-le-SHORT_TEXT c = search parts_judged
 
-pub judge_in-requires-2 : goal.judge_in-requires-2
-judge_in-requires-2 c = record { table_good = search parts_good; root_value = search parts_kind; tape_room = record { enough = λ h. omega arith } }
+pub judge_in-requires-else-text-le-SHORT_TEXT : goal.judge_in-requires-else-text-le-SHORT_TEXT
+judge_in-requires-else-text-le-SHORT_TEXT c = record { table_good = search parts_good; root_value = search parts_kind; tape_room = record { enough = λ h. omega arith; few = omega arith } }
 
 pub returns-else-text-le-SHORT_TEXT : goal.returns-else-text-le-SHORT_TEXT
 returns-else-text-le-SHORT_TEXT c = search parts_judged

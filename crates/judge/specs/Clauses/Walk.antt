@@ -7,9 +7,10 @@ use Rattle.judge_admission.specs.Clauses.Items.{image_from}
 use Rattle.judge_tape.specs.declared.members.Block.{Block}
 use Rattle.judge_tape.specs.Clauses.Rows.{datum_on, BlockGood, OfRow, DatumWithin, Walk}
 
--- a tape of so many numbers has room for the rows of a text that is not too long
+-- a tape of so many numbers, which are not too many, has room for the rows of a text that is not too long
 pub record Roomy (s : List ℕ) (room : ℕ) : Type 0 where
   pub enough : length s ≤ text_limit → row_size * (length s + 20) ≤ 4 * room
+  pub few : room ≤ 65_536
 
 -- what judging a block asks: the object's number is one's, and the block is within the levels left
 pub record Under (records pool s tape : List ℕ) (rows levels object : ℕ) (b : Block) : Type 0 where
