@@ -13,13 +13,13 @@ use Rattle.table.specs.Clauses.Answers as tables
 use Rattle.table.specs.declared.names.NamePart.{NamePart}
 use Rattle.table_merge.specs.Merge.{MergeReport, MergeRefusal}
 use Rattle.table_merge.specs.Clauses.Answers as merges
-use Rattle.table_merge.specs.Clauses.Answers.{table_number}
+use Rattle.table_merge.specs.TableNumbers.{table_number}
 use Rattle.table_merge.specs.declared.AtFault.{AtFault}
 use Rattle.table_merge.specs.declared.Merged.{Merged}
 use Rattle.table_merge.specs.declared.MergeRefusal.{MergeRefusal as RefusedMerge}
 use Rattle.compile.specs.Clauses.Answers as compiles
 use Rattle.judge.specs.Clauses.Answers as judges
-use Rattle.judge_attributes.specs.Clauses.Answers.{reason_number}
+use Rattle.judge_attributes.specs.Reasons.{number_of as reason_number}
 use Rattle.judge_attributes.specs.declared.Failure.{Failure}
 use Rattle.judge.specs.declared.Denial.{Denial}
 use Rattle.judge.specs.declared.Denial.TheVariants as denial

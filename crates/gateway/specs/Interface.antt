@@ -12,8 +12,8 @@ use Rattle.table.specs.declared.names.NamePart.{NamePart}
 use Rattle.table_merge.specs.Merge.{MergeReport, MergeRefusal}
 use Rattle.table_merge.specs.declared.Merged.{Merged}
 use Rattle.table_merge.specs.declared.MergeRefusal.{MergeRefusal as RefusedMerge}
-use Rattle.table_merge.specs.Clauses.Answers.{table_number}
-use Rattle.judge_attributes.specs.Clauses.Answers.{reason_number}
+use Rattle.table_merge.specs.TableNumbers.{table_number}
+use Rattle.judge_attributes.specs.Reasons.{number_of as reason_number}
 use Rattle.judge.specs.declared.Denial.{Denial}
 use Rattle.judge.specs.declared.Denial.TheVariants as denial
 use Rattle.std.specs.declared.result.Result.{Result}

@@ -11,7 +11,8 @@ ghost use Rattle.refusals.specs.Outcomes.{answered, write};
 ghost use Rattle.table.specs.Records.{image_of};
 ghost use Rattle.table.specs.Check.{table_fault};
 ghost use Rattle.table_merge.specs.Merge.{request, of_table, neither, join, merge_answer};
-ghost use Rattle.table_merge.specs.Clauses.Answers.{table_number, refusal_of, fault_in, answer_of};
+ghost use Rattle.table_merge.specs.TableNumbers.{table_number};
+ghost use Rattle.table_merge.specs.Clauses.Answers.{refusal_of, fault_in, answer_of};
 
 use crate::joining::{open_table, write_joined};
 use refusals::{Cause, Refusal};

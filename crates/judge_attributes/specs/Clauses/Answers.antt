@@ -8,8 +8,7 @@ use Rattle.meaning.specs.Judging.{verdict_of}
 use Rattle.dadl.specs.Clauses.Tape.{is_string, row_number}
 use Rattle.judge_admission.specs.Clauses.Items.{record_leaf}
 use Rattle.judge_admission.specs.Clauses.Answers.{finding_under}
-use Rattle.judge_attributes.specs.declared.Reason.{Reason}
-use Rattle.judge_attributes.specs.declared.Reason.TheVariants.{Unsuited, TypeDiffers, Missing, Present, NotAdmitted}
+use Rattle.judge_attributes.specs.Reasons.{number_of}
 use Rattle.judge_attributes.specs.declared.Failure.{Failure}
 
 -- a row's string or word by the leaf whose first item has a number
@@ -18,14 +17,6 @@ leaf_verdict records pool s first row =
     verdict_of first (row_number row 3)
     (finding_under (record_leaf records pool first) (eqb (row_number row 0) is_string)
     (part s (row_number row 6) (row_number row 7)))
-
--- document 01's number of a reason
-abbrev pub number_of : Reason → ℕ
-number_of Unsuited = 20
-number_of TypeDiffers = 21
-number_of Missing = 22
-number_of Present = 23
-number_of NotAdmitted = 24
 
 -- a failure, and a verdict of the walk
 abbrev pub failed : Failure → Verdict

@@ -13,8 +13,7 @@ use Rattle.table_merge.specs.Joining.{Shifts, moved_field, moved_fields}
 use Rattle.table_merge.specs.Merge.{MergeReport, report, MergeRefusal, of_table}
 use Rattle.table_merge.specs.declared.Merged.{Merged}
 use Rattle.table_merge.specs.declared.MergeRefusal.{MergeRefusal as Refused}
-use Rattle.table_merge.specs.declared.AtFault.{AtFault}
-use Rattle.table_merge.specs.declared.AtFault.TheVariants.{Neither, First, Second}
+use Rattle.table_merge.specs.TableNumbers.{table_number}
 use Rattle.std.specs.declared.result.Result.{Result}
 use Rattle.std.specs.declared.result.Result.TheVariants.{Ok, Err}
 
@@ -61,12 +60,6 @@ pub record Joinable (first second : List ℕ) (x y : Frame) : Type 0 where
 -- how long they are together
 abbrev pub joined_length : Frame → Frame → ℕ
 joined_length x y = record_size * (x.count - 1 + y.count) + (x.pool + y.pool)
-
--- the number of the table at fault, 0 where neither is
-abbrev pub table_number : AtFault → ℕ
-table_number Neither = 0
-table_number First = 1
-table_number Second = 2
 
 -- a refusal with its table, by the definitions, and the one that is answered, if there is one
 abbrev pub refusal_of : Refused → MergeRefusal
