@@ -162,13 +162,15 @@ module _ (s : List ℕ) (p : Spot) (t : Token) (tok : TokenIs s p.place (content
   unfolding written value_table value_pool
   value_any little names rs bs k = record { is = rw (value_is s levels p.next p.place, ← tok.is, eq-eqb t.sort star k, add-zero, add-zero); kept = all_kept names top }
 
-  pub value_object : (little : Bool) (names names' rs bs rs' bs' : List ℕ) (r : Result Spot Refusal) → (t.sort ≡ star → ⊥)
+  pub value_object : (little : Bool) (names names' rs bs rs' bs' : List ℕ) (r : Result Spot Refusal)
       → t.sort ≡ type_name
       → TreeIs top names names'
       (written object_table object_pool little p rs bs (object_from s levels p.next p.place)) rs' bs' r
       → TreeIs top names names' (written value_table value_pool little p rs bs (ValueOf s levels p)) rs' bs' r
-  value_object little names names' rs bs rs' bs' r k l h = record {
-    is = h.is ∙ nested_written little p rs bs (object_from s levels p.next p.place) ∙ rw (value_is s levels p.next p.place, ← tok.is, ne_eqb t.sort star k, eq-eqb t.sort type_name l);
+  value_object little names names' rs bs rs' bs' r l h = record {
+    is =
+        let k : t.sort ≡ star → ⊥ = λ e. omega arith in
+        h.is ∙ nested_written little p rs bs (object_from s levels p.next p.place) ∙ rw (value_is s levels p.next p.place, ← tok.is, ne_eqb t.sort star k, eq-eqb t.sort type_name l);
     kept = h.kept;
   }
 

@@ -1,5 +1,4 @@
 -- `compile::compile` meets its contract. Assumes nothing.
-use lib.ListN.{length-replicate}
 use borrow.Author.Rules.{rules}
 use Rattle.std.proofs.lemmas.Result.{err_from_is_err_and}
 use Rattle.compile.proofs.TableSteps.{compile_done, compile_long, compile_refused, compile_inside, compile_room}
@@ -23,4 +22,4 @@ returns c =
     let short = c.if-text-gt-TEXT_LIMIT.false in
     let d = c.in_ok-q.ensures in
     let e = c.finish.ensures in
-    search (compile_done, length-replicate)
+    search compile_done

@@ -24,7 +24,7 @@ read_attribute-read_value-requires t c = (search rules, value_stacked c.requires
 
 pub read_attribute-returns-in_err-q : goal.read_attribute-returns-in_err-q
 read_attribute-returns-in_err-q t c =
-    let p = err_from_is_err_and c.from_residual.result c.from_residual.ensures.1 in
+    let p = err_from_is_err_and c.from_residual-in_err-q.result c.from_residual-in_err-q.ensures.1 in
     rw (p.1, p.2) (value_refused c.requires c.in_ok-head.ensures c.keep_name-inner.ensures _ _ _ c.in_err-q.ensures _ refl)
 
 pub read_attribute-close_attribute-requires : goal.read_attribute-close_attribute-requires
