@@ -209,12 +209,7 @@ fn mark_items(
 }
 
 // Visits a row that holds a string or a word: on the first visit its items are marked.
-fn enter_leaf(
-    inputs: &Inputs,
-    memo: &mut [u8],
-    base: usize,
-    row: usize,
-)
+fn enter_leaf(inputs: &Inputs, memo: &mut [u8], base: usize, row: usize)
     requires leaf_row { LeafRow inputs.now.rows inputs.now.tape.now row }
     requires memo_good { MemoGood inputs.now.records.now inputs.now.pool.now inputs.now.text.now inputs.now.tape.now inputs.now.rows memo.old }
     requires base_value { base ≡ (row + 1) * record_count inputs.now.records.now }
@@ -231,16 +226,18 @@ fn enter_leaf(
     let start = number(inputs.tape, row, 6);
     let end = number(inputs.tape, row, 7);
     let is_string = number(inputs.tape, row, 0) == 1;
-    mark_items(inputs.records, inputs.pool, memo, base, &inputs.text[start..end], is_string);
+    mark_items(
+        inputs.records,
+        inputs.pool,
+        memo,
+        base,
+        &inputs.text[start..end],
+        is_string,
+    );
 }
 
 // Whether the memo knows that the items from a record on admit the string or word of a row.
-pub fn is_known(
-    inputs: &Inputs,
-    memo: &mut [u8],
-    first: RecordNumber,
-    row: usize,
-) -> bool
+pub fn is_known(inputs: &Inputs, memo: &mut [u8], first: RecordNumber, row: usize) -> bool
     requires leaf_row { LeafRow inputs.now.rows inputs.now.tape.now row }
     requires le_first { (1 ≤ first.0) × Lies inputs.now.records.now first.0 }
     requires memo_good { MemoGood inputs.now.records.now inputs.now.pool.now inputs.now.text.now inputs.now.tape.now inputs.now.rows memo.old }
