@@ -19,6 +19,7 @@ use crate::walk::judge_block;
 use dadl::read_data;
 use dadl::rows::{MEMBER_SIZE, ROW_SIZE};
 use judge_attributes::Failure;
+use judge_tape::inputs::Inputs;
 use judge_tape::members::Block;
 use refusals::limits::{LEVEL_LIMIT, RECORD_LIMIT, TEXT_LIMIT};
 use refusals::{Cause, Refusal};
@@ -86,18 +87,14 @@ fn judge_on(
     };
     let mut memo = [0u8; 0];
     let mut visits = VISITS;
-    judge_block(
+    let inputs = Inputs {
         records,
         pool,
         text,
         tape,
-        data.rows,
-        &mut memo,
-        &mut visits,
-        LEVEL_LIMIT,
-        root,
-        block,
-    )?;
+        rows: data.rows,
+    };
+    judge_block(&inputs, &mut memo, &mut visits, LEVEL_LIMIT, root, block)?;
     Ok(())
 }
 

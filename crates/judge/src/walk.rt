@@ -12,6 +12,7 @@ ghost use Rattle.judge_tape.specs.Clauses.Memo.{MemoGood};
 use dadl::rows::MEMBER_SIZE;
 use judge_admission::{entry_at, name_of};
 use judge_attributes::{Reason, Verdict, judge_attribute};
+use judge_tape::inputs::Inputs;
 use judge_tape::members::Block;
 use judge_tape::memo::{enter, is_admitted, mark_chain, may_visit};
 use lexis::runs::same_bytes;
@@ -23,14 +24,18 @@ const MEMO_ROOM: usize = (TEXT_LIMIT / MEMBER_SIZE + 1) * RECORD_LIMIT / 8;
 
 // A block's type, if written, is the object's own.
 #[tactic(auto, using(crate::proofs::WalkSteps::type_none, crate::proofs::WalkSteps::type_same))]
-fn type_suits(pool: &[u8], s: &[u8], rows: usize, e: Entry, block: Block) -> bool
-    requires b_in_bounds { e.a + e.b ≤ length pool.now }
-    requires block_good { BlockGood (length s.now) rows block }
+fn type_suits(inputs: &Inputs, e: Entry, block: Block) -> bool
+    requires b_in_bounds { e.a + e.b ≤ length inputs.now.pool.now }
+    requires block_good { BlockGood (length inputs.now.text.now) inputs.now.rows block }
     ensures { result
-        ≡ type_suits (name_of pool.now (record_of e))
-        (type_on s.now block.type_start block.type_end) }
+        ≡ type_suits (name_of inputs.now.pool.now (record_of e))
+        (type_on inputs.now.text.now block.type_start block.type_end) }
 {
-    block.type_end == 0 || same_bytes(name_of(pool, e), &s[block.type_start..block.type_end])
+    block.type_end == 0
+        || same_bytes(
+            name_of(inputs.pool, e),
+            &inputs.text[block.type_start..block.type_end],
+        )
 }
 
 // A block by the object with a number: its type, then each attribute in table order, up to the first failure; a block
@@ -38,95 +43,50 @@ fn type_suits(pool: &[u8], s: &[u8], rows: usize, e: Entry, block: Block) -> boo
 // more attributes than a table has is given up for one with a memo: the table leads to some of them in many ways.
 #[cycle(judge_block_judge_with_memo)]
 pub fn judge_block(
-    records: &[u8],
-    pool: &[u8],
-    s: &[u8],
-    tape: &[u16],
-    rows: usize,
+    inputs: &Inputs,
     memo: &mut [u8],
     visits: &mut u32,
     levels: usize,
     object: RecordNumber,
     block: Block,
 ) -> Verdict
-    requires under { Under records.now pool.now s.now tape.now rows levels object.0 block }
-    requires memo_good { MemoGood records.now pool.now s.now tape.now rows memo.old }
+    requires under { Under inputs.now.records.now inputs.now.pool.now inputs.now.text.now inputs.now.tape.now inputs.now.rows levels object.0 block }
+    requires memo_good { MemoGood inputs.now.records.now inputs.now.pool.now inputs.now.text.now inputs.now.tape.now inputs.now.rows memo.old }
     ensures result_value { verdict_in result
-        ≡ block_under (image_from records.now pool.now) s.now rows tape.now
+        ≡ block_under (image_from inputs.now.records.now inputs.now.pool.now) inputs.now.text.now inputs.now.rows inputs.now.tape.now
         object.0 block }
-    ensures memo_good_2 { MemoGood records.now pool.now s.now tape.now rows
+    ensures memo_good_2 { MemoGood inputs.now.records.now inputs.now.pool.now inputs.now.text.now inputs.now.tape.now inputs.now.rows
         memo.new }
 {
-    let e = entry_at(records, object);
-    if !type_suits(pool, s, rows, e, block) {
+    let e = entry_at(inputs.records, object);
+    if !type_suits(inputs, e, block) {
         return Err(Reason::TypeDiffers.at(object, block.place));
     }
-    let visit = enter(records, memo, block);
+    let visit = enter(inputs.records, memo, block);
     let mut n = e.e;
     while !is_admitted(memo, visit, n) {
         if !may_visit(memo, visits) {
-            return judge_with_memo(records, pool, s, tape, rows, levels, object, block);
+            return judge_with_memo(inputs, levels, object, block);
         }
-        let a = entry_at(records, RecordNumber(n));
-        if let Some(inner) = judge_attribute(
-            records,
-            pool,
-            s,
-            tape,
-            rows,
-            memo,
-            RecordNumber(n),
-            a,
-            block,
-        )? {
-            judge_block(
-                records,
-                pool,
-                s,
-                tape,
-                rows,
-                memo,
-                visits,
-                levels - 1,
-                inner.object,
-                inner.block,
-            )?;
+        let a = entry_at(inputs.records, RecordNumber(n));
+        if let Some(inner) = judge_attribute(inputs, memo, RecordNumber(n), a, block)? {
+            judge_block(inputs, memo, visits, levels - 1, inner.object, inner.block)?;
         }
         n = a.d;
     }
-    mark_chain(records, memo, visit, e.e);
+    mark_chain(inputs.records, memo, visit, e.e);
     Ok(())
 }
 
 // The same with a memo that has a bit for each pair of a row and a record.
 #[cycle(judge_block_judge_with_memo)]
-fn judge_with_memo(
-    records: &[u8],
-    pool: &[u8],
-    s: &[u8],
-    tape: &[u16],
-    rows: usize,
-    levels: usize,
-    object: RecordNumber,
-    block: Block,
-) -> Verdict
-    requires { Under records.now pool.now s.now tape.now rows levels object.0 block }
+fn judge_with_memo(inputs: &Inputs, levels: usize, object: RecordNumber, block: Block) -> Verdict
+    requires { Under inputs.now.records.now inputs.now.pool.now inputs.now.text.now inputs.now.tape.now inputs.now.rows levels object.0 block }
     ensures { verdict_in result
-        ≡ block_under (image_from records.now pool.now) s.now rows tape.now
+        ≡ block_under (image_from inputs.now.records.now inputs.now.pool.now) inputs.now.text.now inputs.now.rows inputs.now.tape.now
         object.0 block }
 {
     let mut memo = [0u8; MEMO_ROOM];
     let mut visits: u32 = 0;
-    judge_block(
-        records,
-        pool,
-        s,
-        tape,
-        rows,
-        &mut memo,
-        &mut visits,
-        levels,
-        object,
-        block,
-    )
+    judge_block(inputs, &mut memo, &mut visits, levels, object, block)
 }

@@ -5,16 +5,17 @@ ghost use Rattle.std.specs.Prelude.{◌≡◌, ◌+◌, ◌*◌, ◌≤◌, ◌<
 ghost use Rattle.meaning.specs.Verdicts.{fails};
 ghost use Rattle.meaning.specs.Judging.{verdict_of};
 ghost use Rattle.dadl.specs.Clauses.Tape.{row_size};
-ghost use Rattle.dadl.specs.Clauses.Rows.{row_at, TapeGood};
+ghost use Rattle.dadl.specs.Clauses.Rows.{row_at};
 ghost use Rattle.judge_admission.specs.Clauses.Items.{image_from, ItemsGood};
 ghost use Rattle.judge_admission.specs.Clauses.Answers.{finding_of};
 ghost use Rattle.judge_attributes.specs.Reasons.{number_of};
 ghost use Rattle.judge_attributes.specs.Clauses.Answers.{failed, verdict_in, leaf_verdict};
-ghost use Rattle.judge_tape.specs.Clauses.Rows.{LeafRow, block_on, Walk, Begins};
+ghost use Rattle.judge_tape.specs.Clauses.Rows.{LeafRow, block_on, Begins};
 ghost use Rattle.judge_attributes.specs.Clauses.Attributes.{ValueLink, ValueIs, AttributeAt, AttributeAnswerIs};
 ghost use Rattle.judge_tape.specs.Clauses.Memo.{MemoGood};
 
 use judge_admission::{Admission, admit, kind_of, name_of};
+use judge_tape::inputs::Inputs;
 use judge_tape::members::{Block, find_member, number};
 use judge_tape::memo::is_known;
 use meaning::{PROHIBITED, REQUIRED};
@@ -90,56 +91,43 @@ fn told(a: Admission, first: RecordNumber, place: usize) -> Verdict
 
 // The string or word of a row, by the items from a record on.
 #[tactic(auto, using(crate::proofs::AttributeSteps::value_told, judge_tape::proofs::MemberSteps::value_order, judge_tape::proofs::MemberSteps::value_ends))]
-fn judge_items(
-    records: &[u8],
-    pool: &[u8],
-    s: &[u8],
-    tape: &[u16],
-    rows: usize,
-    first: RecordNumber,
-    row: usize,
-) -> Verdict
-    requires items_good { ItemsGood records.now pool.now first.0 }
-    requires tape_good { TapeGood (length s.now) rows tape.now }
-    requires leaf_row { LeafRow rows tape.now row }
+fn judge_items(inputs: &Inputs, first: RecordNumber, row: usize) -> Verdict
+    requires items_good { ItemsGood inputs.now.records.now inputs.now.pool.now first.0 }
+    requires leaf_row { LeafRow inputs.now.rows inputs.now.tape.now row }
     ensures { verdict_in result
-        ≡ leaf_verdict records.now pool.now s.now first.0
-        (row_at tape.now row) }
+        ≡ leaf_verdict inputs.now.records.now inputs.now.pool.now inputs.now.text.now first.0
+        (row_at inputs.now.tape.now row) }
 {
-    let start = number(tape, row, 6);
-    let end = number(tape, row, 7);
-    let is_string = number(tape, row, 0) == 1;
-    let a = admit(records, pool, first, &s[start..end], is_string);
-    told(a, first, number(tape, row, 3))
+    let start = number(inputs.tape, row, 6);
+    let end = number(inputs.tape, row, 7);
+    let is_string = number(inputs.tape, row, 0) == 1;
+    let a = admit(
+        inputs.records,
+        inputs.pool,
+        first,
+        &inputs.text[start..end],
+        is_string,
+    );
+    told(a, first, number(inputs.tape, row, 3))
 }
 
 // The same, unless the memo knows that it is admitted.
 #[tactic(auto, using(crate::proofs::AttributeSteps::first_lies, crate::proofs::AttributeSteps::value_known))]
-fn judge_leaf(
-    records: &[u8],
-    pool: &[u8],
-    s: &[u8],
-    tape: &[u16],
-    rows: usize,
-    memo: &mut [u8],
-    first: RecordNumber,
-    row: usize,
-) -> Verdict
-    requires walk { Walk records.now pool.now s.now tape.now rows }
-    requires items_good { ItemsGood records.now pool.now first.0 }
+fn judge_leaf(inputs: &Inputs, memo: &mut [u8], first: RecordNumber, row: usize) -> Verdict
+    requires items_good { ItemsGood inputs.now.records.now inputs.now.pool.now first.0 }
     requires le_first { 1 ≤ first.0 }
-    requires leaf_row { LeafRow rows tape.now row }
-    requires memo_good { MemoGood records.now pool.now s.now tape.now rows memo.old }
-    ensures memo_good_2 { MemoGood records.now pool.now s.now tape.now rows
+    requires leaf_row { LeafRow inputs.now.rows inputs.now.tape.now row }
+    requires memo_good { MemoGood inputs.now.records.now inputs.now.pool.now inputs.now.text.now inputs.now.tape.now inputs.now.rows memo.old }
+    ensures memo_good_2 { MemoGood inputs.now.records.now inputs.now.pool.now inputs.now.text.now inputs.now.tape.now inputs.now.rows
         memo.new }
     ensures result_value { verdict_in result
-        ≡ leaf_verdict records.now pool.now s.now first.0
-        (row_at tape.now row) }
+        ≡ leaf_verdict inputs.now.records.now inputs.now.pool.now inputs.now.text.now first.0
+        (row_at inputs.now.tape.now row) }
 {
-    if is_known(records, pool, s, tape, rows, memo, first, row) {
+    if is_known(inputs, memo, first, row) {
         return Ok(());
     }
-    judge_items(records, pool, s, tape, rows, first, row)
+    judge_items(inputs, first, row)
 }
 
 // The block of a row.
@@ -160,67 +148,67 @@ fn block_at(tape: &[u16], row: usize) -> Block
 // The member of a row, by the object or the items with a number, 0 for any: a block that is still to be judged, if it is one
 // by an object.
 fn judge_value(
-    records: &[u8],
-    pool: &[u8],
-    s: &[u8],
-    tape: &[u16],
-    rows: usize,
+    inputs: &Inputs,
     memo: &mut [u8],
     value: RecordNumber,
     row: usize,
 ) -> Result<Option<Nested>, Failure>
-    requires walk { Walk records.now pool.now s.now tape.now rows }
-    requires value_link { ValueLink (image_from records.now pool.now) value.0 }
-    requires row_lt_rows { row < rows }
-    requires memo_good { MemoGood records.now pool.now s.now tape.now rows memo.old }
-    ensures memo_good_2 { MemoGood records.now pool.now s.now tape.now rows
+    requires value_link { ValueLink (image_from inputs.now.records.now inputs.now.pool.now) value.0 }
+    requires row_lt_rows { row < inputs.now.rows }
+    requires memo_good { MemoGood inputs.now.records.now inputs.now.pool.now inputs.now.text.now inputs.now.tape.now inputs.now.rows memo.old }
+    ensures memo_good_2 { MemoGood inputs.now.records.now inputs.now.pool.now inputs.now.text.now inputs.now.tape.now inputs.now.rows
         memo.new }
-    ensures value_is { ValueIs (image_from records.now pool.now) s.now rows
-        tape.now value.0 row result }
+    ensures value_is { ValueIs (image_from inputs.now.records.now inputs.now.pool.now) inputs.now.text.now inputs.now.rows
+        inputs.now.tape.now value.0 row result }
 {
     if value.0 == 0 {
         return Ok(None);
     }
-    let takes_block = kind_of(records, value) == OBJECT_KIND;
-    let holds_block = number(tape, row, 0) == 0;
+    let takes_block = kind_of(inputs.records, value) == OBJECT_KIND;
+    let holds_block = number(inputs.tape, row, 0) == 0;
     if takes_block != holds_block {
-        return Err(Reason::Unsuited.at(value, number(tape, row, 3)));
+        return Err(Reason::Unsuited.at(value, number(inputs.tape, row, 3)));
     }
     if holds_block {
         return Ok(Some(Nested {
             object: value,
-            block: block_at(tape, row),
+            block: block_at(inputs.tape, row),
         }));
     }
-    judge_leaf(records, pool, s, tape, rows, memo, value, row)?;
+    judge_leaf(inputs, memo, value, row)?;
     Ok(None)
 }
 
 // The members of a block, by the attribute with a number: a block inside it that is still to be judged, if there is one.
 pub fn judge_attribute(
-    records: &[u8],
-    pool: &[u8],
-    s: &[u8],
-    tape: &[u16],
-    rows: usize,
+    inputs: &Inputs,
     memo: &mut [u8],
     n: RecordNumber,
     e: Entry,
     block: Block,
 ) -> Result<Option<Nested>, Failure>
-    requires walk { Walk records.now pool.now s.now tape.now rows }
-    requires attribute_at { AttributeAt records.now pool.now n.0 e }
-    requires begins { Begins rows block.first block.inside }
-    requires memo_good { MemoGood records.now pool.now s.now tape.now rows memo.old }
-    ensures memo_good_2 { MemoGood records.now pool.now s.now tape.now rows
+    requires attribute_at { AttributeAt inputs.now.records.now inputs.now.pool.now n.0 e }
+    requires begins { Begins inputs.now.rows block.first block.inside }
+    requires memo_good { MemoGood inputs.now.records.now inputs.now.pool.now inputs.now.text.now inputs.now.tape.now inputs.now.rows memo.old }
+    ensures memo_good_2 { MemoGood inputs.now.records.now inputs.now.pool.now inputs.now.text.now inputs.now.tape.now inputs.now.rows
         memo.new }
-    ensures attribute_answer_is { AttributeAnswerIs (image_from records.now pool.now) s.now rows
-        tape.now n.0 block result }
+    ensures attribute_answer_is { AttributeAnswerIs (image_from inputs.now.records.now inputs.now.pool.now) inputs.now.text.now inputs.now.rows
+        inputs.now.tape.now n.0 block result }
 {
-    match find_member(s, tape, rows, block.first, block.inside, name_of(pool, e)) {
+    match find_member(
+        inputs.text,
+        inputs.tape,
+        inputs.rows,
+        block.first,
+        block.inside,
+        name_of(inputs.pool, e),
+    ) {
         None if e.flag == REQUIRED => Err(Reason::Missing.at(n, block.place)),
         None => Ok(None),
-        Some(row) if e.flag == PROHIBITED => Err(Reason::Present.at(n, number(tape, row, 3))),
-        Some(row) => judge_value(records, pool, s, tape, rows, memo, RecordNumber(e.c), row),
+        Some(row) if e.flag == PROHIBITED => Err(Reason::Present.at(
+            n,
+            number(inputs.tape, row, 3),
+        )),
+        Some(row) => judge_value(inputs, memo, RecordNumber(e.c), row),
     }
 }

@@ -3,9 +3,10 @@ ghost use Rattle.std.specs.Prelude.{◌≡◌, ◌+◌, ◌*◌, ◌-◌, ◌≤
 ghost use Rattle.table.specs.Rows.{shape_of, is_listed};
 ghost use Rattle.table.specs.Clauses.Answers.{record_of};
 ghost use Rattle.judge_admission.specs.Clauses.Items.{Lies, NamedRecord};
-ghost use Rattle.judge_tape.specs.Clauses.Rows.{LeafRow, Walk};
+ghost use Rattle.judge_tape.specs.Clauses.Rows.{LeafRow};
 ghost use Rattle.judge_tape.specs.Clauses.Memo.{bit_of, with_bit, marked, mark_bit, Marks, record_count, base_of, VisitOf, seen_before, admitted_in, mark_chain, ChainGood, ChainMarked, may_visit, leads_in, mark_item, mark_items, enter_leaf, known_in, Listing, ItemsMarked, MemoGood, KnownIs};
 
+use crate::inputs::Inputs;
 use crate::members::{Block, number};
 use judge_admission::{entry_at, item_admits};
 use table::layout::{DATE_KIND, INTEGER_KIND, RECORD_SIZE, STRING_KIND};
@@ -208,66 +209,53 @@ fn mark_items(
 }
 
 // Visits a row that holds a string or a word: on the first visit its items are marked.
-fn enter_leaf(
-    records: &[u8],
-    pool: &[u8],
-    s: &[u8],
-    tape: &[u16],
-    rows: usize,
-    memo: &mut [u8],
-    base: usize,
-    row: usize,
-)
-    requires walk { Walk records.now pool.now s.now tape.now rows }
-    requires leaf_row { LeafRow rows tape.now row }
-    requires memo_good { MemoGood records.now pool.now s.now tape.now rows memo.old }
-    requires base_value { base ≡ (row + 1) * record_count records.now }
+fn enter_leaf(inputs: &Inputs, memo: &mut [u8], base: usize, row: usize)
+    requires leaf_row { LeafRow inputs.now.rows inputs.now.tape.now row }
+    requires memo_good { MemoGood inputs.now.records.now inputs.now.pool.now inputs.now.text.now inputs.now.tape.now inputs.now.rows memo.old }
+    requires base_value { base ≡ (row + 1) * record_count inputs.now.records.now }
     ensures memo_after { memo.new
-        ≡ enter_leaf records.now pool.now s.now tape.now row
+        ≡ enter_leaf inputs.now.records.now inputs.now.pool.now inputs.now.text.now inputs.now.tape.now row
         memo.old }
-    ensures memo_good_2 { MemoGood records.now pool.now s.now tape.now rows
+    ensures memo_good_2 { MemoGood inputs.now.records.now inputs.now.pool.now inputs.now.text.now inputs.now.tape.now inputs.now.rows
         memo.new }
 {
     if is_marked(memo, base) {
         return;
     }
     mark(memo, base);
-    let start = number(tape, row, 6);
-    let end = number(tape, row, 7);
-    let is_string = number(tape, row, 0) == 1;
-    mark_items(records, pool, memo, base, &s[start..end], is_string);
+    let start = number(inputs.tape, row, 6);
+    let end = number(inputs.tape, row, 7);
+    let is_string = number(inputs.tape, row, 0) == 1;
+    mark_items(
+        inputs.records,
+        inputs.pool,
+        memo,
+        base,
+        &inputs.text[start..end],
+        is_string,
+    );
 }
 
 // Whether the memo knows that the items from a record on admit the string or word of a row.
-pub fn is_known(
-    records: &[u8],
-    pool: &[u8],
-    s: &[u8],
-    tape: &[u16],
-    rows: usize,
-    memo: &mut [u8],
-    first: RecordNumber,
-    row: usize,
-) -> bool
-    requires walk { Walk records.now pool.now s.now tape.now rows }
-    requires leaf_row { LeafRow rows tape.now row }
-    requires le_first { (1 ≤ first.0) × Lies records.now first.0 }
-    requires memo_good { MemoGood records.now pool.now s.now tape.now rows memo.old }
+pub fn is_known(inputs: &Inputs, memo: &mut [u8], first: RecordNumber, row: usize) -> bool
+    requires leaf_row { LeafRow inputs.now.rows inputs.now.tape.now row }
+    requires le_first { (1 ≤ first.0) × Lies inputs.now.records.now first.0 }
+    requires memo_good { MemoGood inputs.now.records.now inputs.now.pool.now inputs.now.text.now inputs.now.tape.now inputs.now.rows memo.old }
     ensures value { result
-        ≡ known_in records.now pool.now s.now tape.now row first.0
+        ≡ known_in inputs.now.records.now inputs.now.pool.now inputs.now.text.now inputs.now.tape.now row first.0
         memo.old }
     ensures memo_after { memo.new
-        ≡ enter_leaf records.now pool.now s.now tape.now row
+        ≡ enter_leaf inputs.now.records.now inputs.now.pool.now inputs.now.text.now inputs.now.tape.now row
         memo.old }
-    ensures known_is { KnownIs records.now pool.now s.now tape.now row
+    ensures known_is { KnownIs inputs.now.records.now inputs.now.pool.now inputs.now.text.now inputs.now.tape.now row
         first.0 result }
-    ensures memo_good_2 { MemoGood records.now pool.now s.now tape.now rows
+    ensures memo_good_2 { MemoGood inputs.now.records.now inputs.now.pool.now inputs.now.text.now inputs.now.tape.now inputs.now.rows
         memo.new }
 {
     if memo.len() == 0 {
         return false;
     }
-    let base = (row + 1) * record_count(records);
-    enter_leaf(records, pool, s, tape, rows, memo, base, row);
+    let base = (row + 1) * record_count(inputs.records);
+    enter_leaf(inputs, memo, base, row);
     is_marked(memo, base + (first.0 as usize))
 }

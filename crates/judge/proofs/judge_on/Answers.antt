@@ -9,6 +9,11 @@ returns-in_err-data c =
     let p = err_from_is_err_and c.from_residual.result c.from_residual.ensures.1 in
     rw (p.1, p.2) (text_refused _ _ _ _ c.requires.table_good c.requires.root_value _ _ _ c.read_data.ensures _ c.in_err-data.was)
 
+pub invariant_of-inputs : goal.invariant_of-inputs
+invariant_of-inputs c = record {
+  walk = (text_under _ _ _ _ c.requires.table_good c.requires.root_value _ _ _ c.read_data.ensures _ c.in_ok-data.was c.requires.tape_room).walk;
+}
+
 pub judge_block-requires : goal.judge_block-requires
 judge_block-requires c = record {
   under = text_under _ _ _ _ c.requires.table_good c.requires.root_value _ _ _ c.read_data.ensures _ c.in_ok-data.was c.requires.tape_room;

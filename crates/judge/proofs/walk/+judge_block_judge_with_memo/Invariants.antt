@@ -12,7 +12,7 @@ decreases-judge_with_memo l = effort_of_memo l.levels
 
 abbrev pub invariant-judge_block-loop-object : goal.invariant-judge_block-loop-object
 invariant-judge_block-loop-object l =
-    InAttributes l.records l.pool l.s l.tape l.rows l.levels l.object.0 l.block l.visit l.initial.memo l.memo l.initial.n l.n
+    InAttributes l.inputs.records.now l.inputs.pool.now l.inputs.text.now l.inputs.tape.now l.inputs.rows l.levels l.object.0 l.block l.visit l.initial.memo l.memo l.initial.n l.n
 
 abbrev pub decreases-judge_block-loop-object : goal.decreases-judge_block-loop-object
-decreases-judge_block-loop-object l = left l.records l.n
+decreases-judge_block-loop-object l = left l.inputs.records.now l.n

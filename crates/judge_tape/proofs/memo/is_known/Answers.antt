@@ -10,7 +10,7 @@ pub overflow_mul-base : goal.overflow_mul-base
 overflow_mul-base c = record { fits = search row_fits }
 
 pub enter_leaf-requires : goal.enter_leaf-requires
-enter_leaf-requires c = record { walk = search rules; leaf_row = search rules; memo_good = search rules; base_value = search row_base }
+enter_leaf-requires c = record { leaf_row = search rules; memo_good = search rules; base_value = search row_base }
 
 pub overflow_add-base-2 : goal.overflow_add-base-2
 overflow_add-base-2 c = record { fits = search row_sum }
