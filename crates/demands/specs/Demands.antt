@@ -18,7 +18,8 @@ use Rattle.lexis.specs.Tokens.{token_at}
 use Rattle.lexis.specs.DataTokens.{data_token_at, type_token_at}
 use Rattle.lexis.specs.declared.Token.{Token}
 use Rattle.values.specs.Integers.{integer_of}
-use Rattle.values.specs.Dates.{Date, date_of}
+use Rattle.values.specs.Dates.{date_of}
+use Rattle.values.specs.declared.dates.Date.{Date}
 use Rattle.values.specs.Times.{zone, time_of}
 use Rattle.values.specs.Words.{boolean_of, good}
 use Rattle.refusals.specs.Limits.{text_limit, level_limit}

@@ -12,7 +12,8 @@ use borrow.Author.Tests.{eqb-true, leb-true, le-leb, eq-eqb}
 use Rattle.lexis.specs.Runs.{same}
 use Rattle.lexis.proofs.Cases.{by_cond, and_left, and_right}
 use Rattle.values.specs.Integers.{integer_of}
-use Rattle.values.specs.Dates.{Date, date_of}
+use Rattle.values.specs.Dates.{date_of}
+use Rattle.values.specs.declared.dates.Date.{Date}
 use Rattle.values.specs.Times.{time_of}
 use Rattle.values.specs.Durations.{duration_of}
 use Rattle.values.specs.Words.{boolean_of}

@@ -7,7 +7,8 @@ use Prim.Native.Nat.{ℕ}
 use native.Mathlib.Omega.{arith}
 use lib.ListN.{length, length-append}
 use Rattle.lexis.specs.Tokens.{integer, date}
-use Rattle.values.specs.Dates.{Date, date_of}
+use Rattle.values.specs.Dates.{date_of}
+use Rattle.values.specs.declared.dates.Date.{Date}
 use Rattle.cadl_intervals.specs.Intervals.{literal_value}
 use Rattle.values.specs.WordRules.{IsDate, fixed}
 use Rattle.values.specs.WordRules

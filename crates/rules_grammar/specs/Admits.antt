@@ -5,7 +5,7 @@
 use Rattle.std.specs.Prelude.{◌≡◌, ◌≢◌, ℕ, zero, suc, ◌≤◌}
 use Rattle.std.specs.Prelude.{Option, None, Some}
 use mathlib.Core.List.{List, [], ◌∷◌, Memᴰ}
-use Rattle.values.specs.Dates.{Date}
+use Rattle.values.specs.declared.dates.Date.{Date}
 use Rattle.values.specs.Patterns.{Part, must, may, must_not}
 use Rattle.meaning.specs.Constraints.{Range, Text, Leaf, single, ranges, texts, booleans, date_pattern, time_pattern, duration_pattern, integers, dates, ObjectHead, Object, AttributeHead, Attributes, Value}
 use Rattle.meaning.specs.Constraints

@@ -11,7 +11,7 @@ use Rattle.lexis.specs.Spelling
 use Rattle.lexis.specs.Tokens.{type_name, integer, date, string, spelling, inner}
 use Rattle.lexis.specs.declared.Token.{Token}
 use Rattle.values.specs.Integers.{Pair, pair}
-use Rattle.values.specs.Dates.{Date}
+use Rattle.values.specs.declared.dates.Date.{Date}
 use Rattle.values.specs.Days.{MonthHas, IsDay}
 use Rattle.refusals.specs.Limits.{record_limit, string_limit, item_limit}
 use Rattle.meaning.specs.Constraints.{Range, Text, Leaf, single, ranges, texts, booleans, date_pattern, time_pattern, duration_pattern, integers, dates}

@@ -13,7 +13,8 @@ use Rattle.lexis.specs.Spelling.{date_shape}
 use Rattle.lexis.proofs.Cases.{by_cond, either}
 use Rattle.values.specs.Integers.{value_of}
 use Rattle.values.specs.Calendar.{real, packed, year_of, month_of, day_of}
-use Rattle.values.specs.Dates.{Date, exactly, digits_at, real_date, date_of}
+use Rattle.values.specs.Dates.{exactly, digits_at, real_date, date_of}
+use Rattle.values.specs.declared.dates.Date.{Date}
 use Rattle.values.proofs.Common.{Each, none_each, some_each}
 use Rattle.values.proofs.IntegerLaws.{digit_byte, digit_is}
 use Rattle.values.proofs.CalendarLaws.{real_last}

@@ -10,7 +10,8 @@ use Rattle.lexis.specs.Runs.{shaped}
 use Rattle.lexis.proofs.Cases.{by_cond}
 use Rattle.values.specs.Calendar.{real, packed}
 use Rattle.values.specs.Integers.{value_of}
-use Rattle.values.specs.Dates.{Date, exactly, digits_at, real_date, date_of}
+use Rattle.values.specs.Dates.{exactly, digits_at, real_date, date_of}
+use Rattle.values.specs.declared.dates.Date.{Date}
 use Rattle.values.specs.Days.{IsDay, packed_day}
 use Rattle.values.proofs.Common.{Each, none_each, some_each}
 use Rattle.values.proofs.DayLaws.{day_real, packed_day_lem}

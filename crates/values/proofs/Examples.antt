@@ -10,7 +10,8 @@ use Rattle.lexis.proofs.Tables.{or_nothing}
 use Rattle.lexis.proofs.Examples.{agree}
 use Rattle.values.specs.Integers.{integer_of, Pair, inside, around, twos_complement}
 use Rattle.values.specs.Calendar.{leap, month_days, real, day_after, day_before}
-use Rattle.values.specs.Dates.{Date, date_of}
+use Rattle.values.specs.Dates.{date_of}
+use Rattle.values.specs.declared.dates.Date.{Date}
 use Rattle.values.specs.Times.{time_of}
 use Rattle.values.specs.Durations.{duration_of}
 use Rattle.values.specs.Patterns.{fits_date, fits_time, fits_duration}

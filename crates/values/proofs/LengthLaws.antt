@@ -12,7 +12,7 @@ use Rattle.lexis.specs.DurationRules.{SlotsInOrder, SlotsBehindP, DigitsAndLette
 use Rattle.lexis.specs.DurationRules
 use Rattle.lexis.proofs.Cases.{and_left}
 use Rattle.values.specs.Integers.{value_of}
-use Rattle.values.specs.Dates.{Date}
+use Rattle.values.specs.declared.dates.Date.{Date}
 use Rattle.values.specs.Words.{good}
 use Rattle.values.specs.WordRules.{IsBoolean, PlainNumber, IsInteger, fixed, IsDate, up_to, IsZone, IsTime, IsDuration, IsGood}
 use Rattle.values.specs.WordRules

@@ -6,7 +6,7 @@
 use Rattle.std.specs.Prelude.{◌≡◌, ◌≢◌, List, [], ◌∷◌, ◌++◌, ℕ, suc, ◌+◌, ◌*◌, ◌-◌, ◌≤◌, ◌<◌, length}
 use Rattle.lexis.specs.Text.{byte, bytes}
 use Rattle.lexis.specs.DurationRules.{SlotsBehindP, DigitsAndLetter}
-use Rattle.values.specs.Dates.{Date}
+use Rattle.values.specs.declared.dates.Date.{Date}
 use Rattle.values.specs.Days.{IsDay}
 
 -- True is 1 and False 2, as in the flag of kind 3 ('Table')
