@@ -2,6 +2,8 @@
 use mathlib.Core.Path.{◌≡◌, refl, sym, ap, ◌∙◌, subst}
 use mathlib.Core.Bool.{true}
 use Rattle.std.specs.Prelude.{Option, None, Some, option_map as map}
+use Rattle.std.specs.Result.{IsErrAnd}
+use Rattle.std.proofs.lemmas.Result.{err_from_is_err_and}
 use Rattle.std.specs.declared.result.Result.{Result}
 use Rattle.std.specs.declared.result.Result.TheVariants.{Ok, Err}
 use mathlib.Core.List.{List, ◌∷◌, ◌++◌}
@@ -50,6 +52,9 @@ use Rattle.judge_admission.specs.Clauses.Items.{image_from, TableGood}
 use Rattle.judge_attributes.specs.Clauses.Answers.{failed}
 use Rattle.judge_tape.specs.Clauses.Rows.{type_on, datum_on, BlockGood, DatumWithin}
 use Rattle.judge_attributes.specs.Clauses.Attributes.{block_under}
+use Rattle.judge.specs.Clauses.Answers.{answer_of}
+use Rattle.judge.specs.declared.Denial.{Denial}
+use Rattle.judge.specs.declared.Denial.TheVariants.{Refused}
 use Rattle.judge.specs.Clauses.Walk.{Under}
 use Rattle.judge_tape.specs.declared.members.Block as members
 use Rattle.judge_attributes.specs.declared.Failure.{Failure}
@@ -210,9 +215,10 @@ module _ (bs text : List ℕ) (root : RecordNumber) (t : table_fault bs ≡ None
 
 -- the check goes before
 module _ {A : Type 0} (bs text : List ℕ) (root : ℕ) (c : Result A Refusal) (ec : fault_of c ≡ table_fault bs) where
-  pub table_refused : (why : Refusal) → c ≡ Err why → refused why ≡ judge_answer bs root text
+  pub table_refused : (why : Refusal) → c ≡ Err why → {B : Type 0} (q : Result B Denial) → IsErrAnd q (λ d. d ≡ Refused why)
+      → answer_of q ≡ judge_answer bs root text
   unfolding judge_answer
-  table_refused why h = rw (← ec, h)
+  table_refused why h q i = let p = err_from_is_err_and q i in rw (p.1, p.2, ← ec, h)
 
   pub table_judged : (x : A) (a : Outcome Refusal Verdict) → c ≡ Ok x
       → a ≡ under_root root text (object_at (image_of bs) root) → a ≡ judge_answer bs root text
