@@ -92,9 +92,6 @@ module _ {s : List ℕ} {p : Spot} {top : ℕ} (room : Stacked s p top) (levels 
     pub object_past : TypedPast s p.next p.place head.type_start head.type_end head.code_start head.code_end head.next
     object_past = e.past
 
-    pub object_inside : head.next ≤ length s
-    object_inside = object_past.inside
-
     pub object_level : 1 ≤ levels
     object_level = object_levels_lem s levels p.next p.place _ head.next (sym e.is)
 

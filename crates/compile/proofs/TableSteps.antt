@@ -33,7 +33,7 @@ use Rattle.cadl_objects.specs.Clauses.Told.{object_from}
 use Rattle.cadl_objects.proofs.TreeParts.{constraint_is}
 use Rattle.cadl_objects.proofs.TreeReading.{ObjectRead, object_holds}
 use Rattle.table.specs.Records.{Record, record_size, encode, encodes, bytes_of, make}
-use Rattle.table.specs.Clauses.Answers.{plain_entry, record_of}
+use Rattle.table.specs.Clauses.Answers.{record_of}
 use Rattle.table.specs.declared.records.Entry.{Entry}
 use Rattle.table.proofs.RecordLaws.{length-encode, length-encodes}
 use Rattle.compile_flatten.specs.Flatten.{object_table, image_of_tree}
@@ -45,12 +45,6 @@ use Rattle.compile_flatten.proofs.FlattenLaws.{object_length}
 use Rattle.compile_emission.proofs.TreeWriting.{counted_object, row_below, IsTree, is_tree_lem, is_refused_lem, pool_below}
 
 -- ---- the records and the pool in the output
-
--- the entry of a header
-pub header_entry_is : (count pool : ℕ) (x : Entry) → x ≡ plain_entry 0 0
-    → record_of (record { kind = x.kind; flag = x.flag; a = count; b = pool; c = 1; d = x.d; e = x.e })
-    ≡ make 0 0 (count ∷ pool ∷ 1 ∷ [])
-header_entry_is count pool x g = λ i. record { kind = (g i).kind; flag = (g i).flag; fields = count ∷ pool ∷ 1 ∷ (g i).d ∷ (g i).e ∷ [] }
 
 module _ (little : Bool) (end : ℕ) (q : Spot) (rs bs out : List ℕ) where
   pub output_short : length out < record_size * q.next + q.pool

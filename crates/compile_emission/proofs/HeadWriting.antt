@@ -1,8 +1,8 @@
 -- Steps of the functions that write what objects and attributes begin and end with. Assumes nothing.
 use mathlib.Core.Path.{◌≡◌, refl, sym, ap, ◌∙◌}
-use mathlib.Core.Bool.{Bool, false}
+use mathlib.Core.Bool.{Bool}
 use mathlib.Core.List.{List, [], ◌∷◌}
-use Prim.Native.Nat.{ℕ, ◌+◌, ◌*◌, ◌-◌, ◌≤◌}
+use Prim.Native.Nat.{ℕ, ◌+◌, ◌*◌, ◌-◌}
 use native.Mathlib.Omega.{arith}
 use lib.ListN.{length}
 use lib.Seq.{sets}
@@ -16,7 +16,6 @@ use Rattle.lexis.proofs.Stores.{sets_behind}
 use Rattle.refusals.specs.Expecting.{expect}
 use Rattle.refusals.specs.Clauses.Answers.{ExpectIs}
 use Rattle.refusals.specs.declared.Refusal.{Refusal}
-use Rattle.refusals.proofs.StepLaws.{expected_fault, expected_token, expected_past}
 use Rattle.cadl_items.specs.Clauses.Spans.{Within, with_item}
 use Rattle.lexis.proofs.Parts.{part_length}
 use Rattle.cadl_objects.specs.Clauses.Answers.{TypedPast}
@@ -28,7 +27,6 @@ use Rattle.compile_flatten.specs.Flatten.{place_for}
 use Rattle.compile_emission.specs.Clauses.Answers.{PartFits, PartPut, pooled_place, link_below, spot, Room, first_link, object_row, typed_row, ObjectPut, NameKept, attribute_row, named_row, closed_attribute, CloseIs, CloseRoom}
 use Rattle.compile_emission.specs.declared.spots.Spot.{Spot}
 use Rattle.compile_emission.specs.declared.spots.AttributeEnd.TheVariants.{Last, More}
-use Rattle.std.specs.declared.result.Result.{Result}
 use Rattle.std.specs.declared.result.Result.TheVariants.{Ok, Err}
 use Rattle.cadl_objects.specs.declared.heads.ObjectHead.{ObjectHead}
 use Rattle.cadl_objects.specs.declared.heads.AttributeHead.{AttributeHead}
@@ -61,12 +59,6 @@ module _ {s : List ℕ} {p : Spot} (head : ObjectHead) (room : Room s p)
   code_lies = omega arith
 
   module _ {bs bs1 : List ℕ} {middle : ℕ} (t : PartPut s ts te p.pool bs bs1 middle) where
-    pub code_fits : PartFits s cs ce middle
-    code_fits =
-        let n = part_length s ts te type_lies.inside in
-        let m = t.behind in
-        record { lies = code_lies; room = omega arith }
-
     pub object_put : {little any : Bool} {rs rs' bs2 : List ℕ} {first pool : ℕ} {e : Entry}
         → first ≡ first_link any p.next
         → record_of e ≡ typed_row head p.pool first

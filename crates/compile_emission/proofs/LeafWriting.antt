@@ -1,12 +1,11 @@
 -- Steps of the function that reads and writes a leaf. Assumes nothing.
-use mathlib.Core.Path.{◌≡◌, refl, sym, ap, ◌∙◌}
+use mathlib.Core.Path.{◌≡◌, refl, sym, ap}
 use mathlib.Core.Bool.{Bool}
 use mathlib.Core.List.{List, [], ◌∷◌}
-use Prim.Native.Nat.{ℕ, ◌<◌}
+use Prim.Native.Nat.{ℕ}
 use native.Mathlib.Omega.{arith}
 use lib.ListN.{length}
 use lib.Seq.{sets}
-use Rattle.refusals.specs.Limits.{record_limit}
 use Rattle.refusals.specs.Reading.{got}
 use Rattle.refusals.specs.declared.Refusal.{Refusal}
 use Rattle.refusals.proofs.Readings.{Holds}
@@ -15,18 +14,17 @@ use Rattle.meaning.specs.Constraints
 use Rattle.meaning.specs.Sorts.{single_row}
 use Rattle.meaning.specs.Counting.{text_pool, leaf_pool, value_pool}
 use Rattle.cadl_items.specs.Clauses.Told.{leaf}
-use Rattle.cadl_items.specs.Clauses.Answers.{items_from, range_at, text_at, single_of, range_sort_of, leaf_reading, LeafPast, LeafIs}
+use Rattle.cadl_items.specs.Clauses.Answers.{items_from, range_at, text_at, single_of, range_sort_of, LeafIs}
 use Rattle.cadl_items.specs.declared.leaves.SingleSort.{SingleSort}
 use Rattle.cadl_items.specs.declared.leaves.RangeSort.{RangeSort}
 use Rattle.cadl_items.specs.declared.leaves.Leaf as declared
 use Rattle.cadl_items.specs.declared.leaves.Leaf.TheVariants.{Single, Ranges, Strings}
-use Rattle.std.specs.declared.result.Result.{Result}
 use Rattle.std.specs.declared.result.Result.TheVariants.{Ok, Err}
 use Rattle.cadl_items.proofs.LeafReading.{leaf_holds}
 use Rattle.cadl_items.proofs.LeafReading as reading
 use Rattle.table.specs.Records.{Record, make}
 use Rattle.compile_flatten.specs.Flatten.{range_records, records_of_leaf, value_table}
-use Rattle.compile_emission.specs.Clauses.Answers.{wrote, written, Room, Puts, ListWritingRoom, TextsRoom, TextsPut, leaf_value}
+use Rattle.compile_emission.specs.Clauses.Answers.{wrote, written, Room, Puts, TextsRoom, TextsPut, leaf_value}
 use Rattle.compile_emission.specs.declared.spots.Spot.{Spot}
 use Rattle.compile_emission.proofs.TreeWriting.{pool_below}
 

@@ -7,7 +7,7 @@ use native.Mathlib.Omega.{arith}
 use native.Mathlib.Nat.{add-zero}
 use native.Mathlib.Numerals.{add-one}
 use lib.Dec.{ltb}
-use lib.ListN.{length, get_or, take, drop, length-append, length-take}
+use lib.ListN.{length, get_or, take, drop, length-append}
 use lib.Seq.{sets, drop-cons}
 use borrow.Rule.Slice.PartMut.{put_mid}
 use Rattle.std.proofs.lemmas.List.{drop-drop}
@@ -19,10 +19,7 @@ use Rattle.meaning.specs.Constraints.{RangeSort, Range}
 use Rattle.meaning.specs.Counting.{text_pool}
 use Rattle.meaning.specs.Admission.{first_range, first_text}
 use Rattle.cadl_items.specs.Clauses.Spans.{first_of, second_of, span_at, Within}
-use Rattle.cadl_items.specs.Clauses.Answers.{items_from, range_at, text_at, range_sort_of}
-use Rattle.cadl_items.specs.declared.leaves.RangeSort as declared
-use Rattle.cadl_items.specs.declared.leaves.RangeSort.TheVariants as range_sort
-use Rattle.values.specs.Integers.{twos_complement}
+use Rattle.cadl_items.specs.Clauses.Answers.{items_from, range_at, text_at}
 use Rattle.lexis.proofs.Parts.{part_length}
 use Rattle.meaning.specs.Sorts.{range_row, text_kind}
 use Rattle.table.specs.Records.{Record, record_size, field_count, encode, encodes, make}
@@ -172,25 +169,6 @@ module _ {little : Bool} {p : Spot} {sort : RangeSort} {scratch : List ℕ} {cou
       record { answer = λ t. spot place (n t) (sym (add-zero p.pool) t); records = rw a at inv.is }
 
 -- ---- strings
-
--- a string's record and bytes
-pub string_put : (s scratch : List ℕ) (i n end at start stop : ℕ) (little : Bool) (rs bs rs' bs' : List ℕ)
-    (place size next r : ℕ) (e : Entry) → TextFits s scratch i n at → start ≡ first_of scratch i
-    → stop ≡ second_of scratch i
-    → place ≡ pooled_place start stop at → size ≡ stop - start → next ≡ link_below (n + 1) end
-    → record_of e ≡ make text_kind 0 (place ∷ size ∷ 0 ∷ 0 ∷ next ∷ [])
-    → rs' ≡ sets rs (record_size * n) (encode little (record_of e)) → PartPut s start stop at bs bs' r
-    → TextPut (span_at s scratch i) little n end at rs bs rs' bs' r
-string_put s scratch i n end at start stop little rs bs rs' bs' place size next r e fits a b pl si ne re w put =
-    let f : PartFits s start stop at = rw (a, b) fits.part in
-    let h : part s start stop ≡ span_at s scratch i = λ j. part s (a j) (b j) in
-    let x : place ≡ place_for (part s start stop) at = pl ∙ place_part s start stop at f.lies in
-    let y : size ≡ length (part s start stop) = si ∙ sym (part_length s start stop f.lies.inside) in
-    rw (← h) (record {
-      behind = put.behind;
-      records = w ∙ ap (λ (q : Record). sets rs (record_size * n) (encode little q)) (re ∙ λ j. make text_kind 0 (x j ∷ y j ∷ 0 ∷ 0 ∷ ne j ∷ []));
-      bytes = put.bytes;
-    })
 
 -- the strings before item i are written: with those that are left the records and the pool are what they are to be
 abbrev texts_left : List ℕ → Bool → List ℕ → ℕ → ℕ → ℕ → ℕ → List ℕ → List ℕ
