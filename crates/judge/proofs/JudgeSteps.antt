@@ -22,7 +22,7 @@ use Rattle.refusals.specs.declared.Cause.TheVariants.{NotAnObject}
 use Rattle.meaning.specs.Data.{datum}
 use Rattle.meaning.specs.Data
 use Rattle.meaning.specs.Judging.{judge_value}
-use Rattle.meaning.specs.Verdicts.{Verdict, valid}
+use Rattle.meaning.specs.Verdicts.{Verdict}
 use Rattle.dadl.specs.Placed.{Span, block, spelled_span, spelled_block, spelled_entries}
 use Rattle.dadl.specs.Data.{block_of}
 use Rattle.dadl.specs.Clauses.Tape.{entry_rows, entries_tape, type_start, type_end}
@@ -49,7 +49,6 @@ use Rattle.table.proofs.WalkLaws.{node_by, node_of, tree_node}
 use Rattle.table.proofs.UseLaws.{kind_shape}
 use Rattle.judge.specs.Judge.{under_root, judge_answer}
 use Rattle.judge_admission.specs.Clauses.Items.{image_from, TableGood}
-use Rattle.judge_attributes.specs.Clauses.Answers.{failed}
 use Rattle.judge_tape.specs.Clauses.Rows.{type_on, datum_on, BlockGood, DatumWithin}
 use Rattle.judge_attributes.specs.Clauses.Attributes.{block_under}
 use Rattle.judge.specs.Clauses.Answers.{answer_of}
@@ -57,7 +56,6 @@ use Rattle.judge.specs.declared.Denial.{Denial}
 use Rattle.judge.specs.declared.Denial.TheVariants.{Refused}
 use Rattle.judge.specs.Clauses.Walk.{Under}
 use Rattle.judge_tape.specs.declared.members.Block as members
-use Rattle.judge_attributes.specs.declared.Failure.{Failure}
 use Rattle.judge_admission.proofs.TableLaws.{object_tree}
 use Rattle.judge.proofs.Depth.{text_within}
 

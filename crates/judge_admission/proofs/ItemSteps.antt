@@ -1,6 +1,6 @@
 -- Steps of the functions that try a value: the walk over items, and a value of each kind. Assumes nothing.
 use mathlib.Core.Path.{◌≡◌, refl, sym, ap, ap₂, ◌∙◌}
-use mathlib.Core.Bool.{Bool, true, false, cond, ◌||◌, or-true, or-false}
+use mathlib.Core.Bool.{Bool, true, false, cond, ◌||◌, or-false}
 use Rattle.std.specs.Prelude.{Option, None, Some}
 use mathlib.Core.List.{List, [], ◌∷◌, map}
 use Prim.Native.Nat.{ℕ, zero, suc, ◌+◌, ◌*◌, ◌-◌, ◌≤◌, ◌<◌}
@@ -15,8 +15,8 @@ use Rattle.values.proofs.Common.{by_order}
 use Rattle.values.specs.Integers.{integer_of}
 use Rattle.values.specs.Dates.{date_of}
 use Rattle.values.specs.declared.dates.Date.{Date}
-use Rattle.meaning.specs.Constraints.{RangeSort, integers, dates, SingleSort, booleans, date_pattern, time_pattern, duration_pattern, Range, single, ranges}
-use Rattle.meaning.specs.Findings.{Finding, unsuited, refuted, admitted, found, try}
+use Rattle.meaning.specs.Constraints.{RangeSort, integers, dates, SingleSort, booleans, date_pattern, time_pattern, duration_pattern, single, ranges}
+use Rattle.meaning.specs.Findings.{Finding, unsuited, refuted, found, try}
 use Rattle.meaning.specs.Sorts.{in_range, in_some, single_row, range_row, text_kind}
 use Rattle.meaning.specs.Admission.{is_some, word_under, string_under}
 use Rattle.table.specs.Records.{record_size, decode, field, record_in}

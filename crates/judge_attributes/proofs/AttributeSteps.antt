@@ -30,7 +30,7 @@ use Rattle.table.specs.declared.records.Entry.{Entry}
 use Rattle.table.specs.declared.records.RecordNumber.{RecordNumber}
 use Rattle.judge_admission.specs.Clauses.Items.{name_of, record_leaf, Lies, ItemsGood, image_from}
 use Rattle.judge_admission.specs.Clauses.Answers.{finding_of, finding_under}
-use Rattle.judge_attributes.specs.Clauses.Answers.{leaf_verdict, failed, verdict_in}
+use Rattle.judge_attributes.specs.Clauses.Answers.{leaf_verdict, failed}
 use Rattle.judge_tape.specs.Clauses.Rows.{content_on, members_on, datum_on, member_row, Begins, LeafRow, block_on, MembersWithin, ContentWithin, Walk}
 use Rattle.judge_attributes.specs.Clauses.Attributes.{judge_first, ValueLink, AttributeAt, Leads, ValueIs, AttributeAnswerIs}
 use Rattle.judge_tape.specs.Clauses.Memo.{KnownIs}
@@ -40,12 +40,6 @@ use Rattle.judge_attributes.specs.declared.Failure.{Failure}
 use Rattle.judge_attributes.specs.declared.Nested.{Nested}
 use Rattle.judge_tape.proofs.MemberSteps.{found_on, FoundIs, member_holds}
 use Rattle.judge_admission.proofs.TableLaws.{by_kind, number_lies, kind_there, link_there, name_there, items_there, object_tree, attribute_tree, leaf_there}
-
--- what an admission tells
-module _ (a : Admission) (first place : ℕ) where
-  pub told_by : (b : Admission) (v : Verdict) → a ≡ b → v ≡ verdict_of first place (finding_of b)
-      → v ≡ verdict_of first place (finding_of a)
-  told_by b v h e = rw h e
 
 -- a block, as it is read
 pub block_read : (tape : List ℕ) (n place start end inside : ℕ) → place ≡ row_number (row_at tape n) 3
