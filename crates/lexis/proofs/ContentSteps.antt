@@ -1,31 +1,24 @@
 -- The steps of reading a token where a value may stand, and where it lies. Assumes nothing.
-use mathlib.Core.Path.{◌≡◌, refl, sym, ap, ◌∙◌}
-use mathlib.Core.Bool.{Bool, true, false, cond, not, ◌&&◌}
+use mathlib.Core.Path.{◌≡◌, refl, ◌∙◌}
+use mathlib.Core.Bool.{Bool, true, false, cond, ◌&&◌}
 use mathlib.Core.List.{List}
-use Prim.Native.Nat.{ℕ, ◌+◌, ◌-◌, ◌≤◌, ◌<◌}
+use Prim.Native.Nat.{ℕ, ◌-◌, ◌≤◌, ◌<◌}
 use native.Mathlib.Omega.{arith}
 use native.Mathlib.Nat.{add-zero}
 use lib.Dec.{eqb, leb}
 use lib.ListN.{length, drop}
 use lib.Seq.{get_or-take, get_or-drop}
-use borrow.Author.Tests.{eqb-true, eq-eqb, ne_eqb, leb-true, le-leb, not-true, not-false}
+use borrow.Author.Tests.{eqb-true, eq-eqb, ne_eqb, leb-true}
 use Rattle.lexis.specs.Text.{byte}
 use Rattle.lexis.specs.Runs.{byte_at, part}
 use Rattle.lexis.specs.Spelling.{close_brace}
-use Rattle.lexis.specs.Durations.{slots_of, pattern_slots, duration_pattern}
+use Rattle.lexis.specs.Durations.{slots_of, pattern_slots}
 use Rattle.lexis.specs.Tokens.{token, type_name, spelling, token_at, duration_flag, pattern_or, content_token_at}
-use Rattle.lexis.specs.Clauses.Answers.{TokenIs, FlagIs, TypeThere}
+use Rattle.lexis.specs.Clauses.Answers.{TokenIs, TypeThere}
 use Rattle.lexis.specs.declared.Token.{Token}
-use Rattle.std.specs.Prelude.{Option, Some, None}
 use Rattle.lexis.proofs.Cases.{by_cond, and_left}
-use Rattle.lexis.proofs.Options.{none_zero, some_above}
 use Rattle.lexis.proofs.Places.{Found, token-found}
 use Rattle.lexis.proofs.TokenSteps.{promised}
-
--- the next token is `}`
-pub closing_told : (s : List ℕ) (from : ℕ) (t : Token) → TokenIs s from (token_at s from) t
-    → eqb t.sort close_brace ≡ eqb (token_at s from).sort close_brace
-closing_told s from t p = ap (λ u. eqb u.sort close_brace) p.is
 
 -- the first byte of a part that has one
 first_of_part : (s : List ℕ) (start end : ℕ) → start < end → byte_at (part s start end) 0 ≡ byte_at s start
@@ -39,22 +32,6 @@ module _ (s : List ℕ) (t : Token) (d : TypeThere s t) where
   pub type_other : (byte_at s t.start ≡ byte "P" → ⊥) → t ≡ pattern_or s t (pattern_slots (spelling s t))
   unfolding pattern_slots slots_of
   type_other n = rw (first_of_part s t.start t.end d.order, ne_eqb (byte_at s t.start) (byte "P") n) refl
-
-  module _ (o : Option ℕ) (q : FlagIs (pattern_slots (part s t.start t.end)) o) where
-    pub type_no_pattern : o ≡ None → t ≡ pattern_or s t (pattern_slots (spelling s t))
-    type_no_pattern n = rw (none_zero (pattern_slots (part s t.start t.end)) (sym n ∙ q.is)) refl
-
-    module _ (flag : ℕ) (e : o ≡ Some flag) (r : Bool) (p : r ≡ eqb (token_at s t.end).sort close_brace) where
-      is_flag : (flag ≡ pattern_slots (part s t.start t.end)) × (1 ≤ pattern_slots (part s t.start t.end))
-      is_flag =
-          let f = some_above (pattern_slots (part s t.start t.end)) flag (sym e ∙ q.is) in
-          (f.0, omega (arith, f.1))
-
-      pub type_stays : not r ≡ true → t ≡ pattern_or s t (pattern_slots (spelling s t))
-      type_stays n = rw (le-leb 1 (pattern_slots (part s t.start t.end)) is_flag.1, ← p, not-true r n) refl
-
-      pub type_pattern : not r ≡ false → token (duration_pattern + flag) t.start t.end ≡ pattern_or s t (pattern_slots (spelling s t))
-      type_pattern n = rw (le-leb 1 (pattern_slots (part s t.start t.end)) is_flag.1, ← p, not-false r n, is_flag.0) refl
 
 -- a TYPE that was read
 pub type_there : (s : List ℕ) (from : ℕ) (t : Token) → TokenIs s from (token_at s from) t → t.sort ≡ type_name

@@ -1,4 +1,4 @@
--- The steps of a walk over slots: a lemma for each way out, in the form that `search` takes. Assumes nothing.
+-- The steps of a walk over slots: a lemma for each way out. Assumes nothing.
 use mathlib.Core.Path.{◌≡◌, refl, sym, ap, ◌∙◌}
 use mathlib.Core.Bool.{Bool, true, false, cond}
 use mathlib.Core.List.{List, [], ◌∷◌}
@@ -11,20 +11,12 @@ use borrow.Author.Tests.{eq-eqb, ne_eqb, le-leb, lt-leb}
 use Rattle.lexis.specs.Text.{byte, bytes}
 use Rattle.lexis.specs.Bytes.{is, digit}
 use Rattle.lexis.specs.Runs.{past, byte_at}
-use Rattle.lexis.specs.Durations.{letter_slot, in_either_case, letter_behind, digit_slot, filled, fill, fill_all, behind_time, behind_date, slots_of, pattern_slots}
+use Rattle.lexis.specs.Durations.{letter_slot, in_either_case, letter_behind, digit_slot, filled, fill, fill_all, behind_time, behind_date, slots_of}
 use Rattle.lexis.specs.Clauses.Answers.{unless_zero, PlaceIs, SlotIs, filled_at, FillRoom, FillIs, FlagIs}
 use Rattle.lexis.specs.declared.durations.Slots.{Slots}
 use Rattle.std.specs.Prelude.{Option, Some, None}
 use Rattle.lexis.proofs.Options.{above_some, none_zero, some_above}
 use Rattle.lexis.proofs.Places.{drop_in}
-
--- the letter in either case
-module _ (letter b : ℕ) where
-  pub case_same : b ≡ letter → true ≡ in_either_case letter b
-  case_same e = rw (eq-eqb b letter e)
-
-  pub case_other : (b ≡ letter → ⊥) → eqb (b + 32) letter ≡ in_either_case letter b
-  case_other n = rw (ne_eqb b letter n)
 
 -- a slot of a pattern
 module _ (w : List ℕ) (at letter : ℕ) where
@@ -205,11 +197,6 @@ module _ (slot : ℕ → List ℕ → ℕ) (w : List ℕ) where
           → FlagIs (behind_time slot x.flag (drop (x.at + 1) w)) r
           → FlagIs (slots_of slot w) r
       slots_time r e k = record { is = rw (opened, unended, eq-eqb (byte_at w x.at) (byte "T") e) k.is; few = k.few }
-
--- without digits it is a pattern
-pub pattern_told : (w : List ℕ) (r : Option ℕ) → FlagIs (slots_of letter_slot w) r → FlagIs (pattern_slots w) r
-unfolding pattern_slots
-pattern_told w r h = h
 
 pub ruleset of_letters = (letter_none, letter_here, letter_other)
 

@@ -23,7 +23,6 @@ pub mod TokenLaws
 pub mod DataTokenLaws
 pub mod RunSteps
 pub mod SpellingSteps
-pub mod WordSteps
 pub mod TokenSteps
 pub mod DataTokenSteps
 pub mod QuickSteps

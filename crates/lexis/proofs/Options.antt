@@ -3,13 +3,10 @@ use mathlib.Core.Path.{◌≡◌, refl, sym}
 use mathlib.Core.Bool.{Bool, true, false, cond}
 use Prim.Native.Nat.{ℕ}
 use lib.Dec.{eqb}
-use borrow.Author.Tests.{eqb-true, eq-eqb, ne_eqb, eqb-false}
+use borrow.Author.Tests.{eqb-true, ne_eqb, eqb-false}
 use Rattle.std.specs.Prelude.{Some, None}
 use Rattle.std.proofs.lemmas.Option.{none-some, same_Some}
 use Rattle.lexis.specs.Clauses.Answers.{unless_zero}
-
-pub zero_none : (n : ℕ) → n ≡ 0 → None ≡ unless_zero n
-zero_none n e = rw (eq-eqb n 0 e) refl
 
 pub above_some : (n : ℕ) → (n ≡ 0 → ⊥) → Some n ≡ unless_zero n
 above_some n e = rw (ne_eqb n 0 e) refl

@@ -1,4 +1,4 @@
--- The steps of reading tokens of data text that stand at a place or behind a space: a lemma for each way out, in the form that `search` takes. Assumes nothing.
+-- The steps of reading tokens of data text that stand at a place or behind a space: a lemma for each way out. Assumes nothing.
 use mathlib.Core.Path.{◌≡◌, refl, sym, ◌∙◌}
 use mathlib.Core.Bool.{Bool, true, false, cond, or-true, false≢true}
 use mathlib.Core.Logic.{◌≢◌}

@@ -1,4 +1,4 @@
--- The steps of reading the next token of a text: a lemma for each way out, in the form that `search` takes. Assumes nothing.
+-- The steps of reading the next token of a text: a lemma for each way out. Assumes nothing.
 use mathlib.Core.Path.{◌≡◌}
 use mathlib.Core.List.{List}
 use Prim.Native.Nat.{ℕ, ◌≤◌, ◌<◌}

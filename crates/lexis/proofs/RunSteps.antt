@@ -1,4 +1,4 @@
--- The steps of the loops over bytes: a lemma for each way out and for each turn, in the form that `search` takes. Assumes nothing.
+-- The steps of the loops over bytes: a lemma for each way out and for each turn. Assumes nothing.
 use mathlib.Core.Path.{◌≡◌, refl, sym, ap, ◌∙◌}
 use mathlib.Core.Bool.{Bool, true, false, cond, not, ◌&&◌, ◌||◌, false≢true}
 use mathlib.Core.List.{List, [], ◌∷◌}
@@ -7,7 +7,7 @@ use native.Mathlib.Omega.{arith}
 use native.Mathlib.Nat.{add-zero}
 use lib.Dec.{eqb}
 use lib.Pointwise.{pointwise}
-use lib.ListN.{length, drop, length-drop, drop_of_length-le, get_or-eq_default}
+use lib.ListN.{length, drop, length-drop, drop_of_length-le}
 use lib.Seq.{get_or-drop}
 use borrow.Author.Tests.{eq-eqb, ne_eqb, not-true, not-false}
 use Rattle.lexis.specs.Text.{byte}
@@ -16,10 +16,6 @@ use Rattle.lexis.specs.Runs.{past, byte_at, same, starts_with, shaped, allows}
 use Rattle.lexis.specs.Blanks.{skip, opens_comment, token_start}
 use Rattle.lexis.specs.Clauses.Answers.{PlaceIs, comment_open, token_here, begins_by}
 use Rattle.lexis.proofs.Places.{drop_in}
-
--- behind the text's end stands 0
-pub byte_behind : (s : List ℕ) (at : ℕ) → length s ≤ at → 0 ≡ byte_at s at
-byte_behind s at h = sym (get_or-eq_default s 0 h)
 
 -- in a run: what is left of it ends where the run does
 pub record InRun (test : ℕ → Bool) (s : List ℕ) (from at : ℕ) : Type 0 where
@@ -132,10 +128,6 @@ pub record InWord (f : ℕ → ℕ → Bool) (w s : List ℕ) (at i : ℕ) (x : 
   pub high : i ≤ length w
   pub room : at + length w ≤ length s
   pub is : begins_by f (drop i w) (drop (at + i) s) ≡ x
-
-pub word_first : (f : ℕ → ℕ → Bool) (w s : List ℕ) (at : ℕ) → at ≤ length s → length w ≤ length s - at
-    → InWord f w s at 0 (begins_by f w (drop at s))
-word_first f w s at h k = record { high = omega arith; room = omega arith; is = rw add-zero }
 
 module _ (f : ℕ → ℕ → Bool) (w s : List ℕ) (at i : ℕ) (x : Bool) (inv : InWord f w s at i x) where
   pub word_end : length w ≤ i → true ≡ x

@@ -1,4 +1,4 @@
--- The steps of telling the tokens that are spelled in one way: a lemma for each way out, in the form that `search` takes. Assumes nothing.
+-- The steps of telling the tokens that are spelled in one way: a lemma for each way out. Assumes nothing.
 use mathlib.Core.Path.{◌≡◌, sym, ◌∙◌}
 use mathlib.Core.Bool.{false}
 use mathlib.Core.List.{List, [], ◌∷◌}
@@ -8,7 +8,7 @@ use lib.ListN.{length, drop}
 use borrow.Author.Tests.{ne_eqb}
 use Rattle.lexis.specs.Text.{bytes}
 use Rattle.lexis.specs.Runs.{byte_at, starts_with}
-use Rattle.lexis.specs.Spelling.{Literal, literal_of, mark_spellings, date_pattern_spellings, time_pattern_spellings}
+use Rattle.lexis.specs.Spelling.{literal_of, mark_spellings, date_pattern_spellings, time_pattern_spellings}
 use Rattle.lexis.specs.Tokens.{token, no_token, spelled}
 use Rattle.lexis.specs.DataTokens.{data_marks}
 use Rattle.lexis.specs.declared.Token.{Token}
@@ -98,12 +98,6 @@ module _ (s : List ℕ) (at : ℕ) (h : at < length s) where
   pub time_other : (t : Token) → (byte_at s at ≡ 84 → ⊥) → t ≡ spelled time_pattern_spellings at (drop at s) t
   unfolding spelled starts_with
   time_other t n = rw (drop_in s at h, other 84 n)
-
--- a spelling before others, and before one token
-pub spelled_first : (l : Literal) (ls : List Literal) (at : ℕ) (bs : List ℕ) (a b t : Token)
-    → a ≡ spelled (l ∷ []) at bs b → b ≡ spelled ls at bs t → a ≡ spelled (l ∷ ls) at bs t
-unfolding spelled
-spelled_first l ls at bs a b t p q = rw q at p
 
 pub ruleset marks = (mark_open, mark_close, mark_comma, mark_star, mark_bar, mark_dots, mark_less, mark_greater, mark_plus_minus, mark_none)
 

@@ -1,4 +1,4 @@
--- The steps of reading a token of constraint text: a lemma for each way out, in the form that `search` takes. Assumes nothing.
+-- The steps of reading a token of constraint text: a lemma for each way out. Assumes nothing.
 use mathlib.Core.Path.{◌≡◌, sym, ap, ◌∙◌}
 use mathlib.Core.Bool.{Bool, true, false, ◌&&◌, ◌||◌}
 use mathlib.Core.List.{List, ◌∷◌}
