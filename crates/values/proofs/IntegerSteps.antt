@@ -7,8 +7,8 @@ use Prim.Native.Nat.{ℕ, ◌+◌, ◌*◌, ◌-◌, ◌^◌, ◌≤◌, ◌<◌
 use native.Mathlib.Omega.{arith}
 use lib.Dec.{eqb, leb}
 use lib.ListN.{length, get_or, take, drop, drop_of_length-le}
-use Rattle.core.specs.Bool.{then_some}
-use Rattle.core.specs.Option.{SomeIff}
+use Rattle.std.specs.Prelude.{SomeIff}
+use Rattle.std.specs.Bool.{then_some}
 use borrow.Author.Tests.{le-leb, lt-leb, leb-true, leb-false, eq-eqb, ne_eqb}
 use Rattle.lexis.specs.Text.{byte}
 use Rattle.lexis.specs.Bytes.{within, among, blanks, marks, sort_of, is, blank, digit, small, capital, mark, other}
