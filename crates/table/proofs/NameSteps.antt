@@ -1,19 +1,17 @@
 -- Steps of the functions that hand out names, and that a name lies in its table. Assumes nothing.
 use mathlib.Core.Path.{◌≡◌, refl, sym, ap, ◌∙◌}
-use mathlib.Core.Bool.{Bool, true, false, not, cond, false≢true}
-use Rattle.std.specs.Prelude.{None, Some}
+use mathlib.Core.Bool.{Bool, true, false, not, false≢true}
+use Rattle.std.specs.Prelude.{None}
 use mathlib.Core.List.{List, [], ◌∷◌}
 use Prim.Native.Nat.{ℕ, zero, suc, ◌+◌, ◌*◌, ◌-◌, ◌^◌, ◌≤◌, ◌<◌}
 use native.Mathlib.Nat.{add-sub_cancel_left}
 use native.Mathlib.Omega.{arith}
-use lib.Dec.{leb}
 use lib.ListN
 use lib.ListN.{length, get_or, take, drop}
 use mir.Syntax.{w64}
 use mir.Val.{Fits}
-use borrow.Author.Tests.{not-false, ne_eqb, le-leb}
+use borrow.Author.Tests.{not-false, ne_eqb}
 use Rattle.lexis.specs.Bytes.{among}
-use Rattle.values.proofs.Common.{below}
 use Rattle.meaning.specs.Sorts.{text_kind}
 use Rattle.refusals.specs.Refusals.{refusal}
 use Rattle.refusals.specs.declared.Refusal.{Refusal}
@@ -35,22 +33,9 @@ use Rattle.table.proofs.UseLaws.{place_right}
 use Rattle.table.proofs.CheckLaws.{count-framed, pool_framed, fault_none, check_sound, record_good, field_at, kind_record, kind_inside}
 use Rattle.table.proofs.FrameLaws.{count_opened, record_opened, framed_opened}
 
--- a kind that has a name
-module _ (k : ℕ) where
-  pub name_known : (j : ℕ) (x : Bool) → k ≡ j → x ≡ among j (object_kind ∷ attribute_kind ∷ text_kind ∷ [])
-      → x ≡ among k (object_kind ∷ attribute_kind ∷ text_kind ∷ [])
-  name_known j x h e = rw h e
-
-  pub name_low : (k ≡ 0 → ⊥) → k < 3 → true ≡ among k (object_kind ∷ attribute_kind ∷ text_kind ∷ [])
-  name_low h g =
-      let e = below 3 (λ x. cond (leb 1 x) (among x (object_kind ∷ attribute_kind ∷ text_kind ∷ [])) true) refl k g in
-      sym (rw (le-leb 1 k (omega arith)) at e)
-
-  pub name-between : 3 ≤ k → k < 5 → false ≡ among k (object_kind ∷ attribute_kind ∷ text_kind ∷ [])
-  name-between h g = rw (ne_eqb k 1 (λ e. omega arith), ne_eqb k 2 (λ e. omega arith), ne_eqb k 5 (λ e. omega arith))
-
-  pub name_past : 5 ≤ k → (k ≡ 5 → ⊥) → false ≡ among k (object_kind ∷ attribute_kind ∷ text_kind ∷ [])
-  name_past h g = rw (ne_eqb k 1 (λ e. omega arith), ne_eqb k 2 (λ e. omega arith), ne_eqb k 5 g)
+-- a kind above those that have a name
+name_past : (k : ℕ) → 5 ≤ k → (k ≡ 5 → ⊥) → false ≡ among k (object_kind ∷ attribute_kind ∷ text_kind ∷ [])
+name_past k h g = rw (ne_eqb k 1 (λ e. omega arith), ne_eqb k 2 (λ e. omega arith), ne_eqb k 5 g)
 
 -- a record that has a name is one of the table's, but the header
 pub kind_some : (k : ℕ) → among k (object_kind ∷ attribute_kind ∷ text_kind ∷ []) ≡ true → 1 ≤ k
@@ -165,7 +150,5 @@ module _ (bs : List ℕ) (n : ℕ) (a : Result NamePart Refusal) (e : answer_of 
 
   pub part-empty : (r : Refusal) → a ≡ Err r → take (0 - 0) (drop 0 bs) ≡ slice_bytes bs (name_answer bs n)
   part-empty r h = rw (← e, h)
-
-pub ruleset name-kinds = (name_known, name_low, name-between, name_past)
 
 pub ruleset name_steps = (sound_long, sound_open, part_read, name_refused, name-found, name-inside, passed_none, check_refused, name_told_lem, end_inside, end_fits, part_is, part-empty)

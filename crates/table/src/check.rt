@@ -8,7 +8,7 @@ use crate::layout::{HEADER_KIND, OBJECT_KIND, RECORD_SIZE};
 use crate::records::{
     Entry, Frame, POOL_MOST, RECORD_MOST, RecordNumber, frame_of, is_marked, kind_at, read,
 };
-use crate::rules::rules_kept;
+use crate::rules::Table;
 use refusals::{Cause, Refusal};
 
 // The header's kind, flag and last two numbers are 0.
@@ -57,29 +57,27 @@ fn is_framed(table: &[u8]) -> bool
 
 // The record with a number bears a mark and keeps the rules.
 #[tactic(auto, using(crate::proofs::CheckSteps::check_steps))]
-fn record_right(table: &[u8], frame: Frame, n: RecordNumber) -> bool
-    requires opened { Opened table.now frame }
-    requires n_lt_count { n.0 < frame.count }
+fn record_right(table: Table<'_>, n: RecordNumber) -> bool
+    requires { n.0 < table.frame.count }
     ensures { result
-        ≡ record_right (image_of table.now) n.0
-        (take record_size (drop (record_size * n.0) table.now))
-        (decode (take record_size (drop (record_size * n.0) table.now))) }
+        ≡ record_right (image_of table.entry.bytes.now) n.0
+        (take record_size (drop (record_size * n.0) table.entry.bytes.now))
+        (decode (take record_size (drop (record_size * n.0) table.entry.bytes.now))) }
 {
     let at = n.start();
-    is_marked(table, at) && rules_kept(table, frame, n, read(table, at))
+    is_marked(table.bytes, at) && table.rules_kept(n, read(table.bytes, at))
 }
 
 // Refuses the lowest record at fault, if there is one.
 #[tactic(auto, using(crate::proofs::CheckSteps::check_steps))]
-fn check_records(table: &[u8], frame: Frame) -> Result<(), Refusal>
-    requires { Opened table.now frame }
+fn check_records(table: Table<'_>) -> Result<(), Refusal>
     ensures { fault_of result
         ≡ broken_record
-        (broken (image_of table.now) 1 (image_of table.now).records
-        (drop record_size table.now)) }
+        (broken (image_of table.entry.bytes.now) 1 (image_of table.entry.bytes.now).records
+        (drop record_size table.entry.bytes.now)) }
 {
-    for n in 1..frame.count {
-        if !record_right(table, frame, RecordNumber(n)) {
+    for n in 1..table.frame.count {
+        if !record_right(table, RecordNumber(n)) {
             return Err(Cause::BrokenRecord.at(n as usize));
         }
     }
@@ -94,5 +92,8 @@ pub fn check(table: &[u8]) -> Result<(), Refusal>
     if !is_framed(table) {
         return Err(Cause::NotATable.at(0));
     }
-    check_records(table, frame_of(table))
+    check_records(Table {
+        bytes: table,
+        frame: frame_of(table),
+    })
 }

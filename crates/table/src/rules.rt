@@ -13,6 +13,14 @@ use crate::records::{Entry, Frame, PoolPlace, RecordNumber, kind_at};
 use refusals::limits::{CODE_LIMIT, NAME_LIMIT, STRING_LIMIT};
 use values::calendar::real;
 
+// A table with the counts of its header.
+#[derive(Clone, Copy)]
+pub struct Table<'a> {
+    pub bytes: &'a [u8],
+    pub frame: Frame,
+    ghost opened: { Opened bytes.now frame },
+}
+
 // The kind is a record's, and the flag one of the kind's.
 #[tactic(auto, using(crate::proofs::RuleSteps::flag_steps), unfolding(crate::specs::Rows::shape_of))]
 fn flag_right(kind: u8, flag: u8) -> bool
@@ -97,15 +105,6 @@ fn leads_up(frame: Frame, n: RecordNumber, to: RecordNumber) -> bool
     n.0 < to.0 && to.0 < frame.count
 }
 
-// A link is 0, or leads up to a record of the kind.
-#[tactic(auto, using(crate::proofs::RuleSteps::rule_steps))]
-fn link_right(table: &[u8], frame: Frame, n: RecordNumber, to: RecordNumber, kind: u8) -> bool
-    requires { Opened table.now frame }
-    ensures { result ≡ field_right (image_of table.now) n.0 (link (kind ∷ [])) to.0 0 }
-{
-    to.0 == 0 || (leads_up(frame, n, to) && kind_at(table, frame, to) == kind)
-}
-
 // The kind is an object's or a leaf's first item's.
 #[tactic(auto, using(crate::proofs::RuleSteps::value_steps))]
 fn is_value(kind: u8) -> bool
@@ -120,85 +119,12 @@ fn is_value(kind: u8) -> bool
     }
 }
 
-// A link is 0, or leads up to an object or an item.
-#[tactic(auto, using(crate::proofs::RuleSteps::rule_steps))]
-fn value_link_right(table: &[u8], frame: Frame, n: RecordNumber, to: RecordNumber) -> bool
-    requires { Opened table.now frame }
-    ensures { result ≡ field_right (image_of table.now) n.0 (link (object_kind ∷ items)) to.0 0 }
-{
-    to.0 == 0 || (leads_up(frame, n, to) && is_value(kind_at(table, frame, to)))
-}
-
 // The longest names of types and attributes, codes and strings, as a table holds them.
 const NAME_MOST: u32 = NAME_LIMIT as u32;
 
 const CODE_MOST: u32 = CODE_LIMIT as u32;
 
 const STRING_MOST: u32 = STRING_LIMIT as u32;
-
-// An object: its type, its code and its first attribute.
-#[tactic(auto, using(crate::proofs::KindSteps::kind_steps, crate::proofs::Chains::chain_steps))]
-fn object_right(table: &[u8], frame: Frame, n: RecordNumber, e: Entry) -> bool
-    requires opened { Opened table.now frame }
-    requires kind_value { e.kind ≡ 1 }
-    ensures { result ≡ fields_kept (image_of table.now) n.0 (record_of e) }
-{
-    place_right(frame.pool, PoolPlace(e.a), e.b, 1, NAME_MOST)
-        && place_right(frame.pool, PoolPlace(e.c), e.d, 0, CODE_MOST)
-        && link_right(table, frame, n, RecordNumber(e.e), ATTRIBUTE_KIND)
-}
-
-// An attribute: its name, its object or first item, and the next attribute.
-#[tactic(auto, using(crate::proofs::KindSteps::kind_steps, crate::proofs::Chains::chain_steps))]
-fn attribute_right(table: &[u8], frame: Frame, n: RecordNumber, e: Entry) -> bool
-    requires opened { Opened table.now frame }
-    requires kind_value { e.kind ≡ 2 }
-    ensures { result ≡ fields_kept (image_of table.now) n.0 (record_of e) }
-{
-    place_right(frame.pool, PoolPlace(e.a), e.b, 1, NAME_MOST)
-        && value_link_right(table, frame, n, RecordNumber(e.c))
-        && link_right(table, frame, n, RecordNumber(e.d), ATTRIBUTE_KIND)
-        && e.e == 0
-}
-
-// What follows an item's value: the next item, of the same kind, and nothing else.
-#[tactic(auto, using(crate::proofs::KindSteps::kind_steps, crate::proofs::Chains::chain_steps))]
-fn next_right(table: &[u8], frame: Frame, n: RecordNumber, e: Entry) -> bool
-    requires { Opened table.now frame }
-    ensures { result ≡ next_right (image_of table.now) n.0 e }
-{
-    link_right(table, frame, n, RecordNumber(e.e), e.kind) && e.c == 0 && e.d == 0
-}
-
-// An integer item: its ends.
-#[tactic(auto, using(crate::proofs::KindSteps::kind_steps, crate::proofs::Chains::chain_steps))]
-fn integer_right(table: &[u8], frame: Frame, n: RecordNumber, e: Entry) -> bool
-    requires opened { Opened table.now frame }
-    requires kind_value { e.kind ≡ 4 }
-    ensures { result ≡ fields_kept (image_of table.now) n.0 (record_of e) }
-{
-    integers_right(e.a, e.b) && next_right(table, frame, n, e)
-}
-
-// A string item: its text.
-#[tactic(auto, using(crate::proofs::KindSteps::kind_steps, crate::proofs::Chains::chain_steps))]
-fn string_right(table: &[u8], frame: Frame, n: RecordNumber, e: Entry) -> bool
-    requires opened { Opened table.now frame }
-    requires kind_value { e.kind ≡ 5 }
-    ensures { result ≡ fields_kept (image_of table.now) n.0 (record_of e) }
-{
-    place_right(frame.pool, PoolPlace(e.a), e.b, 0, STRING_MOST) && next_right(table, frame, n, e)
-}
-
-// A date interval: its ends.
-#[tactic(auto, using(crate::proofs::KindSteps::kind_steps, crate::proofs::Chains::chain_steps))]
-fn interval_right(table: &[u8], frame: Frame, n: RecordNumber, e: Entry) -> bool
-    requires opened { Opened table.now frame }
-    requires kind_value { e.kind ≡ 7 }
-    ensures { result ≡ fields_kept (image_of table.now) n.0 (record_of e) }
-{
-    dates_right(e.a, e.b) && next_right(table, frame, n, e)
-}
 
 // No field is named, so each is 0.
 #[tactic(auto, using(crate::proofs::KindSteps::kind_steps, crate::proofs::Chains::chain_steps))]
@@ -208,35 +134,109 @@ fn unused(e: Entry) -> bool
     e.a == 0 && e.b == 0 && e.c == 0 && e.d == 0 && e.e == 0
 }
 
-// The fields are as the kind asks. The kinds are told apart three at a time, so that this compiles to comparisons: a table of jumps costs more.
-#[tactic(auto, using(crate::proofs::KindSteps::kind_steps))]
-fn fields_right(table: &[u8], frame: Frame, n: RecordNumber, e: Entry) -> bool
-    requires { Opened table.now frame }
-    ensures { result ≡ fields_kept (image_of table.now) n.0 (record_of e) }
-{
-    let kind = e.kind;
-    match kind {
-        0 => unused(e),
-        1 => object_right(table, frame, n, e),
-        2 => attribute_right(table, frame, n, e),
-        3..=5 => match kind {
-            0..=3 => unused(e),
-            4 => integer_right(table, frame, n, e),
-            5..=255 => string_right(table, frame, n, e),
-        },
-        6..=255 => match kind {
-            0..=6 => unused(e),
-            7 => interval_right(table, frame, n, e),
-            8..=255 => unused(e),
-        },
+impl<'a> Table<'a> {
+    // A link is 0, or leads up to a record of the kind.
+    #[tactic(auto, using(crate::proofs::RuleSteps::rule_steps))]
+    fn link_right(self, n: RecordNumber, to: RecordNumber, kind: u8) -> bool
+        ensures { result ≡ field_right (image_of self.entry.bytes.now) n.0 (link (kind ∷ [])) to.0 0 }
+    {
+        to.0 == 0 || (leads_up(self.frame, n, to) && kind_at(self.bytes, self.frame, to) == kind)
     }
-}
 
-// The record keeps the rules of its kind.
-#[tactic(auto, using(crate::proofs::KindSteps::kind_steps, crate::proofs::Chains::chain_steps))]
-pub fn rules_kept(table: &[u8], frame: Frame, n: RecordNumber, e: Entry) -> bool
-    requires { Opened table.now frame }
-    ensures { result ≡ (obeys (image_of table.now) n.0 (record_of e) && clean (record_of e)) }
-{
-    fields_right(table, frame, n, e) && flag_right(e.kind, e.flag)
+    // A link is 0, or leads up to an object or an item.
+    #[tactic(auto, using(crate::proofs::RuleSteps::rule_steps))]
+    fn value_link_right(self, n: RecordNumber, to: RecordNumber) -> bool
+        ensures { result ≡ field_right (image_of self.entry.bytes.now) n.0 (link (object_kind ∷ items)) to.0 0 }
+    {
+        to.0 == 0 || (leads_up(self.frame, n, to) && is_value(kind_at(self.bytes, self.frame, to)))
+    }
+
+    // An object: its type, its code and its first attribute.
+    #[tactic(auto, using(crate::proofs::KindSteps::kind_steps, crate::proofs::Chains::chain_steps))]
+    fn object_right(self, n: RecordNumber, e: Entry) -> bool
+        requires { e.kind ≡ 1 }
+        ensures { result ≡ fields_kept (image_of self.entry.bytes.now) n.0 (record_of e) }
+    {
+        place_right(self.frame.pool, PoolPlace(e.a), e.b, 1, NAME_MOST)
+            && place_right(self.frame.pool, PoolPlace(e.c), e.d, 0, CODE_MOST)
+            && self.link_right(n, RecordNumber(e.e), ATTRIBUTE_KIND)
+    }
+
+    // An attribute: its name, its object or first item, and the next attribute.
+    #[tactic(auto, using(crate::proofs::KindSteps::kind_steps, crate::proofs::Chains::chain_steps))]
+    fn attribute_right(self, n: RecordNumber, e: Entry) -> bool
+        requires { e.kind ≡ 2 }
+        ensures { result ≡ fields_kept (image_of self.entry.bytes.now) n.0 (record_of e) }
+    {
+        place_right(self.frame.pool, PoolPlace(e.a), e.b, 1, NAME_MOST)
+            && self.value_link_right(n, RecordNumber(e.c))
+            && self.link_right(n, RecordNumber(e.d), ATTRIBUTE_KIND)
+            && e.e == 0
+    }
+
+    // What follows an item's value: the next item, of the same kind, and nothing else.
+    #[tactic(auto, using(crate::proofs::KindSteps::kind_steps, crate::proofs::Chains::chain_steps))]
+    fn next_right(self, n: RecordNumber, e: Entry) -> bool
+        ensures { result ≡ next_right (image_of self.entry.bytes.now) n.0 e }
+    {
+        self.link_right(n, RecordNumber(e.e), e.kind) && e.c == 0 && e.d == 0
+    }
+
+    // An integer item: its ends.
+    #[tactic(auto, using(crate::proofs::KindSteps::kind_steps, crate::proofs::Chains::chain_steps))]
+    fn integer_right(self, n: RecordNumber, e: Entry) -> bool
+        requires { e.kind ≡ 4 }
+        ensures { result ≡ fields_kept (image_of self.entry.bytes.now) n.0 (record_of e) }
+    {
+        integers_right(e.a, e.b) && self.next_right(n, e)
+    }
+
+    // A string item: its text.
+    #[tactic(auto, using(crate::proofs::KindSteps::kind_steps, crate::proofs::Chains::chain_steps))]
+    fn string_right(self, n: RecordNumber, e: Entry) -> bool
+        requires { e.kind ≡ 5 }
+        ensures { result ≡ fields_kept (image_of self.entry.bytes.now) n.0 (record_of e) }
+    {
+        place_right(self.frame.pool, PoolPlace(e.a), e.b, 0, STRING_MOST) && self.next_right(n, e)
+    }
+
+    // A date interval: its ends.
+    #[tactic(auto, using(crate::proofs::KindSteps::kind_steps, crate::proofs::Chains::chain_steps))]
+    fn interval_right(self, n: RecordNumber, e: Entry) -> bool
+        requires { e.kind ≡ 7 }
+        ensures { result ≡ fields_kept (image_of self.entry.bytes.now) n.0 (record_of e) }
+    {
+        dates_right(e.a, e.b) && self.next_right(n, e)
+    }
+
+    // The fields are as the kind asks. The kinds are told apart three at a time, so that this compiles to comparisons: a table of jumps costs more.
+    #[tactic(auto, using(crate::proofs::KindSteps::kind_steps))]
+    fn fields_right(self, n: RecordNumber, e: Entry) -> bool
+        ensures { result ≡ fields_kept (image_of self.entry.bytes.now) n.0 (record_of e) }
+    {
+        let kind = e.kind;
+        match kind {
+            0 => unused(e),
+            1 => self.object_right(n, e),
+            2 => self.attribute_right(n, e),
+            3..=5 => match kind {
+                0..=3 => unused(e),
+                4 => self.integer_right(n, e),
+                5..=255 => self.string_right(n, e),
+            },
+            6..=255 => match kind {
+                0..=6 => unused(e),
+                7 => self.interval_right(n, e),
+                8..=255 => unused(e),
+            },
+        }
+    }
+
+    // The record keeps the rules of its kind.
+    #[tactic(auto, using(crate::proofs::KindSteps::kind_steps, crate::proofs::Chains::chain_steps))]
+    pub fn rules_kept(self, n: RecordNumber, e: Entry) -> bool
+        ensures { result ≡ (obeys (image_of self.entry.bytes.now) n.0 (record_of e) && clean (record_of e)) }
+    {
+        self.fields_right(n, e) && flag_right(e.kind, e.flag)
+    }
 }

@@ -1,7 +1,7 @@
 -- The ways out of a merge, and what each answers. Assumes nothing.
 use mathlib.Core.Path.{◌≡◌, sym, ap, ◌∙◌}
 use mathlib.Core.Bool.{Bool}
-use Rattle.std.specs.Prelude.{Option, None, Some, option_map as map}
+use Rattle.std.specs.Prelude.{None, option_map as map}
 use mathlib.Core.List.{List, ◌++◌}
 use Prim.Native.Nat.{ℕ, ◌+◌, ◌-◌, ◌≤◌, ◌<◌}
 use native.Mathlib.Omega.{arith}
@@ -9,9 +9,8 @@ use lib.ListN.{length, drop}
 use lib.Seq.{sets}
 use borrow.Author.Tests.{lt-ltb, le-ltb}
 use Rattle.refusals.specs.Limits.{record_limit, pool_limit}
-use Rattle.refusals.specs.Outcomes.{Outcome, refused, gave, Answered, answered, write}
+use Rattle.refusals.specs.Outcomes.{refused, gave, Answered, answered, write}
 use Rattle.refusals.proofs.Outcomes.{front_stored}
-use Rattle.refusals.specs.declared.Refusal.{Refusal}
 use Rattle.refusals.specs.declared.Cause.TheVariants.{TooManyRecords, PoolTooLarge, OutputTooShort}
 use Rattle.table.specs.Records.{count, image_of, bytes_of}
 use Rattle.table.specs.Check.{table_fault}

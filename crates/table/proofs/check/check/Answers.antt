@@ -3,5 +3,5 @@ use Rattle.table.proofs.CheckSteps.{check_steps}
 use borrow.Author.Rules.{rules}
 use Rattle.table.proofs.check.check.Goals as goal
 
-pub check_records-requires : goal.check_records-requires
-check_records-requires c = search (check_steps, rules)
+pub invariant_of-check_records : goal.invariant_of-check_records
+invariant_of-check_records c = record { opened = search (check_steps, rules) }

@@ -3,4 +3,4 @@ use Rattle.table.proofs.CheckSteps.{Reached}
 use Rattle.table.proofs.check.check_records.Given as goal
 
 abbrev pub invariant-loop-n : goal.invariant-loop-n
-invariant-loop-n l = Reached l.table l.frame l.n
+invariant-loop-n l = Reached l.table.bytes.now l.table.frame l.n
