@@ -62,11 +62,13 @@ pub fn dk_merge(
         out.new }
 {
     match table_merge::merge(first, second, little, out) {
-        Ok(Merged {
-            length,
-            records,
-            pool,
-        }) => {
+        Ok(
+            Merged {
+                length,
+                records,
+                pool,
+            },
+        ) => {
             *place = length as u64;
             *record_shift = records.0;
             *pool_shift = pool.0;

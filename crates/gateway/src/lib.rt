@@ -43,7 +43,12 @@ pub fn check(table: &[u8]) -> Result<(), Refusal>
 }
 
 // Merges two tables into one whose numbers are in the order asked: demands 1 and 3.
-pub fn merge(first: &[u8], second: &[u8], little: bool, out: &mut [u8]) -> Result<Merged, MergeRefusal>
+pub fn merge(
+    first: &[u8],
+    second: &[u8],
+    little: bool,
+    out: &mut [u8],
+) -> Result<Merged, MergeRefusal>
     ensures answer_is { AnswerIs merge_told
         (merge_answer (request first.now second.now little) out.old)
         (merge_numbers result) out.new }
