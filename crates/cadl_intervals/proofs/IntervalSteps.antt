@@ -1,7 +1,7 @@
 -- What a step of the readers of literals and intervals shows: a law for each way out. Assumes nothing.
 use mathlib.Core.Path.{◌≡◌, refl, sym, ap, ◌∙◌}
-use mathlib.Core.Bool.{Bool, true, false, cond, not, ◌||◌}
-use Rattle.std.specs.Prelude.{Option, None, Some}
+use mathlib.Core.Bool.{Bool, true, false, cond, ◌||◌}
+use Rattle.std.specs.Prelude.{None, Some}
 use Rattle.std.specs.declared.result.Result.{Result}
 use Rattle.std.specs.declared.result.Result.TheVariants.{Ok, Err}
 use mathlib.Core.List.{List}
@@ -9,7 +9,7 @@ use Prim.Native.Nat.{ℕ, ◌+◌, ◌≤◌}
 use native.Mathlib.Omega.{arith}
 use lib.Dec.{eqb}
 use lib.ListN.{length}
-use borrow.Author.Tests.{eq-eqb, ne_eqb, eqb-true, not-true, not-false}
+use borrow.Author.Tests.{eq-eqb, ne_eqb, eqb-true}
 use Rattle.lexis.specs.Runs.{part}
 use Rattle.lexis.specs.Spelling.{bar, dots, less, greater, at_most, at_least, plus_minus}
 use Rattle.lexis.specs.Tokens.{token_at, integer, date}
@@ -29,10 +29,8 @@ use Rattle.refusals.proofs.Parses.{ordered_holds}
 use Rattle.cadl_intervals.specs.Intervals.{kind_by, least, most, after, literal_value, ends, empty, closed}
 use Rattle.cadl_intervals.specs.Intervals as text
 use Rattle.cadl_intervals.specs.Clauses.Told.{literal, up_to, above, spread, from, with_literal, between, interval}
-use Rattle.cadl_intervals.specs.Clauses.Answers.{literal_reading, LiteralPast, LiteralIs, value_of, ends_of, ends_reading, HasAfter, ends_by, opens_ends, At, shut, interval_reading, IntervalPast, IntervalIs, NotEmpty}
+use Rattle.cadl_intervals.specs.Clauses.Answers.{LiteralIs, value_of, ends_of, ends_reading, ends_by, opens_ends, At, shut, interval_reading, IntervalPast, IntervalIs, NotEmpty}
 use Rattle.cadl_intervals.specs.declared.literals.Literal.{Literal}
-use Rattle.cadl_intervals.specs.declared.ends.High.{High}
-use Rattle.cadl_intervals.specs.declared.ends.High.TheVariants as high
 use Rattle.cadl_intervals.specs.declared.ends.Ends.{Ends}
 use Rattle.cadl_intervals.specs.declared.ends.Interval.{Interval}
 use Rattle.cadl_intervals.proofs.Pairs.{value_read}

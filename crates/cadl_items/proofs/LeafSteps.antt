@@ -1,29 +1,29 @@
 -- What a step of the readers of leaves shows: a law for each way out. Assumes nothing.
-use mathlib.Core.Path.{◌≡◌, refl, sym, ap, ◌∙◌}
-use mathlib.Core.Bool.{Bool, true, false, cond, not}
+use mathlib.Core.Path.{◌≡◌, refl, sym}
+use mathlib.Core.Bool.{Bool, true, false, cond}
 use mathlib.Core.List.{List, []}
 use Prim.Native.Nat.{ℕ, ◌-◌, ◌≤◌, ◌<◌}
 use native.Mathlib.Omega.{arith}
 use lib.Dec.{eqb, leb}
-use borrow.Author.Tests.{eq-eqb, ne_eqb, not-true, not-false, le-leb, leb-true}
+use borrow.Author.Tests.{eq-eqb, ne_eqb, le-leb, leb-true}
 use Rattle.lexis.specs.Bytes.{within}
 use Rattle.lexis.specs.Spelling.{bar, comma, true_word, false_word}
 use Rattle.lexis.specs.Tokens.{token_at, content_token_at, integer, date, string}
 use Rattle.lexis.specs.Clauses.Answers.{TokenIs}
 use Rattle.lexis.specs.declared.Token.{Token}
 use Rattle.refusals.specs.Limits.{item_limit, record_limit}
-use Rattle.refusals.specs.Reading.{Reading, refused, got, refuse, read_unless}
+use Rattle.refusals.specs.Reading.{got, refuse, read_unless}
 use Rattle.refusals.specs.Refusals.{refusal}
 use Rattle.refusals.specs.Expecting.{syntax_cause}
 use Rattle.refusals.specs.declared.Cause.TheVariants.{TooManyRecords, Overlap}
 use Rattle.refusals.specs.declared.Refusal.{Refusal}
 use Rattle.refusals.proofs.Readings.{Holds}
-use Rattle.meaning.specs.Constraints.{Leaf, single}
+use Rattle.meaning.specs.Constraints.{single}
 use Rattle.cadl_intervals.specs.Intervals.{undecided}
-use Rattle.cadl_items.specs.Clauses.Told.{ranges, strings, boolean_list, leaf}
+use Rattle.cadl_items.specs.Clauses.Told.{leaf}
 use Rattle.cadl_items.specs.Leaves.{is_boolean, boolean_flag}
 use Rattle.cadl_items.specs.Clauses.Answers.{range_at, text_at, items_from, single_of, leaf_reading, LeafRoom, LeafPast, LeafIs}
-use Rattle.cadl_items.specs.Clauses.Items.{ranges_reading, RangesPast, RangesIs, ListRoom, strings_reading, StringsPast, StringsIs, OneRecord, second_by, booleans_by, EveryIs, OneIs, pattern, single_leaf, ranges_leaf, string_leaf}
+use Rattle.cadl_items.specs.Clauses.Items.{RangesIs, ListRoom, StringsIs, OneRecord, second_by, booleans_by, EveryIs, OneIs, pattern, single_leaf, ranges_leaf, string_leaf}
 use Rattle.std.specs.declared.result.Result.{Result}
 use Rattle.std.specs.declared.result.Result.TheVariants.{Ok, Err}
 use Rattle.cadl_items.specs.declared.ranges.Ranges as declared_ranges

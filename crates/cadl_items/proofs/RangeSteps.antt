@@ -1,12 +1,12 @@
 -- What a step of the readers of integer and date items shows: a law for each way out. Assumes nothing.
-use mathlib.Core.Path.{◌≡◌, refl, sym, ap, ◌∙◌}
+use mathlib.Core.Path.{◌≡◌, refl, sym, ◌∙◌}
 use mathlib.Core.Bool.{Bool, true, false, not, ◌&&◌, ◌||◌}
 use mathlib.Core.List.{List, [], ◌∷◌, ◌++◌, append_assoc}
 use Prim.Native.Nat.{ℕ, zero, suc, ◌+◌, ◌*◌, ◌-◌, ◌≤◌, ◌<◌}
 use native.Mathlib.Omega.{arith}
-use lib.Dec.{eqb, leb}
+use lib.Dec.{eqb}
 use lib.ListN.{length}
-use borrow.Author.Tests.{eq-eqb, ne_eqb, eqb-true, eqb-false, not-true, not-false, lt-leb, le-leb}
+use borrow.Author.Tests.{eq-eqb, ne_eqb, eqb-true, eqb-false}
 use Rattle.lexis.specs.Spelling.{bar, comma}
 use Rattle.lexis.specs.Tokens.{token_at, integer, date}
 use Rattle.lexis.specs.Clauses.Answers.{TokenIs}
@@ -22,14 +22,12 @@ use Rattle.refusals.proofs.Readings.{Holds}
 use Rattle.refusals.proofs.Parses.{ordered_holds}
 use Rattle.meaning.specs.Constraints.{Range}
 use Rattle.cadl_intervals.specs.Intervals.{undecided}
-use Rattle.cadl_intervals.specs.Clauses.Told.{interval}
 use Rattle.cadl_items.specs.Ranges.{Start, meet, overlaps, Ranges, range}
 use Rattle.cadl_items.specs.Clauses.Told.{start, item, with_first, ranges}
 use Rattle.cadl_items.specs.Clauses.Spans.{with_item, first_of, second_of, latest}
 use Rattle.cadl_items.specs.Clauses.Answers.{pair_at, range_at, items_from}
-use Rattle.cadl_intervals.specs.Clauses.Answers.{LiteralIs, Asked, At, shut, interval_reading, IntervalPast, IntervalIs}
-use Rattle.cadl_items.specs.Clauses.Items.{start_of, start_reading, Before, StartIs, roomy, pairs_of, range_reading, kept_range, ItemRoom, KeepRoom, RangePast, Kept, RangeIs, RangesIs, ListRoom}
-use Rattle.std.specs.Prelude.{Option, None, Some}
+use Rattle.cadl_intervals.specs.Clauses.Answers.{LiteralIs, Asked, At, shut, IntervalIs}
+use Rattle.cadl_items.specs.Clauses.Items.{start_of, start_reading, Before, StartIs, roomy, pairs_of, range_reading, kept_range, ItemRoom, KeepRoom, Kept, RangeIs, RangesIs, ListRoom}
 use Rattle.std.specs.declared.result.Result.{Result}
 use Rattle.std.specs.declared.result.Result.TheVariants.{Ok, Err}
 use Rattle.cadl_intervals.specs.declared.literals.Literal.{Literal}

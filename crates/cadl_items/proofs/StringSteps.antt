@@ -28,7 +28,7 @@ use Rattle.meaning.specs.Constraints.{Text}
 use Rattle.cadl_items.specs.Clauses.Told.{start_string, with_text, strings}
 use Rattle.cadl_items.specs.Clauses.Spans.{with_item, first_of, second_of, span_at, latest, earlier, Within, SpansIn}
 use Rattle.cadl_items.specs.Clauses.Answers.{text_at, items_from, LeafRoom}
-use Rattle.cadl_items.specs.Clauses.Items.{Before, roomy, string_reading, kept_string, StringStartPast, StringStartIs, StringRoom, KeepString, StringKept, Kept, StringIs, StringsIs}
+use Rattle.cadl_items.specs.Clauses.Items.{Before, roomy, string_reading, kept_string, StringStartIs, StringRoom, KeepString, StringKept, Kept, StringIs, StringsIs}
 use Rattle.cadl_items.specs.declared.strings.StringEnd.{StringEnd}
 use Rattle.cadl_items.specs.declared.strings.StringEnd.TheVariants as string_end
 use Rattle.cadl_items.specs.declared.strings.Strings.{Strings}

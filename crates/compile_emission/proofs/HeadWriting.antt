@@ -24,7 +24,7 @@ use Rattle.table.specs.Records.{Record, record_size, encode, make}
 use Rattle.table.specs.Clauses.Answers.{record_of}
 use Rattle.table.specs.declared.records.Entry.{Entry}
 use Rattle.compile_flatten.specs.Flatten.{place_for}
-use Rattle.compile_emission.specs.Clauses.Answers.{PartFits, PartPut, pooled_place, link_below, spot, Room, first_link, object_row, typed_row, ObjectPut, NameKept, attribute_row, named_row, closed_attribute, CloseIs, CloseRoom}
+use Rattle.compile_emission.specs.Clauses.Answers.{PartPut, pooled_place, link_below, spot, Room, first_link, object_row, typed_row, ObjectPut, NameKept, attribute_row, named_row, closed_attribute, CloseIs, CloseRoom}
 use Rattle.compile_emission.specs.declared.spots.Spot.{Spot}
 use Rattle.compile_emission.specs.declared.spots.AttributeEnd.TheVariants.{Last, More}
 use Rattle.std.specs.declared.result.Result.TheVariants.{Ok, Err}

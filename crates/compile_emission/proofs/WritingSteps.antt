@@ -27,7 +27,7 @@ use Rattle.table.specs.Clauses.Answers.{plain_entry, record_of}
 use Rattle.table.specs.declared.records.Entry.{Entry}
 use Rattle.table.proofs.RecordLaws.{length-encode}
 use Rattle.compile_flatten.specs.Flatten.{place_for, range_records, string_records}
-use Rattle.compile_emission.specs.Clauses.Answers.{CopyFits, PartFits, PartPut, pooled_place, link_below, spot, Puts, ListWritingRoom, TextFits, TextPut, TextsRoom, TextsPut}
+use Rattle.compile_emission.specs.Clauses.Answers.{CopyFits, PartPut, pooled_place, link_below, spot, Puts, ListWritingRoom, TextFits, TextPut, TextsRoom, TextsPut}
 use Rattle.compile_emission.specs.declared.spots.Spot.{Spot}
 use Rattle.compile_flatten.proofs.FlattenLaws.{strings-length}
 

@@ -1,6 +1,5 @@
 -- What the functions under the reader of leaves promise of their answers: each answer as the reading of the definitions, and bounds. Assumes nothing.
-use Rattle.std.specs.Prelude.{◌≡◌, Bool, cond, is_some, unwrap_or, List, [], ◌∷◌, ℕ, ◌+◌, ◌*◌, ◌-◌, ◌≤◌, ◌<◌, eqb, length, get_or}
-use Rattle.std.specs.Prelude.{Option, None, Some}
+use Rattle.std.specs.Prelude.{◌≡◌, cond, is_some, unwrap_or, List, [], ◌∷◌, ℕ, ◌+◌, ◌*◌, ◌-◌, ◌≤◌, ◌<◌, eqb, length, get_or}
 use Rattle.std.specs.declared.result.Result.{Result}
 use Rattle.std.specs.declared.result.Result.TheVariants.{Ok, Err}
 use Rattle.lexis.specs.Runs.{listed}
