@@ -1,3 +1,2 @@
 pub mod Examples
-mod InterfaceSteps
 pub mod InterfaceTable
