@@ -49,6 +49,7 @@ pub enum Denial {
 impl From<Refusal> for Denial {
     ghost from_gives = { λ refusal denial. denial ≡ Refused refusal };
 
+    // A refusal of the table, the root or the text.
     fn from(refusal: Refusal) -> Denial {
         Denial::Refused(refusal)
     }
@@ -57,6 +58,7 @@ impl From<Refusal> for Denial {
 impl From<Failure> for Denial {
     ghost from_gives = { λ failure denial. denial ≡ Failed failure };
 
+    // A failure of the text, which was read and judged.
     fn from(failure: Failure) -> Denial {
         Denial::Failed(failure)
     }

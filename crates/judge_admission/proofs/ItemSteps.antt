@@ -258,6 +258,10 @@ module _ (records pool w : List ℕ) (first : ℕ) (e : Entry) (q : record_of e 
         → (e.kind ≡ 9 → ⊥) → unsuited ≡ finding_under (record_leaf records pool first) s w
     word_not h3 h4 h6 h7 h8 h9 = shape_read (shape_of e.kind) unsuited refl (rw y (word_none records pool w first e.kind h3 h4 h6 h7 h8 h9))
 
+    pub word-string : e.kind ≡ 5 → unsuited ≡ finding_under (record_leaf records pool first) s w
+    unfolding shape_of word_under
+    word-string h = shape_read text unsuited (ap shape_of h) (rw y refl)
+
     pub word-integer : (f : Finding) → e.kind ≡ 4
         → f ≡ word_under (ranges integers (ranges_from integers records first)) w
         → f ≡ finding_under (record_leaf records pool first) s w
@@ -401,4 +405,4 @@ module _ (records pool : List ℕ) (first : ℕ) (e : Entry) (i : ItemsGood reco
   unfolding shape_of
   chained_dates h = chained_by 7 refl h
 
-pub ruleset kind_steps = (string_not, string_kind, word_not, word-integer, word-date, word_boolean, word-date_pattern, word_time_pattern, word_duration_pattern)
+pub ruleset kind_steps = (string_not, string_kind, word_not, word-string, word-integer, word-date, word_boolean, word-date_pattern, word_time_pattern, word_duration_pattern)

@@ -12,10 +12,7 @@ ghost use Rattle.judge_admission.specs.Clauses.Items.{name_of, range_sort, recor
 ghost use Rattle.judge_admission.specs.Clauses.Answers.{finding_of, finding_under, is_admitted, item_admits};
 
 use lexis::runs::same_bytes;
-use table::layout::{
-    BOOLEAN_KIND, DATE_KIND, DATE_PATTERN_KIND, DURATION_PATTERN_KIND, INTEGER_KIND, KIND_AT,
-    STRING_KIND, TIME_PATTERN_KIND,
-};
+use table::layout::{KIND_AT, STRING_KIND};
 use table::records::{Entry, RecordNumber, read};
 use values::dates::date_of;
 use values::durations::duration_of;
@@ -229,9 +226,11 @@ pub fn item_admits(pool: &[u8], e: Entry, value: &[u8], is_string: bool) -> bool
         return e.kind == STRING_KIND && same_bytes(value, name_of(pool, e));
     }
     match e.kind {
-        INTEGER_KIND => integer_in(e, value),
-        DATE_KIND => date_in(e, value),
-        _ => false,
+        0..=3 => false,
+        4 => integer_in(e, value),
+        5..=6 => false,
+        7 => date_in(e, value),
+        8..=255 => false,
     }
 }
 
@@ -251,17 +250,20 @@ pub fn admit(
     let e = entry_at(records, first);
     if is_string {
         return match e.kind {
-            STRING_KIND => tried(is_some(records, pool, first, value)),
-            _ => Admission::Unsuited,
+            0..=4 => Admission::Unsuited,
+            5 => tried(is_some(records, pool, first, value)),
+            6..=255 => Admission::Unsuited,
         };
     }
     match e.kind {
-        BOOLEAN_KIND => boolean_under(e.flag, value),
-        INTEGER_KIND => integer_under(records, first, value),
-        DATE_PATTERN_KIND => date_pattern_under(e.flag, value),
-        DATE_KIND => date_under(records, first, value),
-        TIME_PATTERN_KIND => time_pattern_under(e.flag, value),
-        DURATION_PATTERN_KIND => duration_pattern_under(e.flag, value),
-        _ => Admission::Unsuited,
+        0..=2 => Admission::Unsuited,
+        3 => boolean_under(e.flag, value),
+        4 => integer_under(records, first, value),
+        5 => Admission::Unsuited,
+        6 => date_pattern_under(e.flag, value),
+        7 => date_under(records, first, value),
+        8 => time_pattern_under(e.flag, value),
+        9 => duration_pattern_under(e.flag, value),
+        10..=255 => Admission::Unsuited,
     }
 }

@@ -111,12 +111,17 @@ fn functions_of(file: &str, text: &str) -> Vec<Function> {
     let lines = lines_of(text);
     let definitions = Definitions::used(text);
     let mut owner: Option<Owner> = None;
+    // the ghost members of the block, which its functions promise to compute
+    let mut ghosts = String::new();
     let mut functions = Vec::new();
     for (index, &(_, line)) in lines.iter().enumerate() {
         if let Some(opened) = owner_of(line) {
             owner = Some(opened);
+            ghosts.clear();
         } else if line == "}" {
             owner = None;
+        } else if let Some((_, member)) = line.strip_prefix("    ghost ").and_then(|it| it.split_once('=')) {
+            ghosts.push_str(&format!("ensures {}\n", member.trim()));
         }
         let Some((depth, public, name)) = opening(line) else { continue };
         let Some(body) = body_of(&lines[index..], depth) else { continue };
@@ -129,7 +134,13 @@ fn functions_of(file: &str, text: &str) -> Vec<Function> {
             public: public || inside.is_some_and(|it| it.is_trait),
             comment: comment_before(&lines[..index]),
             file: file.to_string(),
-            cited: cited_in(&text[lines[index].0..body.start], &definitions),
+            cited: cited_in(
+                &match inside {
+                    Some(it) if it.is_trait => ghosts.clone() + &text[lines[index].0..body.start],
+                    _ => text[lines[index].0..body.start].to_string(),
+                },
+                &definitions,
+            ),
             names: names_of(&text[body.clone()]),
             lines: index + 1 - attributes_before(&lines[..index]).count()
                 ..=index + text[lines[index].0..body.end].lines().count(),
