@@ -1,4 +1,4 @@
-// Records, bytes and names of a constraint text, put into scratches that the caller lends. The definitions stand in specs/.
+// Records, bytes and names of a constraint text, put into buffers that the caller lends. The definitions stand in specs/.
 #![tactic(auto)]
 
 pub mod heads;
