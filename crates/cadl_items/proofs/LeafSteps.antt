@@ -22,8 +22,9 @@ use Rattle.meaning.specs.Constraints.{single}
 use Rattle.cadl_intervals.specs.Intervals.{undecided}
 use Rattle.cadl_items.specs.Clauses.Told.{leaf}
 use Rattle.cadl_items.specs.Leaves.{is_boolean, boolean_flag}
+use Rattle.cadl_items.specs.Clauses.Told.{boolean_list}
 use Rattle.cadl_items.specs.Clauses.Answers.{range_at, text_at, items_from, single_of, leaf_reading, LeafRoom, LeafPast, LeafIs}
-use Rattle.cadl_items.specs.Clauses.Items.{RangesIs, ListRoom, StringsIs, OneRecord, second_by, booleans_by, EveryIs, OneIs, pattern, single_leaf, ranges_leaf, string_leaf}
+use Rattle.cadl_items.specs.Clauses.Items.{record_left, RangesIs, ListRoom, StringsIs, OneRecord, second_by, booleans_by, EveryIs, OneIs, pattern, single_leaf, ranges_leaf, string_leaf}
 use Rattle.std.specs.declared.result.Result.{Result}
 use Rattle.std.specs.declared.result.Result.TheVariants.{Ok, Err}
 use Rattle.cadl_items.specs.declared.ranges.Ranges as declared_ranges
@@ -33,6 +34,7 @@ use Rattle.cadl_items.specs.declared.leaves.SingleSort.TheVariants as single_sor
 use Rattle.cadl_items.specs.declared.leaves.RangeSort.TheVariants as range_sort
 use Rattle.cadl_items.specs.declared.leaves.Leaf as declared_leaf
 use Rattle.cadl_items.specs.declared.leaves.Leaf.TheVariants as leaf_read
+use Rattle.cadl_items.proofs.ItemLaws.{no_record, record_there}
 use Rattle.cadl_items.proofs.LeafParts.{second_is, boolean_is, leaf_is}
 use Rattle.cadl_items.proofs.RangeReading.{Listed, ranges_holds}
 use Rattle.cadl_items.proofs.LeafReading.{Texts, strings_holds, leaf_holds}
@@ -92,14 +94,16 @@ within_false low high n f = by (leb low n) (leb n high) refl refl
 -- a leaf of one record
 module _ (s : List ℕ) (number : ℕ) (t : Token) where
   module _ (k : true ≡ is_boolean t) where
-    pub single_full : number ≡ record_limit → OneIs s number (single_leaf s number t) (Err (refusal TooManyRecords t.start))
+    pub single_full : (x : Refusal) → Err x ≡ record_left number t.start → OneIs s number (single_leaf s number t) (Err x)
     unfolding single_leaf
-    single_full n = record { is = λ scratch. rw (← k, eq-eqb number record_limit n); one = tt }
+    single_full x e = record { is = λ scratch. rw (← k) (no_record number t.start x e (boolean_list s number t)); one = tt }
 
-    pub single_boolean : (number ≡ record_limit → ⊥) → (r : Result declared_leaf.Leaf Refusal) → EveryIs s (booleans_by s t) r
+    pub single_boolean : (u : Unit {0}) → Ok u ≡ record_left number t.start → (r : Result declared_leaf.Leaf Refusal) → EveryIs s (booleans_by s t) r
         → OneIs s number (single_leaf s number t) r
     unfolding single_leaf booleans_by
-    single_boolean n r e = record { is = λ scratch. rw (← k, ne_eqb number record_limit n) (e.is number scratch); one = e.one }
+    single_boolean u f r e =
+        let n = record_there number t.start u f in
+        record { is = λ scratch. rw (← k, ne_eqb number record_limit n) (e.is number scratch); one = e.one }
 
   module _ (k : false ≡ is_boolean t) where
     pub single_date : 31 ≤ t.sort → t.sort < 36 → (r : Result declared_leaf.Leaf Refusal)

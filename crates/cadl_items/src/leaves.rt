@@ -8,6 +8,7 @@ ghost use Rattle.cadl_items.specs.Clauses.Answers.{LeafRoom, LeafIs};
 ghost use Rattle.cadl_items.specs.Clauses.Items.{ListRoom, second_by, booleans_by, EveryIs, OneIs, pattern, single_leaf, ranges_leaf, string_leaf};
 
 use crate::ranges::read_ranges;
+use crate::room::record_left;
 use crate::spans::SCRATCH_ROOM;
 use crate::strings::read_strings;
 use lexis::tokens::token_at;
@@ -15,7 +16,6 @@ use lexis::{
     BAR, COMMA, DATE, DATE_PATTERN, DURATION_PATTERN, FALSE_WORD, INTEGER, STRING, TIME_PATTERN,
     TRUE_WORD, Token,
 };
-use refusals::limits::RECORD_LIMIT;
 use refusals::steps::syntax_fault;
 use refusals::{Cause, Refusal};
 
@@ -127,9 +127,7 @@ fn boolean_list(s: &[u8], t: Token) -> Result<Leaf, Refusal>
 fn pattern_leaf(number: usize, t: Token, sort: SingleSort, flag: u8) -> Result<Leaf, Refusal>
     ensures { result ≡ pattern number t sort flag }
 {
-    if number == RECORD_LIMIT {
-        return Err(Cause::TooManyRecords.at(t.start));
-    }
+    record_left(number, t.start)?;
     Ok(Leaf::Single {
         sort,
         flag,
@@ -144,9 +142,7 @@ fn single_leaf(s: &[u8], number: usize, t: Token) -> Result<Leaf, Refusal>
     ensures { OneIs s.now number (single_leaf s.now number t) result }
 {
     if is_boolean(t) {
-        if number == RECORD_LIMIT {
-            return Err(Cause::TooManyRecords.at(t.start));
-        }
+        record_left(number, t.start)?;
         return boolean_list(s, t);
     }
     let sort = t.sort;
