@@ -10,7 +10,7 @@ ghost use Rattle.cadl_items.specs.Clauses.Answers.{LeafRoom};
 ghost use Rattle.cadl_items.specs.Clauses.Items.{Before, StringStartIs, kept_string, StringRoom, KeepString, StringIs, StringsIs};
 
 use crate::room::room_left;
-use crate::spans::{SCRATCH_ROOM, narrow, put, repeated};
+use crate::spans::{SCRATCH_ROOM, put, repeated};
 use lexis::tokens::token_at;
 use lexis::{COMMA, STRING, Token};
 use refusals::limits::STRING_LIMIT;
@@ -78,7 +78,7 @@ fn keep_string(
     if repeated(s, scratch, 0, count, &s[start..stop]) {
         return Err(Cause::Overlap.at(place));
     }
-    put(scratch, count, narrow(start), narrow(stop));
+    put(scratch, count, start as u32, stop as u32);
     let u = token_at(s, t.end);
     if u.sort == COMMA {
         return Ok(StringEnd::More { next: u.end });
