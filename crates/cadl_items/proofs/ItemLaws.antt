@@ -6,14 +6,19 @@ use Prim.Native.Nat.{ℕ, zero, suc, ◌+◌, ◌*◌, ◌<◌}
 use native.Mathlib.Omega.{arith}
 use native.Mathlib.Numerals.{add-one}
 use lib.Dec.{eqb}
+use borrow.Author.Tests.{ne_eqb, eqb-false}
 use lib.ListN.{length, set, length-set}
 use lib.Seq.{get_or-set_same, get_or-set_other}
 use Rattle.refusals.specs.Limits.{item_limit, record_limit}
 use Rattle.refusals.specs.Reading.{Reading, refused, got, refuse, read_then, read_unless}
+use Rattle.refusals.specs.Refusals.{refusal}
 use Rattle.refusals.specs.declared.Cause.TheVariants.{TooManyItems, TooManyRecords}
+use Rattle.refusals.specs.declared.Refusal.{Refusal}
+use Rattle.std.specs.declared.result.Result.{Result}
+use Rattle.std.specs.declared.result.Result.TheVariants.{Ok, Err}
 use Rattle.cadl_items.specs.Clauses.Spans.{with_item, first_of, second_of, latest}
 use Rattle.cadl_items.specs.Clauses.Answers.{items_from}
-use Rattle.cadl_items.specs.Clauses.Items.{Kept, roomy}
+use Rattle.cadl_items.specs.Clauses.Items.{Kept, roomy, record_left, room_left}
 
 -- a store puts both numbers of an item, and no item before it changes
 module _ (scratch : List ℕ) (i a b : ℕ) (room : 2 * i + 1 < length scratch) where
@@ -98,3 +103,53 @@ module _ {A : Type 0} where
             ≡ cond b (refuse TooManyRecords (place x)) (go x p)
         by true = refl
         by false = refl
+
+  -- the answer about the room, as the definitions' reading of an item's first token
+  module _ (place : A → ℕ) (number count : ℕ) (x : A) (p : ℕ) where
+    pub roomy_full : (y : Refusal) → Err y ≡ room_left number count (place x) → refused y ≡ roomy place number count (got x p)
+    unfolding roomy
+    roomy_full y e = by (eqb count item_limit) (eqb number record_limit) e
+      where
+        by : (a b : Bool)
+            → ◌≡◌ {A = Result (Unit {0}) Refusal} (Err y) (cond a (Err (refusal TooManyItems (place x))) (cond b (Err (refusal TooManyRecords (place x))) (Ok tt)))
+            → refused y ≡ read_unless a TooManyItems (place x) (read_unless b TooManyRecords (place x) (got x p))
+        by true b e = cc
+        by false true e = cc
+        by false false e = let z : ◌≡◌ {A = ℕ} 0 1 = cc in absurd (omega arith)
+
+    pub roomy_there : (count ≡ item_limit → ⊥) → (number ≡ record_limit → ⊥) → got x p ≡ roomy place number count (got x p)
+    unfolding roomy
+    roomy_there n k = rw (ne_eqb count item_limit n, ne_eqb number record_limit k)
+
+-- room that is left for one more record
+module _ (number place : ℕ) where
+  pub no_record : {B : Type 0} (y : Refusal) → Err y ≡ record_left number place → (r : Reading B)
+      → refused y ≡ read_unless (eqb number record_limit) TooManyRecords place r
+  no_record y e r = by (eqb number record_limit) e
+    where
+      by : (b : Bool) → ◌≡◌ {A = Result (Unit {0}) Refusal} (Err y) (cond b (Err (refusal TooManyRecords place)) (Ok tt))
+          → refused y ≡ read_unless b TooManyRecords place r
+      by true e = cc
+      by false e = let z : ◌≡◌ {A = ℕ} 0 1 = cc in absurd (omega arith)
+
+  pub record_there : (u : Unit {0}) → Ok u ≡ record_left number place → number ≡ record_limit → ⊥
+  record_there u e = by (eqb number record_limit) refl e
+    where
+      by : (b : Bool) → eqb number record_limit ≡ b
+          → ◌≡◌ {A = Result (Unit {0}) Refusal} (Ok u) (cond b (Err (refusal TooManyRecords place)) (Ok tt)) → number ≡ record_limit → ⊥
+      by true k e = let z : ◌≡◌ {A = ℕ} 0 1 = cc in absurd (omega arith)
+      by false k e = eqb-false number record_limit k
+
+-- and for one more item
+module _ (number count place : ℕ) (u : Unit {0}) (e : Ok u ≡ room_left number count place) where
+  left : (b : Bool) → eqb count item_limit ≡ b
+      → ◌≡◌ {A = Result (Unit {0}) Refusal} (Ok u) (cond b (Err (refusal TooManyItems place)) (record_left number place))
+      → (count ≡ item_limit → ⊥) × (number ≡ record_limit → ⊥)
+  left true k e = let z : ◌≡◌ {A = ℕ} 0 1 = cc in absurd (omega arith)
+  left false k e = (eqb-false count item_limit k, record_there number place u e)
+
+  pub item_left : count ≡ item_limit → ⊥
+  item_left = (left (eqb count item_limit) refl e).0
+
+  pub number_left : number ≡ record_limit → ⊥
+  number_left = (left (eqb count item_limit) refl e).1

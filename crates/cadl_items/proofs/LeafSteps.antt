@@ -2,6 +2,7 @@
 use mathlib.Core.Path.{◌≡◌, refl, sym}
 use mathlib.Core.Bool.{Bool, true, false, cond}
 use mathlib.Core.List.{List, []}
+use mathlib.Core.Logic.{◌⊎◌, inl, inr}
 use Prim.Native.Nat.{ℕ, ◌-◌, ◌≤◌, ◌<◌}
 use native.Mathlib.Omega.{arith}
 use lib.Dec.{eqb, leb}
@@ -18,21 +19,23 @@ use Rattle.refusals.specs.Expecting.{syntax_cause}
 use Rattle.refusals.specs.declared.Cause.TheVariants.{TooManyRecords, Overlap}
 use Rattle.refusals.specs.declared.Refusal.{Refusal}
 use Rattle.refusals.proofs.Readings.{Holds}
-use Rattle.meaning.specs.Constraints.{single}
+use Rattle.meaning.specs.Constraints.{integers, dates, single}
 use Rattle.cadl_intervals.specs.Intervals.{undecided}
 use Rattle.cadl_items.specs.Clauses.Told.{leaf}
 use Rattle.cadl_items.specs.Leaves.{is_boolean, boolean_flag}
-use Rattle.cadl_items.specs.Clauses.Answers.{range_at, text_at, items_from, single_of, leaf_reading, LeafRoom, LeafPast, LeafIs}
-use Rattle.cadl_items.specs.Clauses.Items.{RangesIs, ListRoom, StringsIs, OneRecord, second_by, booleans_by, EveryIs, OneIs, pattern, single_leaf, ranges_leaf, string_leaf}
+use Rattle.cadl_items.specs.Clauses.Told.{boolean_list}
+use Rattle.cadl_items.specs.Clauses.Answers.{range_at, text_at, items_from, single_of, range_sort_of, leaf_reading, LeafRoom, LeafPast, LeafIs}
+use Rattle.cadl_items.specs.Clauses.Items.{record_left, RangesIs, StringsIs, OneRecord, second_by, booleans_by, EveryIs, OneIs, pattern, single_leaf, ranges_leaf, string_leaf}
 use Rattle.std.specs.declared.result.Result.{Result}
 use Rattle.std.specs.declared.result.Result.TheVariants.{Ok, Err}
 use Rattle.cadl_items.specs.declared.ranges.Ranges as declared_ranges
 use Rattle.cadl_items.specs.declared.strings.Strings as declared_strings
 use Rattle.cadl_items.specs.declared.leaves.SingleSort as declared
 use Rattle.cadl_items.specs.declared.leaves.SingleSort.TheVariants as single_sort
-use Rattle.cadl_items.specs.declared.leaves.RangeSort.TheVariants as range_sort
+use Rattle.cadl_items.specs.declared.leaves.RangeSort.{RangeSort}
 use Rattle.cadl_items.specs.declared.leaves.Leaf as declared_leaf
 use Rattle.cadl_items.specs.declared.leaves.Leaf.TheVariants as leaf_read
+use Rattle.cadl_items.proofs.ItemLaws.{no_record, record_there}
 use Rattle.cadl_items.proofs.LeafParts.{second_is, boolean_is, leaf_is}
 use Rattle.cadl_items.proofs.RangeReading.{Listed, ranges_holds}
 use Rattle.cadl_items.proofs.LeafReading.{Texts, strings_holds, leaf_holds}
@@ -92,14 +95,16 @@ within_false low high n f = by (leb low n) (leb n high) refl refl
 -- a leaf of one record
 module _ (s : List ℕ) (number : ℕ) (t : Token) where
   module _ (k : true ≡ is_boolean t) where
-    pub single_full : number ≡ record_limit → OneIs s number (single_leaf s number t) (Err (refusal TooManyRecords t.start))
+    pub single_full : (x : Refusal) → Err x ≡ record_left number t.start → OneIs s number (single_leaf s number t) (Err x)
     unfolding single_leaf
-    single_full n = record { is = λ scratch. rw (← k, eq-eqb number record_limit n); one = tt }
+    single_full x e = record { is = λ scratch. rw (← k) (no_record number t.start x e (boolean_list s number t)); one = tt }
 
-    pub single_boolean : (number ≡ record_limit → ⊥) → (r : Result declared_leaf.Leaf Refusal) → EveryIs s (booleans_by s t) r
+    pub single_boolean : (u : Unit {0}) → Ok u ≡ record_left number t.start → (r : Result declared_leaf.Leaf Refusal) → EveryIs s (booleans_by s t) r
         → OneIs s number (single_leaf s number t) r
     unfolding single_leaf booleans_by
-    single_boolean n r e = record { is = λ scratch. rw (← k, ne_eqb number record_limit n) (e.is number scratch); one = e.one }
+    single_boolean u f r e =
+        let n = record_there number t.start u f in
+        record { is = λ scratch. rw (← k, ne_eqb number record_limit n) (e.is number scratch); one = e.one }
 
   module _ (k : false ≡ is_boolean t) where
     pub single_date : 31 ≤ t.sort → t.sort < 36 → (r : Result declared_leaf.Leaf Refusal)
@@ -142,26 +147,18 @@ module _ (s : List ℕ) (number at : ℕ) (scratch : List ℕ) where
   unfolding ranges_leaf
   range_faulty x e = record { is = rw (← e.is); past = tt }
 
-  module _ (d : ListRoom s number at) (l : declared_ranges.Ranges) (e : RangesIs s number at scratch (Ok l)) where
+  module _ (d : LeafRoom s number at) (l : declared_ranges.Ranges) (e : RangesIs s number at scratch (Ok l)) where
     lies : Listed s undecided number at (record { kind = l.kind; items = items_from (range_at scratch) number 0 l.count }) l.next
     unfolding Holds
     lies = rw (sym e.is) at (ranges_holds s item_limit undecided number [] at (λ m. absurd (m refl)) d.inside)
 
-    pub range_dates : l.kind ≡ date
-        → LeafIs s number at (ranges_leaf s number at) scratch (Ok (leaf_read.Ranges range_sort.Dates l.count l.next))
+    pub range_there : (k : RangeSort) → range_sort_of k ≡ cond (eqb l.kind date) dates integers
+        → LeafIs s number at (ranges_leaf s number at) scratch (Ok (leaf_read.Ranges k l.count l.next))
     unfolding ranges_leaf
-    range_dates k =
+    range_there k h =
         let m = lies in
         let f = e.past in
-        record { is = rw (← e.is, eq-eqb l.kind date k); past = record { order = omega arith; inside = m.most; some = f.0; few = f.1; records = f.2 } }
-
-    pub range_integers : (l.kind ≡ date → ⊥)
-        → LeafIs s number at (ranges_leaf s number at) scratch (Ok (leaf_read.Ranges range_sort.Integers l.count l.next))
-    unfolding ranges_leaf
-    range_integers n =
-        let m = lies in
-        let f = e.past in
-        record { is = rw (← e.is, ne_eqb l.kind date n); past = record { order = omega arith; inside = m.most; some = f.0; few = f.1; records = f.2 } }
+        record { is = rw (← e.is, h); past = record { order = omega arith; inside = m.most; some = f.0; few = f.1; records = f.2 } }
 
 -- a list of strings
 module _ (s : List ℕ) (number at : ℕ) (scratch : List ℕ) where
@@ -190,7 +187,7 @@ one_past s number at scratch d (Ok (leaf_read.Strings count p)) o e = absurd o
 
 -- a leaf, by its first token
 module _ (s : List ℕ) (number at : ℕ) (t : Token) (tok : TokenIs s at (content_token_at s at) t) where
-  pub leaf_integers : t.sort ≡ integer → (scratch : List ℕ) (r : Result declared_leaf.Leaf Refusal)
+  leaf_integers : t.sort ≡ integer → (scratch : List ℕ) (r : Result declared_leaf.Leaf Refusal)
       → LeafIs s number at (ranges_leaf s number at) scratch r → LeafIs s number at (leaf s number at) scratch r
   unfolding ranges_leaf
   leaf_integers k scratch r e = record {
@@ -198,13 +195,18 @@ module _ (s : List ℕ) (number at : ℕ) (t : Token) (tok : TokenIs s at (conte
     past = e.past;
   }
 
-  pub leaf_intervals : t.sort ≡ bar → (scratch : List ℕ) (r : Result declared_leaf.Leaf Refusal)
+  leaf_intervals : t.sort ≡ bar → (scratch : List ℕ) (r : Result declared_leaf.Leaf Refusal)
       → LeafIs s number at (ranges_leaf s number at) scratch r → LeafIs s number at (leaf s number at) scratch r
   unfolding ranges_leaf
   leaf_intervals k scratch r e = record {
     is = rw (leaf_is s number at, ← tok.is, ne_eqb t.sort true_word (λ z. omega arith), ne_eqb t.sort false_word (λ z. omega arith), ne_eqb t.sort integer (λ z. omega arith), eq-eqb t.sort bar k) e.is;
     past = e.past;
   }
+
+  pub leaf_ranges : (t.sort ≡ integer) ⊎ (t.sort ≡ bar) → (scratch : List ℕ) (r : Result declared_leaf.Leaf Refusal)
+      → LeafIs s number at (ranges_leaf s number at) scratch r → LeafIs s number at (leaf s number at) scratch r
+  leaf_ranges (inl k) = leaf_integers k
+  leaf_ranges (inr k) = leaf_intervals k
 
   pub leaf_strings : t.sort ≡ string → (scratch : List ℕ) (r : Result declared_leaf.Leaf Refusal)
       → LeafIs s number at (string_leaf s number at) scratch r → LeafIs s number at (leaf s number at) scratch r

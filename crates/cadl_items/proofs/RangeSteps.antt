@@ -16,7 +16,7 @@ use Rattle.refusals.specs.Limits.{item_limit, record_limit}
 use Rattle.refusals.specs.Reading.{Reading, refused, got, read_then}
 use Rattle.refusals.specs.Refusals.{refusal}
 use Rattle.refusals.specs.Expecting.{syntax_cause}
-use Rattle.refusals.specs.declared.Cause.TheVariants.{TooManyItems, TooManyRecords, Overlap}
+use Rattle.refusals.specs.declared.Cause.TheVariants.{Overlap}
 use Rattle.refusals.specs.declared.Refusal.{Refusal}
 use Rattle.refusals.proofs.Readings.{Holds}
 use Rattle.refusals.proofs.Parses.{ordered_holds}
@@ -27,7 +27,7 @@ use Rattle.cadl_items.specs.Clauses.Told.{start, item, with_first, ranges}
 use Rattle.cadl_items.specs.Clauses.Spans.{with_item, first_of, second_of, latest}
 use Rattle.cadl_items.specs.Clauses.Answers.{pair_at, range_at, items_from}
 use Rattle.cadl_intervals.specs.Clauses.Answers.{LiteralIs, Asked, At, shut, IntervalIs}
-use Rattle.cadl_items.specs.Clauses.Items.{start_of, start_reading, Before, StartIs, roomy, pairs_of, range_reading, kept_range, ItemRoom, KeepRoom, Kept, RangeIs, RangesIs, ListRoom}
+use Rattle.cadl_items.specs.Clauses.Items.{start_of, start_reading, Before, StartIs, roomy, room_left, pairs_of, range_reading, kept_range, ItemRoom, KeepRoom, Kept, RangeIs, RangesIs, ListRoom}
 use Rattle.std.specs.declared.result.Result.{Result}
 use Rattle.std.specs.declared.result.Result.TheVariants.{Ok, Err}
 use Rattle.cadl_intervals.specs.declared.literals.Literal.{Literal}
@@ -39,7 +39,7 @@ use Rattle.cadl_items.specs.declared.ranges.Ranges as declared_ranges
 use Rattle.cadl_items.proofs.LeafParts.{start_is, ranges_none, ranges_some}
 use Rattle.cadl_items.proofs.RangeReading.{Started, start-ordered}
 use Rattle.cadl_intervals.proofs.IntervalSteps.{literal_refused, literal_got}
-use Rattle.cadl_items.proofs.ItemLaws.{item_first, item_second, item_kept, all_kept, first_kept, second_kept, latest_more, latest_same, items_last, items_same, roomy_none, roomy_some}
+use Rattle.cadl_items.proofs.ItemLaws.{item_first, item_second, item_kept, all_kept, first_kept, second_kept, latest_more, latest_same, items_last, items_same, roomy_none, roomy_some, roomy_full, roomy_there, item_left, number_left}
 
 -- an item's first token
 module _ (s : List ℕ) (kind at : ℕ) (t : Token) (tok : TokenIs s at (token_at s at) t) where
@@ -66,20 +66,16 @@ module _ (s : List ℕ) (kind number count at : ℕ) where
   room_faulty x e = record { is = rw (← e); past = tt }
 
   module _ (x : declared_start.Start) (e : got (start_of x) x.next ≡ start s kind at) where
-    pub room_items : count ≡ item_limit → StartIs s kind number count at (Err (refusal TooManyItems x.place))
-    unfolding roomy
-    room_items k = record { is = rw (← e, eq-eqb count item_limit k); past = tt }
+    pub room_full : (y : Refusal) → Err y ≡ room_left number count x.place → StartIs s kind number count at (Err y)
+    room_full y r = record { is = rw (← e) (roomy_full (λ z. z.place) number count (start_of x) x.next y r); past = tt }
 
-    module _ (n : count ≡ item_limit → ⊥) where
-      pub room_records : number ≡ record_limit → StartIs s kind number count at (Err (refusal TooManyRecords x.place))
-      unfolding roomy
-      room_records k = record { is = rw (← e, ne_eqb count item_limit n, eq-eqb number record_limit k); past = tt }
-
-      pub room_there : (number ≡ record_limit → ⊥) → Before s number count at → StartIs s kind number count at (Ok x)
-      unfolding start roomy Holds
-      room_there k b =
-          let h : Started s kind at true 0 (start_of x) x.next = rw (sym e) at (ordered_holds s _ true 0 _ (start-ordered s kind at true 0 (omega arith) b.inside)) in
-          record { is = rw (← e, ne_eqb count item_limit n, ne_eqb number record_limit k); past = (h.most, omega arith, omega arith) }
+    pub room_there : (u : Unit {0}) → Ok u ≡ room_left number count x.place → Before s number count at → StartIs s kind number count at (Ok x)
+    unfolding start Holds
+    room_there u r b =
+        let n = item_left number count x.place u r in
+        let k = number_left number count x.place u r in
+        let h : Started s kind at true 0 (start_of x) x.next = rw (sym e) at (ordered_holds s _ true 0 _ (start-ordered s kind at true 0 (omega arith) b.inside)) in
+        record { is = rw (← e) (roomy_there (λ z. z.place) number count (start_of x) x.next n k); past = (h.most, omega arith, omega arith) }
 
 -- no pair among the first n overlaps
 pub record InPairs (scratch : List ℕ) (count low high n : ℕ) : Type 0 where

@@ -19,7 +19,7 @@ use Rattle.refusals.specs.Reading.{Reading, refused, got, refuse, read_then, rea
 use Rattle.refusals.specs.Refusals.{refusal}
 use Rattle.refusals.specs.Expecting.{expect, syntax_fault}
 use Rattle.refusals.specs.Clauses.Answers.{token_reading, ExpectIs}
-use Rattle.refusals.specs.declared.Cause.TheVariants.{TooLong, TooManyItems, TooManyRecords, Overlap}
+use Rattle.refusals.specs.declared.Cause.TheVariants.{TooLong, Overlap}
 use Rattle.refusals.specs.declared.Refusal.{Refusal}
 use Rattle.std.specs.declared.result.Result.{Result}
 use Rattle.std.specs.declared.result.Result.TheVariants.{Ok, Err}
@@ -28,13 +28,13 @@ use Rattle.meaning.specs.Constraints.{Text}
 use Rattle.cadl_items.specs.Clauses.Told.{start_string, with_text, strings}
 use Rattle.cadl_items.specs.Clauses.Spans.{with_item, first_of, second_of, span_at, latest, earlier, Within, SpansIn}
 use Rattle.cadl_items.specs.Clauses.Answers.{text_at, items_from, LeafRoom}
-use Rattle.cadl_items.specs.Clauses.Items.{Before, roomy, string_reading, kept_string, StringStartIs, StringRoom, KeepString, StringKept, Kept, StringIs, StringsIs}
+use Rattle.cadl_items.specs.Clauses.Items.{Before, roomy, room_left, string_reading, kept_string, StringStartIs, StringRoom, KeepString, StringKept, Kept, StringIs, StringsIs}
 use Rattle.cadl_items.specs.declared.strings.StringEnd.{StringEnd}
 use Rattle.cadl_items.specs.declared.strings.StringEnd.TheVariants as string_end
 use Rattle.cadl_items.specs.declared.strings.Strings.{Strings}
 use Rattle.lexis.proofs.Parts.{part_length}
 use Rattle.cadl_items.proofs.LeafParts.{start-string_is, strings_none, strings_some}
-use Rattle.cadl_items.proofs.ItemLaws.{item_first, item_second, item_kept, all_kept, first_kept, second_kept, latest_more, latest_same, items_last, items_same, roomy_none, roomy_some}
+use Rattle.cadl_items.proofs.ItemLaws.{item_first, item_second, item_kept, all_kept, first_kept, second_kept, latest_more, latest_same, items_last, items_same, roomy_none, roomy_some, roomy_full, roomy_there, item_left, number_left}
 
 -- a string that is not too long
 module _ (s : List ℕ) (at : ℕ) where
@@ -82,24 +82,18 @@ module _ (s : List ℕ) (number count at : ℕ) where
   text_faulty x e = record { is = rw (expected_fault e x refl); past = tt }
 
   module _ (t : Token) (e : ExpectIs s string at (start_string s at) (Ok t)) where
-    pub text_items : count ≡ item_limit → StringStartIs s number count at (Err (refusal TooManyItems t.start))
-    unfolding roomy
-    text_items k = record { is = rw (expected_token e t refl, eq-eqb count item_limit k); past = tt }
+    pub text_full : (x : Refusal) → Err x ≡ room_left number count t.start → StringStartIs s number count at (Err x)
+    text_full x r = record { is = rw (expected_token e t refl) (roomy_full (λ u. u.start) number count t t.end x r); past = tt }
 
-    module _ (n : count ≡ item_limit → ⊥) where
-      pub text_records : number ≡ record_limit
-          → StringStartIs s number count at (Err (refusal TooManyRecords t.start))
-      unfolding roomy
-      text_records k = record { is = rw (expected_token e t refl, ne_eqb count item_limit n, eq-eqb number record_limit k); past = tt }
-
-      pub text_there : (number ≡ record_limit → ⊥) → Before s number count at → StringStartIs s number count at (Ok t)
-      unfolding roomy
-      text_there k b =
-          let q = expected_past e t refl in
-          record {
-            is = rw (expected_token e t refl, ne_eqb count item_limit n, ne_eqb number record_limit k);
-            past = (record { order = start-quoted s at t t.end (expected_token e t refl); inside = q.2 }, omega arith, omega arith);
-          }
+    pub text_there : (u : Unit {0}) → Ok u ≡ room_left number count t.start → Before s number count at → StringStartIs s number count at (Ok t)
+    text_there u r b =
+        let n = item_left number count t.start u r in
+        let k = number_left number count t.start u r in
+        let q = expected_past e t refl in
+        record {
+          is = rw (expected_token e t refl) (roomy_there (λ v. v.start) number count t t.end n k);
+          past = (record { order = start-quoted s at t t.end (expected_token e t refl); inside = q.2 }, omega arith, omega arith);
+        }
 
 -- a string that was read
 module _ (s : List ℕ) (number count : ℕ) (t : Token) (before : List ℕ) (room : KeepString s number count t before) where

@@ -1,13 +1,15 @@
 // Leaves: Booleans, lists of integers, of strings and of dates, and patterns.
-ghost use Rattle.std.specs.Prelude.{◌≡◌, ◌≤◌, length};
-ghost use Rattle.lexis.specs.Tokens.{content_token_at};
+ghost use Rattle.std.specs.Prelude.{◌≡◌, ◌≤◌, cond, eqb, length};
+ghost use Rattle.lexis.specs.Tokens.{content_token_at, date};
 ghost use Rattle.lexis.specs.Clauses.Answers.{TokenIs};
+ghost use Rattle.meaning.specs.Constraints.{integers, dates};
 ghost use Rattle.cadl_items.specs.Leaves.{is_boolean, boolean_flag};
 ghost use Rattle.cadl_items.specs.Clauses.Told.{leaf};
-ghost use Rattle.cadl_items.specs.Clauses.Answers.{LeafRoom, LeafIs};
-ghost use Rattle.cadl_items.specs.Clauses.Items.{ListRoom, second_by, booleans_by, EveryIs, OneIs, pattern, single_leaf, ranges_leaf, string_leaf};
+ghost use Rattle.cadl_items.specs.Clauses.Answers.{range_sort_of, LeafRoom, LeafIs};
+ghost use Rattle.cadl_items.specs.Clauses.Items.{second_by, booleans_by, EveryIs, OneIs, pattern, single_leaf};
 
 use crate::ranges::read_ranges;
+use crate::room::record_left;
 use crate::spans::SCRATCH_ROOM;
 use crate::strings::read_strings;
 use lexis::tokens::token_at;
@@ -15,7 +17,6 @@ use lexis::{
     BAR, COMMA, DATE, DATE_PATTERN, DURATION_PATTERN, FALSE_WORD, INTEGER, STRING, TIME_PATTERN,
     TRUE_WORD, Token,
 };
-use refusals::limits::RECORD_LIMIT;
 use refusals::steps::syntax_fault;
 use refusals::{Cause, Refusal};
 
@@ -127,9 +128,7 @@ fn boolean_list(s: &[u8], t: Token) -> Result<Leaf, Refusal>
 fn pattern_leaf(number: usize, t: Token, sort: SingleSort, flag: u8) -> Result<Leaf, Refusal>
     ensures { result ≡ pattern number t sort flag }
 {
-    if number == RECORD_LIMIT {
-        return Err(Cause::TooManyRecords.at(t.start));
-    }
+    record_left(number, t.start)?;
     Ok(Leaf::Single {
         sort,
         flag,
@@ -144,9 +143,7 @@ fn single_leaf(s: &[u8], number: usize, t: Token) -> Result<Leaf, Refusal>
     ensures { OneIs s.now number (single_leaf s.now number t) result }
 {
     if is_boolean(t) {
-        if number == RECORD_LIMIT {
-            return Err(Cause::TooManyRecords.at(t.start));
-        }
+        record_left(number, t.start)?;
         return boolean_list(s, t);
     }
     let sort = t.sort;
@@ -167,52 +164,19 @@ fn single_leaf(s: &[u8], number: usize, t: Token) -> Result<Leaf, Refusal>
     }
 }
 
-// A list of integers or of dates.
-#[tactic(auto, using(crate::proofs::LeafSteps::range_faulty, crate::proofs::LeafSteps::range_dates, crate::proofs::LeafSteps::range_integers))]
-fn range_leaf(
-    s: &[u8],
-    number: usize,
-    from: usize,
-    scratch: &mut [u32; SCRATCH_ROOM],
-) -> Result<Leaf, Refusal>
-    requires { ListRoom s.now number from }
-    ensures { LeafIs s.now number from (ranges_leaf s.now number from) scratch.new
-        result }
+// The sort of a list of closed pairs, by its kind.
+fn range_sort(kind: u8) -> RangeSort
+    ensures { range_sort_of result ≡ cond (eqb kind date) dates integers }
 {
-    let list = read_ranges(s, number, from, scratch)?;
-    let sort = if list.kind == DATE {
+    if kind == DATE {
         RangeSort::Dates
     } else {
         RangeSort::Integers
-    };
-    Ok(Leaf::Ranges {
-        sort,
-        count: list.count,
-        next: list.next,
-    })
-}
-
-// A list of strings.
-#[tactic(auto, using(crate::proofs::LeafSteps::strings_faulty, crate::proofs::LeafSteps::strings_there))]
-fn string_leaf(
-    s: &[u8],
-    number: usize,
-    from: usize,
-    scratch: &mut [u32; SCRATCH_ROOM],
-) -> Result<Leaf, Refusal>
-    requires { LeafRoom s.now number from }
-    ensures { LeafIs s.now number from (string_leaf s.now number from) scratch.new
-        result }
-{
-    let list = read_strings(s, number, from, scratch)?;
-    Ok(Leaf::Strings {
-        count: list.count,
-        next: list.next,
-    })
+    }
 }
 
 // A leaf from a place on, whose first token is t, given the next record's number.
-#[tactic(auto, using(crate::proofs::LeafSteps::leaf_integers, crate::proofs::LeafSteps::leaf_intervals, crate::proofs::LeafSteps::leaf_strings, crate::proofs::LeafSteps::leaf_single))]
+#[tactic(auto, using(crate::proofs::LeafSteps::range_faulty, crate::proofs::LeafSteps::range_there, crate::proofs::LeafSteps::strings_faulty, crate::proofs::LeafSteps::strings_there, crate::proofs::LeafSteps::leaf_ranges, crate::proofs::LeafSteps::leaf_strings, crate::proofs::LeafSteps::leaf_single))]
 pub fn read_leaf(
     s: &[u8],
     number: usize,
@@ -225,8 +189,21 @@ pub fn read_leaf(
     ensures { LeafIs s.now number from (leaf s.now number from) scratch.new result }
 {
     match t.sort {
-        INTEGER | BAR => range_leaf(s, number, from, scratch),
-        STRING => string_leaf(s, number, from, scratch),
+        INTEGER | BAR => {
+            let list = read_ranges(s, number, from, scratch)?;
+            Ok(Leaf::Ranges {
+                sort: range_sort(list.kind),
+                count: list.count,
+                next: list.next,
+            })
+        }
+        STRING => {
+            let list = read_strings(s, number, from, scratch)?;
+            Ok(Leaf::Strings {
+                count: list.count,
+                next: list.next,
+            })
+        }
         _ => single_leaf(s, number, t),
     }
 }

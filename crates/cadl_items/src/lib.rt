@@ -3,5 +3,6 @@
 
 pub mod leaves;
 mod ranges;
+mod room;
 pub mod spans;
 mod strings;

@@ -8,12 +8,12 @@ ghost use Rattle.cadl_items.specs.Clauses.Told.{start, item, ranges};
 ghost use Rattle.cadl_intervals.specs.Clauses.Answers.{At, shut, IntervalIs};
 ghost use Rattle.cadl_items.specs.Clauses.Items.{start_of, start_reading, Before, StartIs, pairs_of, kept_range, ItemRoom, KeepRoom, RangeIs, ListRoom, RangesIs};
 
+use crate::room::room_left;
 use crate::spans::{SCRATCH_ROOM, put};
 use cadl_intervals::ends::{Interval, UNDECIDED, read_interval};
 use cadl_intervals::literals::read_literal;
 use lexis::tokens::token_at;
 use lexis::{BAR, COMMA, DATE, INTEGER};
-use refusals::limits::{ITEM_LIMIT, RECORD_LIMIT};
 use refusals::steps::syntax_fault;
 use refusals::{Cause, Refusal};
 
@@ -73,7 +73,7 @@ fn read_start(s: &[u8], kind: u8, from: usize) -> Result<Start, Refusal>
 }
 
 // The first token of an item, if there is room for one more item and one more record.
-#[tactic(auto, using(crate::proofs::RangeSteps::room_faulty, crate::proofs::RangeSteps::room_items, crate::proofs::RangeSteps::room_records, crate::proofs::RangeSteps::room_there))]
+#[tactic(auto, using(crate::proofs::RangeSteps::room_faulty, crate::proofs::RangeSteps::room_full, crate::proofs::RangeSteps::room_there))]
 fn roomy_start(
     s: &[u8],
     kind: u8,
@@ -85,12 +85,7 @@ fn roomy_start(
     ensures { StartIs s.now kind number count from result }
 {
     let start = read_start(s, kind, from)?;
-    if count == ITEM_LIMIT {
-        return Err(Cause::TooManyItems.at(start.place));
-    }
-    if number == RECORD_LIMIT {
-        return Err(Cause::TooManyRecords.at(start.place));
-    }
+    room_left(number, count, start.place)?;
     Ok(start)
 }
 

@@ -9,10 +9,11 @@ ghost use Rattle.cadl_items.specs.Clauses.Told.{start_string, strings};
 ghost use Rattle.cadl_items.specs.Clauses.Answers.{LeafRoom};
 ghost use Rattle.cadl_items.specs.Clauses.Items.{Before, StringStartIs, kept_string, StringRoom, KeepString, StringIs, StringsIs};
 
-use crate::spans::{SCRATCH_ROOM, narrow, put, repeated};
+use crate::room::room_left;
+use crate::spans::{SCRATCH_ROOM, put, repeated};
 use lexis::tokens::token_at;
 use lexis::{COMMA, STRING, Token};
-use refusals::limits::{ITEM_LIMIT, RECORD_LIMIT, STRING_LIMIT};
+use refusals::limits::STRING_LIMIT;
 use refusals::steps::{expect, too_long};
 use refusals::{Cause, Refusal};
 
@@ -47,18 +48,13 @@ fn start_string(s: &[u8], from: usize) -> Result<Token, Refusal>
 }
 
 // The same, if there is room for one more item and one more record.
-#[tactic(auto, using(crate::proofs::StringSteps::text_faulty, crate::proofs::StringSteps::text_items, crate::proofs::StringSteps::text_records, crate::proofs::StringSteps::text_there))]
+#[tactic(auto, using(crate::proofs::StringSteps::text_faulty, crate::proofs::StringSteps::text_full, crate::proofs::StringSteps::text_there))]
 fn roomy_string(s: &[u8], number: usize, count: usize, from: usize) -> Result<Token, Refusal>
     requires { Before s.now number count from }
     ensures { StringStartIs s.now number count from result }
 {
     let t = start_string(s, from)?;
-    if count == ITEM_LIMIT {
-        return Err(Cause::TooManyItems.at(t.start));
-    }
-    if number == RECORD_LIMIT {
-        return Err(Cause::TooManyRecords.at(t.start));
-    }
+    room_left(number, count, t.start)?;
     Ok(t)
 }
 
@@ -82,7 +78,7 @@ fn keep_string(
     if repeated(s, scratch, 0, count, &s[start..stop]) {
         return Err(Cause::Overlap.at(place));
     }
-    put(scratch, count, narrow(start), narrow(stop));
+    put(scratch, count, start as u32, stop as u32);
     let u = token_at(s, t.end);
     if u.sort == COMMA {
         return Ok(StringEnd::More { next: u.end });

@@ -49,6 +49,14 @@ roomy place number count r =
     read_unless (eqb count item_limit) TooManyItems (place x)
     (read_unless (eqb number record_limit) TooManyRecords (place x) (got x p)))
 
+-- whether there is room for one more record, and for one more item and one more record
+abbrev pub record_left : ℕ → ℕ → Result (Unit {0}) Refusal
+record_left number place = cond (eqb number record_limit) (Err (refusal TooManyRecords place)) (Ok tt)
+
+abbrev pub room_left : ℕ → ℕ → ℕ → Result (Unit {0}) Refusal
+room_left number count place =
+    cond (eqb count item_limit) (Err (refusal TooManyItems place)) (record_left number place)
+
 -- where an item is read, behind so many others
 pub record Before (s : List ℕ) (number count from : ℕ) : Type 0 where
   pub inside : from ≤ length s
