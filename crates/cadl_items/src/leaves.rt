@@ -87,7 +87,6 @@ fn boolean_flag(t: Token) -> u8
 }
 
 // The second Boolean, behind a comma.
-#[tactic(auto, using(crate::proofs::LeafSteps::second_other, crate::proofs::LeafSteps::second_same, crate::proofs::LeafSteps::second_both))]
 fn second_boolean(s: &[u8], flag: u8, from: usize) -> Result<Leaf, Refusal>
     requires { from ≤ length s.now }
     ensures { EveryIs s.now (second_by s.now flag from) result }
@@ -107,7 +106,6 @@ fn second_boolean(s: &[u8], flag: u8, from: usize) -> Result<Leaf, Refusal>
 }
 
 // Booleans, the first of which is the token.
-#[tactic(auto, using(crate::proofs::LeafSteps::list_second, crate::proofs::LeafSteps::list_one))]
 fn boolean_list(s: &[u8], t: Token) -> Result<Leaf, Refusal>
     requires { t.end ≤ length s.now }
     ensures { EveryIs s.now (booleans_by s.now t) result }
@@ -137,7 +135,6 @@ fn pattern_leaf(number: usize, t: Token, sort: SingleSort, flag: u8) -> Result<L
 }
 
 // A leaf of one record: Booleans or a pattern, whose first token is t.
-#[tactic(auto, using(crate::proofs::LeafSteps::single_full, crate::proofs::LeafSteps::single_boolean, crate::proofs::LeafSteps::single_date, crate::proofs::LeafSteps::single_time, crate::proofs::LeafSteps::single_duration, crate::proofs::LeafSteps::single_other))]
 fn single_leaf(s: &[u8], number: usize, t: Token) -> Result<Leaf, Refusal>
     requires { t.end ≤ length s.now }
     ensures { OneIs s.now number (single_leaf s.now number t) result }
@@ -176,7 +173,7 @@ fn range_sort(kind: u8) -> RangeSort
 }
 
 // A leaf from a place on, whose first token is t, given the next record's number.
-#[tactic(auto, using(crate::proofs::LeafSteps::range_faulty, crate::proofs::LeafSteps::range_there, crate::proofs::LeafSteps::strings_faulty, crate::proofs::LeafSteps::strings_there, crate::proofs::LeafSteps::leaf_ranges, crate::proofs::LeafSteps::leaf_strings, crate::proofs::LeafSteps::leaf_single))]
+#[tactic(auto, using(crate::proofs::LeafSteps::range_faulty, crate::proofs::LeafSteps::strings_faulty, crate::proofs::LeafSteps::leaf_ranges, crate::proofs::LeafSteps::leaf_strings))]
 pub fn read_leaf(
     s: &[u8],
     number: usize,

@@ -73,7 +73,7 @@ fn read_start(s: &[u8], kind: u8, from: usize) -> Result<Start, Refusal>
 }
 
 // The first token of an item, if there is room for one more item and one more record.
-#[tactic(auto, using(crate::proofs::RangeSteps::room_faulty, crate::proofs::RangeSteps::room_full, crate::proofs::RangeSteps::room_there))]
+#[tactic(auto, using(crate::proofs::RangeSteps::room_faulty, crate::proofs::RangeSteps::room_full))]
 fn roomy_start(
     s: &[u8],
     kind: u8,
@@ -113,7 +113,7 @@ fn meet(low: u32, high: u32, a: u32, b: u32) -> bool
 }
 
 // The pair overlaps one of the first items.
-#[tactic(auto, using(crate::proofs::RangeSteps::pairs_start, crate::proofs::RangeSteps::pairs_on, crate::proofs::RangeSteps::pairs_meet))]
+#[tactic(auto, using(crate::proofs::RangeSteps::pairs_meet))]
 fn overlaps(scratch: &[u32], count: usize, low: u32, high: u32) -> bool
     requires { 2 * count ≤ length scratch.now }
     ensures { result ≡ overlaps (pair low high) (pairs_of scratch.now count) }
@@ -127,7 +127,7 @@ fn overlaps(scratch: &[u32], count: usize, low: u32, high: u32) -> bool
 }
 
 // Puts an item into the scratch, if it overlaps none, and looks for a comma behind it.
-#[tactic(auto, using(crate::proofs::RangeSteps::keep_overlap, crate::proofs::RangeSteps::keep_more, crate::proofs::RangeSteps::keep_last))]
+#[tactic(auto, using(crate::proofs::RangeSteps::keep_overlap))]
 fn keep_range(
     s: &[u8],
     number: usize,
@@ -178,7 +178,7 @@ fn range_item(
 }
 
 // The items of a list.
-#[tactic(auto, using(crate::proofs::RangeSteps::ranges_start, crate::proofs::RangeSteps::ranges_room, crate::proofs::RangeSteps::ranges_faulty, crate::proofs::RangeSteps::ranges_last, crate::proofs::RangeSteps::ranges_more, crate::proofs::RangeSteps::ranges_less))]
+#[tactic(auto, using(crate::proofs::RangeSteps::ranges_start, crate::proofs::RangeSteps::ranges_room, crate::proofs::RangeSteps::ranges_faulty, crate::proofs::RangeSteps::ranges_more, crate::proofs::RangeSteps::ranges_less))]
 pub fn read_ranges(
     s: &[u8],
     number: usize,

@@ -1,5 +1,5 @@
 // Items by twos in numbers: item i stands at 2i and 2i + 1. A span is an item that names two places of a text.
-ghost use Rattle.std.specs.Prelude.{◌≡◌, ◌+◌, ◌*◌, ◌^◌, ◌<◌, length, get_or};
+ghost use Rattle.std.specs.Prelude.{◌≡◌, ◌+◌, ◌*◌, ◌^◌, ◌<◌};
 ghost use Rattle.lexis.specs.Runs.{listed};
 ghost use Rattle.refusals.specs.Limits.{item_limit};
 ghost use Rattle.cadl_items.specs.Clauses.Spans.{with_item, span_at, earlier, SpanLies, SpansIn};
@@ -24,25 +24,18 @@ pub fn narrow(n: usize) -> u32
     n as u32
 }
 
-// The number at a place of spans.
-fn number(spans: &[u32], i: usize) -> usize
-    requires { i < length spans.now }
-    ensures { result ≡ get_or spans.now i 0 }
-{
-    spans[i] as usize
-}
-
 // The bytes of span i.
 fn span_bytes<'a>(s: &'a [u8], spans: &[u32], i: usize) -> &'a [u8]
     requires { SpanLies s.now spans.now i }
     ensures { result.now ≡ span_at s.now spans.now i }
 {
-    let start = number(spans, 2 * i);
-    let end = number(spans, 2 * i + 1);
+    let start = spans[2 * i] as usize;
+    let end = spans[2 * i + 1] as usize;
     &s[start..end]
 }
 
 // Whether bytes are those of a span from `first` on, up to `end`.
+#[tactic(auto, using(crate::proofs::SpanSteps::longer_next, crate::proofs::SpanSteps::bytes_next, lexis::proofs::Comparing::bytes_on))]
 pub fn repeated(s: &[u8], spans: &[u32], first: usize, end: usize, name: &[u8]) -> bool
     requires { SpansIn s.now spans.now first end }
     ensures { result ≡ listed name.now (earlier s.now spans.now first end) }

@@ -48,7 +48,7 @@ fn start_string(s: &[u8], from: usize) -> Result<Token, Refusal>
 }
 
 // The same, if there is room for one more item and one more record.
-#[tactic(auto, using(crate::proofs::StringSteps::text_faulty, crate::proofs::StringSteps::text_full, crate::proofs::StringSteps::text_there))]
+#[tactic(auto, using(crate::proofs::StringSteps::text_faulty, crate::proofs::StringSteps::text_full))]
 fn roomy_string(s: &[u8], number: usize, count: usize, from: usize) -> Result<Token, Refusal>
     requires { Before s.now number count from }
     ensures { StringStartIs s.now number count from result }
@@ -59,7 +59,7 @@ fn roomy_string(s: &[u8], number: usize, count: usize, from: usize) -> Result<To
 }
 
 // Puts a string's places into the scratch, if no earlier one is equal, and looks for a comma behind it.
-#[tactic(auto, using(crate::proofs::StringSteps::keep_equal, crate::proofs::StringSteps::keep_comma, crate::proofs::StringSteps::keep_end))]
+#[tactic(auto, using(crate::proofs::StringSteps::keep_equal))]
 fn keep_string(
     s: &[u8],
     number: usize,
@@ -106,7 +106,7 @@ fn string_item(
 }
 
 // The strings of a list.
-#[tactic(auto, using(crate::proofs::StringSteps::strings_start, crate::proofs::StringSteps::strings_room, crate::proofs::StringSteps::strings_faulty, crate::proofs::StringSteps::strings_last, crate::proofs::StringSteps::strings_more, crate::proofs::StringSteps::strings_less))]
+#[tactic(auto, using(crate::proofs::StringSteps::strings_start, crate::proofs::StringSteps::strings_room, crate::proofs::StringSteps::strings_faulty, crate::proofs::StringSteps::strings_more, crate::proofs::StringSteps::strings_less))]
 pub fn read_strings(
     s: &[u8],
     number: usize,
