@@ -25,16 +25,8 @@ use Rattle.table.specs.Rows
 use Rattle.table.proofs.UseLaws.{kind_shape}
 use Rattle.table.specs.Clauses.Answers.{record_of}
 use Rattle.table.specs.declared.records.Entry.{Entry}
-use Rattle.judge_admission.specs.Clauses.Items.{name_of, NamedRecord, record_items, range_sort, record_range, range_in, text_in, ranges_from, texts_from, leaf_of_shape, record_leaf, Lies, OfKind, Chained, Spelled, ItemsGood, item_of_shape}
+use Rattle.judge_admission.specs.Clauses.Items.{name_of, NamedRecord, record_items, record_range, range_in, text_in, ranges_from, texts_from, leaf_of_shape, record_leaf, Lies, OfKind, Chained, Spelled, ItemsGood, item_of_shape}
 use Rattle.judge_admission.specs.Clauses.Answers.{finding_under, is_admitted, item_admits}
-
--- an end of an item
-pub end_signed : (signed : Bool) (x r : ℕ) → signed ≡ true → r ≡ (range_row integers).end x
-    → r ≡ (range_row (range_sort signed)).end x
-end_signed signed x r h e = rw h e
-
-pub end_plain : (signed : Bool) (x : ℕ) → signed ≡ false → x ≡ (range_row (range_sort signed)).end x
-end_plain signed x h = rw h
 
 -- a value between the ends of an item
 module _ (sort : RangeSort) (e : Entry) (v low : ℕ) (el : low ≡ (range_row sort).end e.a) where

@@ -2,13 +2,13 @@
 #![tactic(auto)]
 
 ghost use Rattle.std.specs.Prelude.{◌≡◌, [], ◌∷◌, ◌+◌, ◌*◌, ◌≤◌, length};
-ghost use Rattle.meaning.specs.Constraints.{booleans, integers, date_pattern, dates, time_pattern, duration_pattern, single, ranges};
+ghost use Rattle.meaning.specs.Constraints.{RangeSort, booleans, integers, date_pattern, dates, time_pattern, duration_pattern, single, ranges};
 ghost use Rattle.meaning.specs.Findings.{found};
 ghost use Rattle.meaning.specs.Sorts.{in_range, in_some, range_row};
 ghost use Rattle.meaning.specs.Admission.{is_some, word_under};
 ghost use Rattle.table.specs.Records.{record_size, record_in};
 ghost use Rattle.table.specs.Clauses.Answers.{record_of};
-ghost use Rattle.judge_admission.specs.Clauses.Items.{name_of, range_sort, record_range, ranges_from, texts_from, record_leaf, Chained, Spelled, ItemsGood, NamedRecord};
+ghost use Rattle.judge_admission.specs.Clauses.Items.{name_of, record_range, ranges_from, texts_from, record_leaf, Chained, Spelled, ItemsGood, NamedRecord};
 ghost use Rattle.judge_admission.specs.Clauses.Answers.{finding_of, finding_under, is_admitted, item_admits};
 
 use lexis::runs::same_bytes;
@@ -62,32 +62,55 @@ fn tried(good: bool) -> Admission
     }
 }
 
-// An end of an item: of an integer's, as its distance from the lowest integer.
-#[tactic(auto, using(crate::proofs::ItemSteps::end_signed, crate::proofs::ItemSteps::end_plain))]
-fn end_of(signed: bool, x: u32) -> u32
-    ensures { result ≡ (range_row (range_sort signed)).end x }
-{
-    if signed { twos_complement(x) } else { x }
+// What an end of an item is.
+trait Ends {
+    ghost sort: { RangeSort };
+
+    // The end that a record's field stands for.
+    fn end_of(x: u32) -> u32
+        ensures { result ≡ (range_row sort).end x };
+}
+
+// An end of an integer's item is its distance from the lowest integer.
+struct Integers;
+
+// An end of a date's item is its day.
+struct Dates;
+
+impl Ends for Integers {
+    ghost sort = { integers };
+
+    fn end_of(x: u32) -> u32 {
+        twos_complement(x)
+    }
+}
+
+impl Ends for Dates {
+    ghost sort = { dates };
+
+    fn end_of(x: u32) -> u32 {
+        x
+    }
 }
 
 // The value lies between the ends of an item.
 #[tactic(auto, using(crate::proofs::ItemSteps::range_below, crate::proofs::ItemSteps::range_above))]
-fn in_range(signed: bool, e: Entry, value: u32) -> bool
-    ensures { result ≡ in_range value (record_range (range_sort signed) 0 (record_of e)) }
+fn in_range<E: Ends>(e: Entry, value: u32) -> bool
+    ensures { result ≡ in_range value (record_range E.sort 0 (record_of e)) }
 {
-    end_of(signed, e.a) <= value && value <= end_of(signed, e.b)
+    E::end_of(e.a) <= value && value <= E::end_of(e.b)
 }
 
 // The value lies in some item of those from a record on, from link to link.
 #[tactic(auto, using(crate::proofs::ItemSteps::items_start, crate::proofs::ItemSteps::items_lies, crate::proofs::ItemSteps::ranges_end, crate::proofs::ItemSteps::ranges_found, crate::proofs::ItemSteps::ranges_next, crate::proofs::ItemSteps::ranges_less))]
-fn in_some(records: &[u8], first: RecordNumber, signed: bool, value: u32) -> bool
-    requires { Chained records.now (range_row (range_sort signed)).kind first.0 }
-    ensures { result ≡ in_some value (ranges_from (range_sort signed) records.now first.0) }
+fn in_some<E: Ends>(records: &[u8], first: RecordNumber, value: u32) -> bool
+    requires { Chained records.now (range_row E.sort).kind first.0 }
+    ensures { result ≡ in_some value (ranges_from E.sort records.now first.0) }
 {
     let mut n = first.0;
     while n != 0 {
         let range = entry_at(records, RecordNumber(n));
-        if in_range(signed, range, value) {
+        if in_range::<E>(range, value) {
             return true;
         }
         n = range.e;
@@ -144,7 +167,7 @@ fn integer_under(records: &[u8], first: RecordNumber, value: &[u8]) -> Admission
         ≡ word_under (ranges integers (ranges_from integers records.now first.0)) value.now }
 {
     match integer_of(value) {
-        Some(v) => tried(in_some(records, first, true, v)),
+        Some(v) => tried(in_some::<Integers>(records, first, v)),
         None => Admission::Unsuited,
     }
 }
@@ -168,7 +191,7 @@ fn date_under(records: &[u8], first: RecordNumber, value: &[u8]) -> Admission
         ≡ word_under (ranges dates (ranges_from dates records.now first.0)) value.now }
 {
     match date_of(value) {
-        Some(date) => tried(date.parts == 3 && in_some(records, first, false, date.day)),
+        Some(date) => tried(date.parts == 3 && in_some::<Dates>(records, first, date.day)),
         None => Admission::Unsuited,
     }
 }
@@ -202,7 +225,7 @@ fn integer_in(e: Entry, value: &[u8]) -> bool
         ≡ is_admitted (word_under (ranges integers (record_range integers 0 (record_of e) ∷ [])) value.now) }
 {
     match integer_of(value) {
-        Some(v) => in_range(true, e, v),
+        Some(v) => in_range::<Integers>(e, v),
         None => false,
     }
 }
@@ -214,7 +237,7 @@ fn date_in(e: Entry, value: &[u8]) -> bool
         ≡ is_admitted (word_under (ranges dates (record_range dates 0 (record_of e) ∷ [])) value.now) }
 {
     match date_of(value) {
-        Some(date) => date.parts == 3 && in_range(false, e, date.day),
+        Some(date) => date.parts == 3 && in_range::<Dates>(e, date.day),
         None => false,
     }
 }
