@@ -3,7 +3,7 @@
 
 ghost use Rattle.std.specs.Prelude.{◌≡◌, [], ◌∷◌, ◌+◌, ◌*◌, ◌≤◌, length};
 ghost use Rattle.meaning.specs.Constraints.{RangeSort, booleans, integers, date_pattern, dates, time_pattern, duration_pattern, single, ranges};
-ghost use Rattle.meaning.specs.Findings.{found};
+ghost use Rattle.meaning.specs.Findings.{try};
 ghost use Rattle.meaning.specs.Sorts.{in_range, in_some, range_row};
 ghost use Rattle.meaning.specs.Admission.{is_some, word_under};
 ghost use Rattle.table.specs.Records.{record_size, record_in};
@@ -51,14 +51,14 @@ pub fn kind_of(records: &[u8], n: RecordNumber) -> u8
     records[at]
 }
 
-// A value that was tried is admitted or is not.
-fn tried(good: bool) -> Admission
-    ensures { finding_of result ≡ found good }
+// A value that does not read as its kind is unsuited; one that was tried is admitted or is not.
+fn tried(good: Option<bool>) -> Admission
+    ensures { finding_of result ≡ try good (λ b. b) }
 {
-    if good {
-        Admission::Admitted
-    } else {
-        Admission::Refuted
+    match good {
+        None => Admission::Unsuited,
+        Some(false) => Admission::Refuted,
+        Some(true) => Admission::Admitted,
     }
 }
 
@@ -153,10 +153,7 @@ fn is_some(records: &[u8], pool: &[u8], first: RecordNumber, value: &[u8]) -> bo
 fn boolean_under(flag: u8, value: &[u8]) -> Admission
     ensures { finding_of result ≡ word_under (single booleans 0 flag) value.now }
 {
-    match boolean_of(value) {
-        Some(v) => tried(flag == v || flag == 3),
-        None => Admission::Unsuited,
-    }
+    tried(boolean_of(value).map(|v| flag == v || flag == 3))
 }
 
 // A word under integers.
@@ -166,10 +163,7 @@ fn integer_under(records: &[u8], first: RecordNumber, value: &[u8]) -> Admission
     ensures { finding_of result
         ≡ word_under (ranges integers (ranges_from integers records.now first.0)) value.now }
 {
-    match integer_of(value) {
-        Some(v) => tried(in_some::<Integers>(records, first, v)),
-        None => Admission::Unsuited,
-    }
+    tried(integer_of(value).map(|v| in_some::<Integers>(records, first, v)))
 }
 
 // A word under a date pattern.
@@ -177,10 +171,7 @@ fn integer_under(records: &[u8], first: RecordNumber, value: &[u8]) -> Admission
 fn date_pattern_under(flag: u8, value: &[u8]) -> Admission
     ensures { finding_of result ≡ word_under (single date_pattern 0 flag) value.now }
 {
-    match date_of(value) {
-        Some(date) => tried(fits_date(flag, date.parts)),
-        None => Admission::Unsuited,
-    }
+    tried(date_of(value).map(|date| fits_date(flag, date.parts)))
 }
 
 // A word under date intervals, which admit full dates only.
@@ -190,10 +181,7 @@ fn date_under(records: &[u8], first: RecordNumber, value: &[u8]) -> Admission
     ensures { finding_of result
         ≡ word_under (ranges dates (ranges_from dates records.now first.0)) value.now }
 {
-    match date_of(value) {
-        Some(date) => tried(date.parts == 3 && in_some::<Dates>(records, first, date.day)),
-        None => Admission::Unsuited,
-    }
+    tried(date_of(value).map(|date| date.parts == 3 && in_some::<Dates>(records, first, date.day)))
 }
 
 // A word under a time pattern.
@@ -201,10 +189,7 @@ fn date_under(records: &[u8], first: RecordNumber, value: &[u8]) -> Admission
 fn time_pattern_under(flag: u8, value: &[u8]) -> Admission
     ensures { finding_of result ≡ word_under (single time_pattern 0 flag) value.now }
 {
-    match time_of(value) {
-        Some(parts) => tried(fits_time(flag, parts)),
-        None => Admission::Unsuited,
-    }
+    tried(time_of(value).map(|parts| fits_time(flag, parts)))
 }
 
 // A word under a Duration pattern.
@@ -212,10 +197,7 @@ fn time_pattern_under(flag: u8, value: &[u8]) -> Admission
 fn duration_pattern_under(flag: u8, value: &[u8]) -> Admission
     ensures { finding_of result ≡ word_under (single duration_pattern 0 flag) value.now }
 {
-    match duration_of(value) {
-        Some(filled) => tried(fits_duration(flag, filled)),
-        None => Admission::Unsuited,
-    }
+    tried(duration_of(value).map(|filled| fits_duration(flag, filled)))
 }
 
 // A word lies between the ends of an item of integers.
@@ -224,10 +206,7 @@ fn integer_in(e: Entry, value: &[u8]) -> bool
     ensures { result
         ≡ is_admitted (word_under (ranges integers (record_range integers 0 (record_of e) ∷ [])) value.now) }
 {
-    match integer_of(value) {
-        Some(v) => in_range::<Integers>(e, v),
-        None => false,
-    }
+    integer_of(value).is_some_and(|v| in_range::<Integers>(e, v))
 }
 
 // A word is a full date between the ends of an item of dates.
@@ -236,10 +215,7 @@ fn date_in(e: Entry, value: &[u8]) -> bool
     ensures { result
         ≡ is_admitted (word_under (ranges dates (record_range dates 0 (record_of e) ∷ [])) value.now) }
 {
-    match date_of(value) {
-        Some(date) => date.parts == 3 && in_range::<Dates>(e, date.day),
-        None => false,
-    }
+    date_of(value).is_some_and(|date| date.parts == 3 && in_range::<Dates>(e, date.day))
 }
 
 // An item of a list admits a value by itself.
@@ -274,7 +250,7 @@ pub fn admit(
     let e = entry_at(records, first);
     if is_string {
         return match e.kind {
-            STRING_KIND => tried(is_some(records, pool, first, value)),
+            STRING_KIND => tried(Some(is_some(records, pool, first, value))),
             _ => Admission::Unsuited,
         };
     }
