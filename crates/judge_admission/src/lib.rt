@@ -201,7 +201,7 @@ fn duration_pattern_under(flag: u8, value: &[u8]) -> Admission
 }
 
 // A word lies between the ends of an item of integers.
-#[tactic(auto, using(crate::proofs::ItemSteps::alone_steps))]
+#[tactic(auto, unfolding(meaning::specs::Admission::word_under, meaning::specs::Sorts::in_some))]
 fn integer_in(e: Entry, value: &[u8]) -> bool
     ensures { result
         ≡ is_admitted (word_under (ranges integers (record_range integers 0 (record_of e) ∷ [])) value.now) }
@@ -210,7 +210,7 @@ fn integer_in(e: Entry, value: &[u8]) -> bool
 }
 
 // A word is a full date between the ends of an item of dates.
-#[tactic(auto, using(crate::proofs::ItemSteps::alone_steps))]
+#[tactic(auto, unfolding(meaning::specs::Admission::word_under, meaning::specs::Sorts::in_some))]
 fn date_in(e: Entry, value: &[u8]) -> bool
     ensures { result
         ≡ is_admitted (word_under (ranges dates (record_range dates 0 (record_of e) ∷ [])) value.now) }
