@@ -20,6 +20,7 @@ pub struct Block {
 
 // The number i of row n: 0 what the member holds (0 a block, 1 a string, 2 a word), 1 and 2 its name, 3 the place of its `<`, 4 and 5 its
 // type, 6 and 7 its string or word, or 0 and the number of rows inside it, 8 the row of the next member.
+#[tactic(auto, using(crate::proofs::MemberSteps::number_read))]
 pub fn number(tape: &[u16], n: usize, i: usize) -> usize
     requires row_size_in_bounds { row_size * n + row_size ≤ length tape.now }
     requires i_lt_row_size { i < row_size }
@@ -29,6 +30,7 @@ pub fn number(tape: &[u16], n: usize, i: usize) -> usize
 }
 
 // The row of the member with a name, if there is one: among the members from row `first` on, none where `inside` is 0.
+#[tactic(auto, using(crate::proofs::MemberSteps::row_lies, crate::proofs::MemberSteps::rows_none, crate::proofs::MemberSteps::rows_start, crate::proofs::MemberSteps::rows_next, crate::proofs::MemberSteps::rows_less))]
 pub fn find_member(
     s: &[u8],
     tape: &[u16],
