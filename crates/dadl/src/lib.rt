@@ -14,6 +14,7 @@ ghost use Rattle.dadl.specs.Clauses.Answers.{TapeRoom, data_wrote, data_written}
 
 use crate::blocks::read_block;
 use crate::rows::type_part;
+pub use crate::tokens::Part;
 use crate::tokens::{expect_data, outermost_opening};
 use lexis::TEXT_END;
 use refusals::limits::TEXT_LIMIT;

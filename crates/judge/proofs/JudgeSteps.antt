@@ -29,6 +29,7 @@ use Rattle.dadl.specs.Clauses.Tape.{entry_rows, entries_tape, type_start, type_e
 use Rattle.dadl.specs.Clauses.Rows.{TapeGood, linked}
 use Rattle.dadl.specs.Clauses.Answers.{TapeRoom, data_wrote, data_written}
 use Rattle.dadl.specs.declared.DataText.{DataText}
+use Rattle.dadl.specs.declared.tokens.Part.{Part}
 use Rattle.dadl.proofs.TapeLaws.{at_start, entries_length, entries_back}
 use Rattle.dadl.proofs.GoodTapes.{TypeLies, each_ended}
 use Rattle.dadl.proofs.TextTape.{datum_got, datum_refused, text_lies, text_room, text_good}
@@ -49,7 +50,7 @@ use Rattle.table.proofs.WalkLaws.{node_by, node_of, tree_node}
 use Rattle.table.proofs.UseLaws.{kind_shape}
 use Rattle.judge.specs.Judge.{under_root, judge_answer}
 use Rattle.judge_admission.specs.Clauses.Items.{image_from, TableGood}
-use Rattle.judge_tape.specs.Clauses.Rows.{type_on, datum_on, BlockGood, DatumWithin}
+use Rattle.judge_tape.specs.Clauses.Rows.{type_at, type_on, datum_on, TypeGood, BlockGood, DatumWithin}
 use Rattle.judge_attributes.specs.Clauses.Attributes.{block_under}
 use Rattle.judge.specs.Clauses.Answers.{answer_of}
 use Rattle.judge.specs.declared.Denial.{Denial}
@@ -61,17 +62,17 @@ use Rattle.judge.proofs.Depth.{text_within}
 
 -- a type that lies in the text is read back from its places
 type_back : (s : List ℕ) (t : Option Span) → TypeLies (length s) t
-    → type_on s (type_start t) (type_end t) ≡ map (spelled_span s) t
+    → type_on s (type_at (type_start t) (type_end t)) ≡ map (spelled_span s) t
 type_back s None h = refl
 type_back s (Some x) h = rw (ne_eqb x.end 0 (λ e. omega arith))
 
-type_order : (size : ℕ) (t : Option Span) → TypeLies size t → (type_start t ≤ type_end t) × (type_end t ≤ size)
-type_order size None h = (omega arith, omega arith)
-type_order size (Some x) h = (omega arith, omega arith)
+type_lies : (size : ℕ) (t : Option Span) → TypeLies size t → TypeGood size (type_at (type_start t) (type_end t))
+type_lies size None h = tt
+type_lies size (Some x) h = rw (ne_eqb x.end 0 (λ e. omega arith)) (omega arith, omega arith)
 
 -- what a text that is read leaves to judge
 abbrev outermost : DataText → members.Block
-outermost x = record { place = x.place; type_start = x.type_start; type_end = x.type_end; first = 0; inside = x.rows }
+outermost x = record { place = x.place; type_name = type_at x.type_start x.type_end; first = 0; inside = x.rows }
 
 module _ (s tape after : List ℕ) (x : DataText) (room : TapeRoom s tape)
     (d : IsData tape after x (block_of level_limit s)) where
@@ -105,14 +106,13 @@ module _ (s tape after : List ℕ) (x : DataText) (room : TapeRoom s tape)
   unfolding spelled_block
   datum_back =
       let a = accepted level_limit s (block x.place d.type d.ms) x.end d.is in
-      let t : type_on s x.type_start x.type_end ≡ map (spelled_span s) d.type = rw (d.type_starts, d.type_ends) (type_back s d.type a.lies.1) in
+      let t : type_on s (type_at x.type_start x.type_end) ≡ map (spelled_span s) d.type = rw (d.type_starts, d.type_ends) (type_back s d.type a.lies.1) in
       λ j. datum x.place (t j) (members_back j)
 
   block_good : BlockGood (length s) x.rows (outermost x)
   block_good =
       let a = accepted level_limit s (block x.place d.type d.ms) x.end d.is in
-      let o = type_order (length s) d.type a.lies.1 in
-      record { order = rw (d.type_starts, d.type_ends) o.0; ahead = rw d.type_ends o.1; begins = record { there = λ h. h } }
+      record { lies = rw (d.type_starts, d.type_ends) (type_lies (length s) d.type a.lies.1); begins = record { there = λ h. h } }
 
   datum_within : DatumWithin (datum_on s x.rows after (outermost x)) level_limit
   datum_within = subst (λ x. DatumWithin x level_limit) (sym datum_back) (text_within level_limit s (block x.place d.type d.ms) x.end d.is)
@@ -131,26 +131,26 @@ module _ (records pool s : List ℕ) (root : RecordNumber) (t : TableGood record
     is : IsData tape after d (block_of level_limit s)
     is = is_data tape after d (block_of level_limit s) (rw h at ex)
 
-    module _ (room : TapeRoom s tape) where
+    module _ (room : TapeRoom s tape) (type : Option Part) (et : type ≡ type_at d.type_start d.type_end) where
       pub text_under : Under records pool s after d.rows 16 root.0
-          (record { place = d.place; type_start = d.type_start; type_end = d.type_end; first = 0; inside = d.rows })
+          (record { place = d.place; type_name = type; first = 0; inside = d.rows })
       text_under = record {
         walk = record { checked = t; good = tape_good s tape after d room is; few = rows_few s tape after d room is };
         kind = k;
-        good = block_good s tape after d room is;
+        good = rw et (block_good s tape after d room is);
         row = record { there = omega arith; holds = λ h. absurd (omega arith); is = λ h. absurd (omega arith) };
-        within = datum_within s tape after d room is;
+        within = rw et (datum_within s tape after d room is);
       }
 
       pub text_judged : (v : Verdict)
           → v
           ≡ block_under (image_from records pool) s d.rows after root.0
-          (record { place = d.place; type_start = d.type_start; type_end = d.type_end; first = 0; inside = d.rows })
+          (record { place = d.place; type_name = type; first = 0; inside = d.rows })
           → gave v ≡ under_root root.0 s (object_at (image_from records pool) root.0)
       unfolding judge_value
       text_judged v ev =
           let e = datum_got level_limit s (block d.place is.type is.ms) d.end is.is in
-          let b = datum_back s tape after d room is in
+          let b : datum_on s d.rows after (record { place = d.place; type_name = type; first = 0; inside = d.rows }) ≡ spelled_block (block d.place is.type is.ms) s = rw et (datum_back s tape after d room is) in
           let o = object_tree records pool t root.0 k in
           let f : v ≡ judge_value (value_in (tree_at (image_from records pool) root.0)) (Data.block (spelled_block (block d.place is.type is.ms) s)) = ev ∙ ap (λ x. judge_value (value_in (tree_at (image_from records pool) root.0)) (Data.block x)) b in
           ap gave (rw o at f) ∙ rw (o, e)

@@ -26,11 +26,12 @@ use Rattle.table.specs.declared.records.RecordNumber.{RecordNumber}
 use Rattle.table.proofs.UseLaws.{LinkRight}
 use Rattle.judge_admission.specs.Clauses.Items.{name_of, Lies, image_from, TableGood}
 use Rattle.judge_attributes.specs.Clauses.Answers.{failed}
-use Rattle.judge_tape.specs.Clauses.Rows.{type_on, members_on, datum_on, DatumWithin, MembersWithin}
+use Rattle.judge_tape.specs.Clauses.Rows.{type_on, members_on, datum_on, TypeGood, BlockGood, DatumWithin, MembersWithin}
 use Rattle.judge_attributes.specs.Clauses.Attributes.{judge_first, AttributeAt, block_under, Leads, AttributeAnswerIs}
 use Rattle.judge.specs.Clauses.Walk.{Under}
 use Rattle.judge_tape.specs.Clauses.Memo.{marked, Marks, base_of, VisitOf, admitted_in, ChainGood, ChainMarked, BlockAdmitted, may_visit, MemoGood}
 use Rattle.judge_tape.specs.declared.members.Block.{Block}
+use Rattle.dadl.specs.declared.tokens.Part.{Part}
 use Rattle.judge_tape.specs.declared.memo.Visit.{Visit}
 use Rattle.judge_attributes.specs.declared.Failure.{Failure}
 use Rattle.judge_attributes.specs.declared.Nested.{Nested}
@@ -40,13 +41,24 @@ use Rattle.judge_tape.proofs.MemoSteps.{left_some}
 use Rattle.judge_tape.proofs.MemoLaws.{memo_visited, base_small, chain_sound, memo_admits, memo_marked}
 
 -- a type that is not written suits, and one that is if it is the object's
-module _ (s t : List ℕ) (start end : ℕ) where
-  pub type_none : end ≡ 0 → true ≡ type_suits t (type_on s start end)
+module _ (s t : List ℕ) (type : Option Part) where
+  pub type_none : type ≡ None → true ≡ type_suits t (type_on s type)
   type_none h = rw h
 
-  pub type_same : (w : List ℕ) (r : Bool) → w ≡ t → r ≡ same w (take (end - start) (drop start s)) → (end ≡ 0 → ⊥)
-      → r ≡ type_suits t (type_on s start end)
-  type_same w r ew er h = rw (ne_eqb end 0 h, ← ew) er
+  pub type_same : (p : Part) → type ≡ Some p → (w : List ℕ) (r : Bool) → w ≡ t
+      → r ≡ same w (take (p.end - p.start) (drop p.start s)) → r ≡ type_suits t (type_on s type)
+  type_same p h w r ew er = rw (h, ← ew) er
+
+-- a block's type that is written lies in the text
+module _ (size rows : ℕ) (b : Block) (g : BlockGood size rows b) (p : Part) (h : b.type_name ≡ Some p) where
+  lies : TypeGood size (Some p)
+  lies = rw h at g.lies
+
+  pub type_order : p.start ≤ p.end
+  type_order = lies.0
+
+  pub type_ahead : p.end ≤ size
+  type_ahead = lies.1
 
 -- a datum of at most so many levels: there is one, and its members have one less
 abbrev members_of_lem : Datum → Members
@@ -121,7 +133,7 @@ module _ (records pool s tape : List ℕ) (rows levels : ℕ) (object : RecordNu
     first_kind = rw (← q) at (link_kind records pool u.walk.checked object.0 1 4 2 u.kind (link_there records pool u.walk.checked object.0 1 u.kind (omega arith) 4 (2 ∷ []) (lit< tt) refl))
 
     module _ (r : Bool)
-        (er : r ≡ type_suits (name_of pool (record_of e)) (type_on s b.type_start b.type_end)) where
+        (er : r ≡ type_suits (name_of pool (record_of e)) (type_on s b.type_name)) where
       block_is :
           cond r (judge_attributes (attributes_in (tree_at (image_from records pool) e.e)) b.place
           (members_on s rows tape b))

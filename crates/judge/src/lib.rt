@@ -20,7 +20,7 @@ use dadl::read_data;
 use dadl::rows::{MEMBER_SIZE, ROW_SIZE};
 use judge_attributes::Failure;
 use judge_tape::inputs::Inputs;
-use judge_tape::members::Block;
+use judge_tape::members::{Block, type_at};
 use refusals::limits::{LEVEL_LIMIT, RECORD_LIMIT, TEXT_LIMIT};
 use refusals::{Cause, Refusal};
 use table::check::check;
@@ -82,8 +82,7 @@ fn judge_on(
     let data = read_data(text, LEVEL_LIMIT, tape)?;
     let block = Block {
         place: data.place,
-        type_start: data.type_start,
-        type_end: data.type_end,
+        type_name: type_at(data.type_start, data.type_end),
         first: 0,
         inside: data.rows,
     };

@@ -23,19 +23,18 @@ use table::records::{Entry, RecordNumber};
 const MEMO_ROOM: usize = (TEXT_LIMIT / MEMBER_SIZE + 1) * RECORD_LIMIT / 8;
 
 // A block's type, if written, is the object's own.
-#[tactic(auto, using(crate::proofs::WalkSteps::type_none, crate::proofs::WalkSteps::type_same))]
+#[tactic(auto, using(crate::proofs::WalkSteps::type_none, crate::proofs::WalkSteps::type_same, crate::proofs::WalkSteps::type_order, crate::proofs::WalkSteps::type_ahead))]
 fn type_suits(inputs: &Inputs, e: Entry, block: Block) -> bool
     requires b_in_bounds { e.a + e.b ≤ length inputs.now.pool.now }
     requires block_good { BlockGood (length inputs.now.text.now) inputs.now.rows block }
     ensures { result
         ≡ type_suits (name_of inputs.now.pool.now (record_of e))
-        (type_on inputs.now.text.now block.type_start block.type_end) }
+        (type_on inputs.now.text.now block.type_name) }
 {
-    block.type_end == 0
-        || same_bytes(
-            name_of(inputs.pool, e),
-            &inputs.text[block.type_start..block.type_end],
-        )
+    match block.type_name {
+        None => true,
+        Some(part) => same_bytes(name_of(inputs.pool, e), &inputs.text[part.start..part.end]),
+    }
 }
 
 // A block by the object with a number: its type, then each attribute in table order, up to the first failure; a block

@@ -1,7 +1,6 @@
 -- Steps of the functions that try a value: the walk over items, and a value of each kind. Assumes nothing.
 use mathlib.Core.Path.{◌≡◌, refl, sym, ap, ap₂, ◌∙◌}
 use mathlib.Core.Bool.{Bool, true, false, cond, ◌||◌, or-false}
-use Rattle.std.specs.Prelude.{Option, None, Some}
 use mathlib.Core.List.{List, [], ◌∷◌, map}
 use Prim.Native.Nat.{ℕ, zero, suc, ◌+◌, ◌*◌, ◌-◌, ◌≤◌, ◌<◌}
 use native.Mathlib.Nat.{add-sub_cancel_left}
@@ -9,14 +8,11 @@ use native.Mathlib.Omega.{arith}
 use lib.Dec.{eqb, leb}
 use lib.ListN.{length, get_or, take, drop}
 use lib.Seq.{get_or-take, get_or-drop}
-use borrow.Author.Tests.{eq-eqb, ne_eqb, lt-leb, le-leb}
+use borrow.Author.Tests.{ne_eqb, lt-leb, le-leb}
 use Rattle.lexis.specs.Runs.{same}
 use Rattle.values.proofs.Common.{by_order}
-use Rattle.values.specs.Integers.{integer_of}
-use Rattle.values.specs.Dates.{date_of}
-use Rattle.values.specs.declared.dates.Date.{Date}
 use Rattle.meaning.specs.Constraints.{RangeSort, integers, dates, SingleSort, booleans, date_pattern, time_pattern, duration_pattern, single, ranges}
-use Rattle.meaning.specs.Findings.{Finding, unsuited, refuted, found, try}
+use Rattle.meaning.specs.Findings.{Finding, unsuited, found}
 use Rattle.meaning.specs.Sorts.{in_range, in_some, single_row, range_row, text_kind}
 use Rattle.meaning.specs.Admission.{is_some, word_under, string_under}
 use Rattle.table.specs.Records.{record_size, decode, field, record_in}
@@ -25,16 +21,8 @@ use Rattle.table.specs.Rows
 use Rattle.table.proofs.UseLaws.{kind_shape}
 use Rattle.table.specs.Clauses.Answers.{record_of}
 use Rattle.table.specs.declared.records.Entry.{Entry}
-use Rattle.judge_admission.specs.Clauses.Items.{name_of, NamedRecord, record_items, range_sort, record_range, range_in, text_in, ranges_from, texts_from, leaf_of_shape, record_leaf, Lies, OfKind, Chained, Spelled, ItemsGood, item_of_shape}
+use Rattle.judge_admission.specs.Clauses.Items.{name_of, NamedRecord, record_items, record_range, range_in, text_in, ranges_from, texts_from, leaf_of_shape, record_leaf, Lies, OfKind, Chained, Spelled, ItemsGood, item_of_shape}
 use Rattle.judge_admission.specs.Clauses.Answers.{finding_under, is_admitted, item_admits}
-
--- an end of an item
-pub end_signed : (signed : Bool) (x r : ℕ) → signed ≡ true → r ≡ (range_row integers).end x
-    → r ≡ (range_row (range_sort signed)).end x
-end_signed signed x r h e = rw h e
-
-pub end_plain : (signed : Bool) (x : ℕ) → signed ≡ false → x ≡ (range_row (range_sort signed)).end x
-end_plain signed x h = rw h
 
 -- a value between the ends of an item
 module _ (sort : RangeSort) (e : Entry) (v low : ℕ) (el : low ≡ (range_row sort).end e.a) where
@@ -189,14 +177,6 @@ entry_read records n at e h q = rw h at q
 pub name_part : (pool : List ℕ) (e : Entry) → take (e.a + e.b - e.a) (drop e.a pool) ≡ name_of pool (record_of e)
 name_part pool e = rw add-sub_cancel_left
 
--- a value that reads as nothing of its kind, and one that is tried
-module _ {A : Type 0} (o p : Option A) (test : A → Bool) (q : o ≡ p) where
-  pub try_none : o ≡ None → unsuited ≡ try p test
-  try_none h = rw (← q, h)
-
-  pub try_some : (v : A) (f : Finding) → o ≡ Some v → f ≡ found (test v) → f ≡ try p test
-  try_some v f h g = rw (← q, h) g
-
 -- a string under the leaf of another shape than a string's, and a word under what is no leaf's
 module _ (records pool w : List ℕ) (n : ℕ) where
   string-other : (k : ℕ) → (k ≡ text_kind → ⊥) → unsuited ≡ finding_under (leaf_of_shape records pool n (shape_of k)) true w
@@ -299,33 +279,6 @@ found_back true = refl
 found_back false = refl
 
 module _ (w : List ℕ) (e : Entry) where
-  pub integer_alone_none : (a : Option ℕ) → a ≡ integer_of w → a ≡ None
-      → false ≡ is_admitted (word_under (ranges integers (record_range integers 0 (record_of e) ∷ [])) w)
-  unfolding word_under
-  integer_alone_none a q h = ap is_admitted (try_none a _ _ q h)
-
-  pub integer_alone : (a : Option ℕ) → a ≡ integer_of w → (v : ℕ) (r : Bool) → a ≡ Some v
-      → r ≡ in_range v (record_range integers 0 (record_of e))
-      → r ≡ is_admitted (word_under (ranges integers (record_range integers 0 (record_of e) ∷ [])) w)
-  unfolding word_under in_some
-  integer_alone a q v r h t = sym (found_back r) ∙ ap is_admitted (try_some a _ _ q v (found r) h (rw or-false (ap found t)))
-
-  pub date_alone_none : (a : Option Date) → a ≡ date_of w → a ≡ None
-      → false ≡ is_admitted (word_under (ranges dates (record_range dates 0 (record_of e) ∷ [])) w)
-  unfolding word_under
-  date_alone_none a q h = ap is_admitted (try_none a _ _ q h)
-
-  module _ (a : Option Date) (q : a ≡ date_of w) (d : Date) (h : a ≡ Some d) where
-    pub date_alone_part : (d.parts ≡ 3 → ⊥)
-        → false ≡ is_admitted (word_under (ranges dates (record_range dates 0 (record_of e) ∷ [])) w)
-    unfolding word_under
-    date_alone_part z = ap is_admitted (try_some a _ _ q d refuted h (rw (ne_eqb d.parts 3 z)))
-
-    pub date_alone : (r : Bool) → d.parts ≡ 3 → r ≡ in_range d.day (record_range dates 0 (record_of e))
-        → r ≡ is_admitted (word_under (ranges dates (record_range dates 0 (record_of e) ∷ [])) w)
-    unfolding word_under in_some
-    date_alone r z t = sym (found_back r) ∙ ap is_admitted (try_some a _ _ q d (found r) h (rw (eq-eqb d.parts 3 z) (rw or-false (ap found t))))
-
   module _ (pool : List ℕ) (s : Bool) where
     pub alone_named : NamedRecord pool (record_of e) → e.kind ≡ 5 → e.a + e.b ≤ length pool
     alone_named n k = n.inside k
@@ -379,7 +332,7 @@ module _ (w : List ℕ) (e : Entry) where
         by (range integers) h = absurd (f (h refl))
         by (range dates) h = absurd (g (h refl))
 
-pub ruleset alone_steps = (integer_alone_none, integer_alone, date_alone_none, date_alone_part, date_alone, string_alone, string_alone_not, word_alone_integer, word_alone_date, word_alone_not)
+pub ruleset alone_steps = (string_alone, string_alone_not, word_alone_integer, word_alone_date, word_alone_not)
 
 -- the kind of a record, as it is read
 pub kind_read_at : (records : List ℕ) (n at : ℕ) → at ≡ record_size * n → record_size * n + record_size ≤ length records

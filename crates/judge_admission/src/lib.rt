@@ -2,13 +2,13 @@
 #![tactic(auto)]
 
 ghost use Rattle.std.specs.Prelude.{◌≡◌, [], ◌∷◌, ◌+◌, ◌*◌, ◌≤◌, length};
-ghost use Rattle.meaning.specs.Constraints.{booleans, integers, date_pattern, dates, time_pattern, duration_pattern, single, ranges};
-ghost use Rattle.meaning.specs.Findings.{found};
+ghost use Rattle.meaning.specs.Constraints.{RangeSort, booleans, integers, date_pattern, dates, time_pattern, duration_pattern, single, ranges};
+ghost use Rattle.meaning.specs.Findings.{try};
 ghost use Rattle.meaning.specs.Sorts.{in_range, in_some, range_row};
 ghost use Rattle.meaning.specs.Admission.{is_some, word_under};
 ghost use Rattle.table.specs.Records.{record_size, record_in};
 ghost use Rattle.table.specs.Clauses.Answers.{record_of};
-ghost use Rattle.judge_admission.specs.Clauses.Items.{name_of, range_sort, record_range, ranges_from, texts_from, record_leaf, Chained, Spelled, ItemsGood, NamedRecord};
+ghost use Rattle.judge_admission.specs.Clauses.Items.{name_of, record_range, ranges_from, texts_from, record_leaf, Chained, Spelled, ItemsGood, NamedRecord};
 ghost use Rattle.judge_admission.specs.Clauses.Answers.{finding_of, finding_under, is_admitted, item_admits};
 
 use lexis::runs::same_bytes;
@@ -48,43 +48,66 @@ pub fn kind_of(records: &[u8], n: RecordNumber) -> u8
     records[at]
 }
 
-// A value that was tried is admitted or is not.
-fn tried(good: bool) -> Admission
-    ensures { finding_of result ≡ found good }
+// A value that does not read as its kind is unsuited; one that was tried is admitted or is not.
+fn tried(good: Option<bool>) -> Admission
+    ensures { finding_of result ≡ try good (λ b. b) }
 {
-    if good {
-        Admission::Admitted
-    } else {
-        Admission::Refuted
+    match good {
+        None => Admission::Unsuited,
+        Some(false) => Admission::Refuted,
+        Some(true) => Admission::Admitted,
     }
 }
 
-// An end of an item: of an integer's, as its distance from the lowest integer.
-#[tactic(auto, using(crate::proofs::ItemSteps::end_signed, crate::proofs::ItemSteps::end_plain))]
-fn end_of(signed: bool, x: u32) -> u32
-    ensures { result ≡ (range_row (range_sort signed)).end x }
-{
-    if signed { twos_complement(x) } else { x }
+// What an end of an item is.
+trait Ends {
+    ghost sort: { RangeSort };
+
+    // The end that a record's field stands for.
+    fn end_of(x: u32) -> u32
+        ensures { result ≡ (range_row sort).end x };
+}
+
+// An end of an integer's item is its distance from the lowest integer.
+struct Integers;
+
+// An end of a date's item is its day.
+struct Dates;
+
+impl Ends for Integers {
+    ghost sort = { integers };
+
+    fn end_of(x: u32) -> u32 {
+        twos_complement(x)
+    }
+}
+
+impl Ends for Dates {
+    ghost sort = { dates };
+
+    fn end_of(x: u32) -> u32 {
+        x
+    }
 }
 
 // The value lies between the ends of an item.
 #[tactic(auto, using(crate::proofs::ItemSteps::range_below, crate::proofs::ItemSteps::range_above))]
-fn in_range(signed: bool, e: Entry, value: u32) -> bool
-    ensures { result ≡ in_range value (record_range (range_sort signed) 0 (record_of e)) }
+fn in_range<E: Ends>(e: Entry, value: u32) -> bool
+    ensures { result ≡ in_range value (record_range E.sort 0 (record_of e)) }
 {
-    end_of(signed, e.a) <= value && value <= end_of(signed, e.b)
+    E::end_of(e.a) <= value && value <= E::end_of(e.b)
 }
 
 // The value lies in some item of those from a record on, from link to link.
 #[tactic(auto, using(crate::proofs::ItemSteps::items_start, crate::proofs::ItemSteps::items_lies, crate::proofs::ItemSteps::ranges_end, crate::proofs::ItemSteps::ranges_found, crate::proofs::ItemSteps::ranges_next, crate::proofs::ItemSteps::ranges_less))]
-fn in_some(records: &[u8], first: RecordNumber, signed: bool, value: u32) -> bool
-    requires { Chained records.now (range_row (range_sort signed)).kind first.0 }
-    ensures { result ≡ in_some value (ranges_from (range_sort signed) records.now first.0) }
+fn in_some<E: Ends>(records: &[u8], first: RecordNumber, value: u32) -> bool
+    requires { Chained records.now (range_row E.sort).kind first.0 }
+    ensures { result ≡ in_some value (ranges_from E.sort records.now first.0) }
 {
     let mut n = first.0;
     while n != 0 {
         let range = entry_at(records, RecordNumber(n));
-        if in_range(signed, range, value) {
+        if in_range::<E>(range, value) {
             return true;
         }
         n = range.e;
@@ -127,10 +150,7 @@ fn is_some(records: &[u8], pool: &[u8], first: RecordNumber, value: &[u8]) -> bo
 fn boolean_under(flag: u8, value: &[u8]) -> Admission
     ensures { finding_of result ≡ word_under (single booleans 0 flag) value.now }
 {
-    match boolean_of(value) {
-        Some(v) => tried(flag == v || flag == 3),
-        None => Admission::Unsuited,
-    }
+    tried(boolean_of(value).map(|v| flag == v || flag == 3))
 }
 
 // A word under integers.
@@ -140,10 +160,7 @@ fn integer_under(records: &[u8], first: RecordNumber, value: &[u8]) -> Admission
     ensures { finding_of result
         ≡ word_under (ranges integers (ranges_from integers records.now first.0)) value.now }
 {
-    match integer_of(value) {
-        Some(v) => tried(in_some(records, first, true, v)),
-        None => Admission::Unsuited,
-    }
+    tried(integer_of(value).map(|v| in_some::<Integers>(records, first, v)))
 }
 
 // A word under a date pattern.
@@ -151,10 +168,7 @@ fn integer_under(records: &[u8], first: RecordNumber, value: &[u8]) -> Admission
 fn date_pattern_under(flag: u8, value: &[u8]) -> Admission
     ensures { finding_of result ≡ word_under (single date_pattern 0 flag) value.now }
 {
-    match date_of(value) {
-        Some(date) => tried(fits_date(flag, date.parts)),
-        None => Admission::Unsuited,
-    }
+    tried(date_of(value).map(|date| fits_date(flag, date.parts)))
 }
 
 // A word under date intervals, which admit full dates only.
@@ -164,10 +178,7 @@ fn date_under(records: &[u8], first: RecordNumber, value: &[u8]) -> Admission
     ensures { finding_of result
         ≡ word_under (ranges dates (ranges_from dates records.now first.0)) value.now }
 {
-    match date_of(value) {
-        Some(date) => tried(date.parts == 3 && in_some(records, first, false, date.day)),
-        None => Admission::Unsuited,
-    }
+    tried(date_of(value).map(|date| date.parts == 3 && in_some::<Dates>(records, first, date.day)))
 }
 
 // A word under a time pattern.
@@ -175,10 +186,7 @@ fn date_under(records: &[u8], first: RecordNumber, value: &[u8]) -> Admission
 fn time_pattern_under(flag: u8, value: &[u8]) -> Admission
     ensures { finding_of result ≡ word_under (single time_pattern 0 flag) value.now }
 {
-    match time_of(value) {
-        Some(parts) => tried(fits_time(flag, parts)),
-        None => Admission::Unsuited,
-    }
+    tried(time_of(value).map(|parts| fits_time(flag, parts)))
 }
 
 // A word under a Duration pattern.
@@ -186,34 +194,25 @@ fn time_pattern_under(flag: u8, value: &[u8]) -> Admission
 fn duration_pattern_under(flag: u8, value: &[u8]) -> Admission
     ensures { finding_of result ≡ word_under (single duration_pattern 0 flag) value.now }
 {
-    match duration_of(value) {
-        Some(filled) => tried(fits_duration(flag, filled)),
-        None => Admission::Unsuited,
-    }
+    tried(duration_of(value).map(|filled| fits_duration(flag, filled)))
 }
 
 // A word lies between the ends of an item of integers.
-#[tactic(auto, using(crate::proofs::ItemSteps::alone_steps))]
+#[tactic(auto, unfolding(meaning::specs::Admission::word_under, meaning::specs::Sorts::in_some))]
 fn integer_in(e: Entry, value: &[u8]) -> bool
     ensures { result
         ≡ is_admitted (word_under (ranges integers (record_range integers 0 (record_of e) ∷ [])) value.now) }
 {
-    match integer_of(value) {
-        Some(v) => in_range(true, e, v),
-        None => false,
-    }
+    integer_of(value).is_some_and(|v| in_range::<Integers>(e, v))
 }
 
 // A word is a full date between the ends of an item of dates.
-#[tactic(auto, using(crate::proofs::ItemSteps::alone_steps))]
+#[tactic(auto, unfolding(meaning::specs::Admission::word_under, meaning::specs::Sorts::in_some))]
 fn date_in(e: Entry, value: &[u8]) -> bool
     ensures { result
         ≡ is_admitted (word_under (ranges dates (record_range dates 0 (record_of e) ∷ [])) value.now) }
 {
-    match date_of(value) {
-        Some(date) => date.parts == 3 && in_range(false, e, date.day),
-        None => false,
-    }
+    date_of(value).is_some_and(|date| date.parts == 3 && in_range::<Dates>(e, date.day))
 }
 
 // An item of a list admits a value by itself.
@@ -251,7 +250,7 @@ pub fn admit(
     if is_string {
         return match e.kind {
             0..=4 => Admission::Unsuited,
-            5 => tried(is_some(records, pool, first, value)),
+            5 => tried(Some(is_some(records, pool, first, value))),
             6..=255 => Admission::Unsuited,
         };
     }

@@ -20,7 +20,7 @@ use Rattle.meaning.specs.Verdicts.{Verdict, valid, fails}
 use Rattle.meaning.specs.Admission.{leaf_number}
 use Rattle.meaning.specs.Judging.{place_of, verdict_of, member_of, judge_member, judge_leaf, judge_content, judge_value}
 use Rattle.dadl.specs.Clauses.Tape.{is_block, is_string, row_number}
-use Rattle.dadl.specs.Clauses.Rows.{row_at, TapeGood}
+use Rattle.dadl.specs.Clauses.Rows.{row_at, TapeGood, linked}
 use Rattle.table.specs.Records.{Image, field, record_in}
 use Rattle.table.specs.Rows.{shape_of, object_kind, items}
 use Rattle.table.specs.Check.{kind_at}
@@ -31,7 +31,8 @@ use Rattle.table.specs.declared.records.RecordNumber.{RecordNumber}
 use Rattle.judge_admission.specs.Clauses.Items.{name_of, record_leaf, Lies, ItemsGood, image_from}
 use Rattle.judge_admission.specs.Clauses.Answers.{finding_of, finding_under}
 use Rattle.judge_attributes.specs.Clauses.Answers.{leaf_verdict, failed}
-use Rattle.judge_tape.specs.Clauses.Rows.{content_on, members_on, datum_on, member_row, Begins, LeafRow, block_on, MembersWithin, ContentWithin, Walk}
+use Rattle.dadl.specs.declared.tokens.Part.{Part}
+use Rattle.judge_tape.specs.Clauses.Rows.{type_at, type_on, TypeGood, content_on, members_on, datum_on, member_row, Begins, LeafRow, block_on, MembersWithin, ContentWithin, Walk}
 use Rattle.judge_attributes.specs.Clauses.Attributes.{judge_first, ValueLink, AttributeAt, Leads, ValueIs, AttributeAnswerIs}
 use Rattle.judge_tape.specs.Clauses.Memo.{KnownIs}
 use Rattle.judge_admission.specs.declared.Admission.{Admission}
@@ -42,10 +43,21 @@ use Rattle.judge_tape.proofs.MemberSteps.{found_on, FoundIs, member_holds}
 use Rattle.judge_admission.proofs.TableLaws.{by_kind, number_lies, kind_there, link_there, name_there, items_there, object_tree, attribute_tree, leaf_there}
 
 -- a block, as it is read
-pub block_read : (tape : List ℕ) (n place start end inside : ℕ) → place ≡ row_number (row_at tape n) 3
-    → start ≡ row_number (row_at tape n) 4 → end ≡ row_number (row_at tape n) 5 → inside ≡ row_number (row_at tape n) 7
-    → record { place = place; type_start = start; type_end = end; first = n + 1; inside = inside } ≡ block_on tape n
-block_read tape n place start end inside p a e i = λ j. record { place = p j; type_start = a j; type_end = e j; first = n + 1; inside = i j }
+pub block_read : (tape : List ℕ) (n place start end inside : ℕ) (t : Option Part) → place ≡ row_number (row_at tape n) 3
+    → start ≡ row_number (row_at tape n) 4 → end ≡ row_number (row_at tape n) 5 → t ≡ type_at start end
+    → inside ≡ row_number (row_at tape n) 7
+    → record { place = place; type_name = t; first = n + 1; inside = inside } ≡ block_on tape n
+block_read tape n place start end inside t p a e k i =
+    let h : t ≡ type_at (row_number (row_at tape n) 4) (row_number (row_at tape n) 5) = rw (← a, ← e) k in
+    λ j. record { place = p j; type_name = h j; first = n + 1; inside = i j }
+
+-- a type between two places in a text lies in it
+type_lies : (size start end : ℕ) → start ≤ end → end ≤ size → TypeGood size (type_at start end)
+type_lies size start end h l = by (eqb end 0)
+  where
+    by : (b : Bool) → TypeGood size (cond b None (Some (record { start = start; end = end })))
+    by true = tt
+    by false = (h, l)
 
 -- a number that is not 0
 pub value_some : (n : ℕ) → (n ≡ 0 → ⊥) → 1 ≤ n
@@ -73,11 +85,23 @@ module _ (s : List ℕ) (rows : ℕ) (tape : List ℕ) (n start end : ℕ) (g : 
       let row = row_at tape n in
       ev ∙ ap (verdict_of first place) ea ∙ λ j. verdict_of first (ep j) (finding_under (record_leaf records pool first) (eqb (eh j) 1) (part s (es j) (ee j)))
 
+-- the type between two places, as a text spells it
+type_read : (s : List ℕ) (start end : ℕ)
+    → cond (eqb end 0) None (Some (part s start end)) ≡ type_on s (type_at start end)
+type_read s start end = by (eqb end 0)
+  where
+    by : (b : Bool)
+        → cond b None (Some (part s start end)) ≡ type_on s (cond b None (Some (record { start = start; end = end })))
+    by true = refl
+    by false = refl
+
 -- what a row holds: a block, or a string or a word
 module _ (s : List ℕ) (rows : ℕ) (tape : List ℕ) (n : ℕ) where
   pub content_block : row_number (row_at tape n) 0 ≡ 0
       → content_on s rows tape n ≡ Data.block (datum_on s rows tape (block_on tape n))
-  content_block h = rw h
+  content_block h =
+      let row = row_at tape n in
+      rw h (ap (λ t. Data.block (Data.datum (row_number row 3) t (linked s rows tape (row_number row 7) (n + 1)))) (type_read s (row_number row 4) (row_number row 5)))
 
   -- a leaf under an object
   leaf_under_object : (number·object : ℕ) (inside : Data.Datum → Verdict) → (row_number (row_at tape n) 0 ≡ 0 → ⊥)
@@ -159,7 +183,7 @@ module _ (records pool s tape : List ℕ) (rows : ℕ) (value : RecordNumber) (r
               is = ap (λ x. judge_value (value_in (tree_at (image_from records pool) value.0)) x) (ap Data.block (sym d) ∙ sym c);
               leads = (
                 kind_read ∙ ek,
-                rw eb (record { order = g.type_start; ahead = g.type_end; begins = record { there = λ k. g.inside (sym eh ∙ ez) k } }),
+                rw eb (record { lies = type_lies (length s) _ _ g.type_start g.type_end; begins = record { there = λ k. g.inside (sym eh ∙ ez) k } }),
                 rw eb (record { there = omega arith; holds = λ _. let r : row + 1 - 1 ≡ row = omega arith in rw r (sym eh ∙ ez); is = λ _. let r : row + 1 - 1 ≡ row = omega arith in rw r }),
                 λ levels k. subst (λ x. ContentWithin x levels) (c ∙ ap Data.block d) k,
               );

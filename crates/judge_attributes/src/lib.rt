@@ -16,7 +16,7 @@ ghost use Rattle.judge_tape.specs.Clauses.Memo.{MemoGood};
 
 use judge_admission::{Admission, admit, kind_of, name_of};
 use judge_tape::inputs::Inputs;
-use judge_tape::members::{Block, find_member, number};
+use judge_tape::members::{Block, find_member, number, type_at};
 use judge_tape::memo::is_known;
 use meaning::{PROHIBITED, REQUIRED};
 use table::layout::OBJECT_KIND;
@@ -138,8 +138,7 @@ fn block_at(tape: &[u16], row: usize) -> Block
 {
     Block {
         place: number(tape, row, 3),
-        type_start: number(tape, row, 4),
-        type_end: number(tape, row, 5),
+        type_name: type_at(number(tape, row, 4), number(tape, row, 5)),
         first: row + 1,
         inside: number(tape, row, 7),
     }

@@ -341,12 +341,12 @@ module _ (records pool s tape memo : List ℕ) (rows row base : ℕ) (k : Walk r
         admits = λ n p b t. rw (eh, es, ee) (h.leaves row n l.leaf p b (rw (← eb) t));
       }
 
-  pub row-marked : (after : List ℕ) → Marks memo base after → (start end holds : ℕ)
+  pub row_marked : (after : List ℕ) → Marks memo base after → (start end holds : ℕ)
       → start ≡ row_number (row_at tape row) 6
       → end ≡ row_number (row_at tape row) 7 → holds ≡ row_number (row_at tape row) 0
       → (last : List ℕ) → ItemsMarked records pool after base (eqb holds 1) (take (end - start) (drop start s)) last
       → MemoGood records pool s tape rows last
-  row-marked after m start end holds es ee eh last i =
+  row_marked after m start end holds es ee eh last i =
       memo_listed records pool s tape rows after last (memo_entered records pool s tape rows memo after g row base eb m) row base eb l.leaf (take (end - start) (drop start s)) (eqb holds 1) (rw (es, ee)) (rw eh) i
 
   -- what a visit makes of the memo

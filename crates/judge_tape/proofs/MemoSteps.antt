@@ -81,10 +81,10 @@ unfolding marked
 marked_outside memo i h = rw (get_or-eq_default memo 0 {n = i / 8} h) (sym (no_bit (i % 8) (omega arith)))
 
 -- a bit that is set, and one behind the end
-pub mark-inside : (memo : List ℕ) (i b r : ℕ) → b ≡ get_or memo (i / 8) 0 → b < 256 → i / 8 < length memo
+pub mark_inside : (memo : List ℕ) (i b r : ℕ) → b ≡ get_or memo (i / 8) 0 → b < 256 → i / 8 < length memo
     → r ≡ with_bit b (i % 8) → Marks memo i (set memo (i / 8) r)
 unfolding marked
-mark-inside memo i b r eb lb li er = record {
+mark_inside memo i b r eb lb li er = record {
   set = λ h. rw (get_or-set_same memo (i / 8) r 0 li, er) (bit_set b (i % 8) lb (omega arith));
   other = λ j n. by j n (eqb (j / 8) (i / 8)) refl;
 }

@@ -50,6 +50,7 @@ fn is_marked(memo: &[u8], i: usize) -> bool
 }
 
 // Sets the bit with a number, if it is not behind the memo's end.
+#[tactic(auto, using(crate::proofs::MemoSteps::mark_inside, crate::proofs::MemoSteps::mark_outside, crate::proofs::MemoSteps::bit_inside, crate::proofs::MemoSteps::bit_outside))]
 fn mark(memo: &mut [u8], i: usize)
     ensures memo_after { memo.new ≡ mark_bit memo.old i }
     ensures marks { Marks memo.old i memo.new }
@@ -77,6 +78,7 @@ fn pair(visit: Visit, n: u32) -> usize
 }
 
 // Visits a block. The outermost block is judged once.
+#[tactic(auto, using(crate::proofs::MemoSteps::base_fits, crate::proofs::MemoSteps::base_near, crate::proofs::MemoSteps::visit_outermost, crate::proofs::MemoSteps::visit_row, crate::proofs::MemoSteps::visit_bit, crate::proofs::MemoSteps::visit_marks, crate::proofs::MemoSteps::seen_outermost, crate::proofs::MemoSteps::seen_row))]
 pub fn enter(records: &[u8], memo: &mut [u8], block: Block) -> Visit
     requires { base_of records.now block ≤ 8388608 }
     ensures visit_of { VisitOf records.now block result }
@@ -106,6 +108,7 @@ pub fn is_admitted(memo: &[u8], visit: Visit, n: u32) -> bool
 
 // Marks the attributes from a record on as admitting the block, up to the first that is marked; on a block's first visit
 // none.
+#[tactic(auto, using(crate::proofs::MemoSteps::chain_none, crate::proofs::MemoSteps::chain_first, crate::proofs::MemoSteps::chain_start))]
 pub fn mark_chain(records: &[u8], memo: &mut [u8], visit: Visit, first: u32)
     requires chain_good { ChainGood records.now first }
     requires base_bound { visit.base ≤ 8388608 }
@@ -124,6 +127,7 @@ pub fn mark_chain(records: &[u8], memo: &mut [u8], visit: Visit, first: u32)
 }
 
 // Takes one from the visits of attributes that are left. With a memo there need be none.
+#[tactic(auto, using(crate::proofs::ListSteps::visits_none, crate::proofs::ListSteps::visits_some, crate::proofs::ListSteps::visits_spent))]
 pub fn may_visit(memo: &[u8], visits: &mut u32) -> bool
     ensures value { result ≡ may_visit (length memo.now) visits.old }
     ensures visits_after { visits.new ≡ visits.old - 1 }
@@ -209,6 +213,7 @@ fn mark_items(
 }
 
 // Visits a row that holds a string or a word: on the first visit its items are marked.
+#[tactic(auto, using(crate::proofs::MemberSteps::value_order, crate::proofs::MemberSteps::value_ends, crate::proofs::ListSteps::leaf_again, crate::proofs::ListSteps::leaf_first))]
 fn enter_leaf(inputs: &Inputs, memo: &mut [u8], base: usize, row: usize)
     requires leaf_row { LeafRow inputs.now.rows inputs.now.tape.now row }
     requires memo_good { MemoGood inputs.now.records.now inputs.now.pool.now inputs.now.text.now inputs.now.tape.now inputs.now.rows memo.old }
@@ -237,6 +242,7 @@ fn enter_leaf(inputs: &Inputs, memo: &mut [u8], base: usize, row: usize)
 }
 
 // Whether the memo knows that the items from a record on admit the string or word of a row.
+#[tactic(auto, using(crate::proofs::ListSteps::memo_none, crate::proofs::ListSteps::memo_unknown, crate::proofs::ListSteps::memo_told, crate::proofs::ListSteps::none_known, crate::proofs::ListSteps::row_base, crate::proofs::ListSteps::row_known))]
 pub fn is_known(inputs: &Inputs, memo: &mut [u8], first: RecordNumber, row: usize) -> bool
     requires leaf_row { LeafRow inputs.now.rows inputs.now.tape.now row }
     requires le_first { (1 ≤ first.0) × Lies inputs.now.records.now first.0 }

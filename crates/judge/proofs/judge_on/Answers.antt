@@ -11,12 +11,12 @@ returns-in_err-data c =
 
 pub invariant_of-inputs : goal.invariant_of-inputs
 invariant_of-inputs c = record {
-  walk = (text_under _ _ _ _ c.requires.table_good c.requires.root_value _ _ _ c.read_data.ensures _ c.in_ok-data.was c.requires.tape_room).walk;
+  walk = (text_under _ _ _ _ c.requires.table_good c.requires.root_value _ _ _ c.read_data.ensures _ c.in_ok-data.was c.requires.tape_room _ c.type_at.ensures).walk;
 }
 
 pub judge_block-requires : goal.judge_block-requires
 judge_block-requires c = record {
-  under = text_under _ _ _ _ c.requires.table_good c.requires.root_value _ _ _ c.read_data.ensures _ c.in_ok-data.was c.requires.tape_room;
+  under = text_under _ _ _ _ c.requires.table_good c.requires.root_value _ _ _ c.read_data.ensures _ c.in_ok-data.was c.requires.tape_room _ c.type_at.ensures;
   memo_good = memo_zeros _ _ _ _ _ 0;
 }
 
@@ -24,8 +24,8 @@ pub returns-in_err-judge_block : goal.returns-in_err-judge_block
 returns-in_err-judge_block c =
     let p = err_from_is_err_and c.from_residual-in_err-judge_block.result c.from_residual-in_err-judge_block.ensures.1 in
     rw (p.1, p.2)
-    (text_judged _ _ _ _ c.requires.table_good c.requires.root_value _ _ _ c.read_data.ensures _ c.in_ok-data.was c.requires.tape_room _ c.in_err-judge_block.ensures.result_value)
+    (text_judged _ _ _ _ c.requires.table_good c.requires.root_value _ _ _ c.read_data.ensures _ c.in_ok-data.was c.requires.tape_room _ c.type_at.ensures _ c.in_err-judge_block.ensures.result_value)
 
 pub returns : goal.returns
 returns c =
-    text_judged _ _ _ _ c.requires.table_good c.requires.root_value _ _ _ c.read_data.ensures _ c.in_ok-data.was c.requires.tape_room _ c.in_ok-judge_block.ensures.result_value
+    text_judged _ _ _ _ c.requires.table_good c.requires.root_value _ _ _ c.read_data.ensures _ c.in_ok-data.was c.requires.tape_room _ c.type_at.ensures _ c.in_ok-judge_block.ensures.result_value

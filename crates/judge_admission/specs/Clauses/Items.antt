@@ -1,6 +1,6 @@
 -- Records and items as a walker of their bytes meets them: the record with a number, the items from link to link, and the leaf that they make; and where they must lie. Assumes
 -- nothing.
-use Rattle.std.specs.Prelude.{◌≡◌, Bool, true, false, cond, List, [], ◌∷◌, ◌++◌, map, ℕ, zero, suc, ◌+◌, ◌*◌, ◌≤◌, ◌<◌, eqb, length, take, drop}
+use Rattle.std.specs.Prelude.{◌≡◌, true, cond, List, [], ◌∷◌, ◌++◌, map, ℕ, zero, suc, ◌+◌, ◌*◌, ◌≤◌, ◌<◌, eqb, length, take, drop}
 use Rattle.std.specs.Prelude.{Option, None, Some}
 use Rattle.meaning.specs.Constraints.{RangeSort, integers, dates, Range, Text, Leaf, ranges, texts}
 use Rattle.meaning.specs.Constraints
@@ -18,11 +18,6 @@ unfoldable pub record_items : List ℕ → ℕ → ℕ → List ℕ
 record_items records zero n = []
 record_items records (suc fuel) n =
     let more = record_items records fuel (field (record_in records n) 4) in cond (eqb n 0) [] (n ∷ more)
-
--- the sort of a list, as the code tells it: integers have signs
-abbrev pub range_sort : Bool → RangeSort
-range_sort true = integers
-range_sort false = dates
 
 abbrev pub record_range : RangeSort → ℕ → Record → Range
 record_range sort n r =

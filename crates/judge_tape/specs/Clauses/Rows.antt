@@ -1,17 +1,27 @@
 -- The rows of a tape as the walk meets them: what they hold, what a search among them finds, and what a walk relies on. Assumes nothing.
-use Rattle.std.specs.Prelude.{◌≡◌, cond, List, ℕ, zero, suc, ◌+◌, ◌-◌, ◌≤◌, ◌<◌, eqb, length}
-use Rattle.std.specs.Prelude.{Option, None, Some}
+use Rattle.std.specs.Prelude.{⊤, ◌≡◌, cond, List, ℕ, zero, suc, ◌+◌, ◌-◌, ◌≤◌, ◌<◌, eqb, length}
+use Rattle.std.specs.Prelude.{Option, None, Some, option_map as map}
 use Rattle.lexis.specs.Runs.{part, same}
 use Rattle.meaning.specs.Data.{Datum, datum, Members, member, Content, string, word}
 use Rattle.meaning.specs.Data
+use Rattle.dadl.specs.declared.tokens.Part.{Part}
 use Rattle.dadl.specs.Clauses.Tape.{row_number, content_in, HoldsBlock, HoldsLeaf}
 use Rattle.dadl.specs.Clauses.Rows.{row_at, TapeGood, linked}
 use Rattle.judge_admission.specs.Clauses.Items.{TableGood}
 use Rattle.judge_tape.specs.declared.members.Block.{Block}
 
--- a text's type by its two places, none where the second is 0
-abbrev pub type_on : List ℕ → ℕ → ℕ → Option (List ℕ)
-type_on s start end = cond (eqb end 0) None (Some (part s start end))
+-- the type between two places, none where the second is 0
+abbrev pub type_at : ℕ → ℕ → Option Part
+type_at start end = cond (eqb end 0) None (Some (record { start = start; end = end }))
+
+-- a type as a text spells it, if there is one
+abbrev pub type_on : List ℕ → Option Part → Option (List ℕ)
+type_on s t = map (λ (p : Part). part s p.start p.end) t
+
+-- a type, if there is one, lies in a text of a size
+abbrev pub TypeGood : ℕ → Option Part → Type 0
+TypeGood size None = ⊤
+TypeGood size (Some p) = (p.start ≤ p.end) × (p.end ≤ size)
 
 module _ (s : List ℕ) (rows : ℕ) (tape : List ℕ) where
   -- what the member of a row holds
@@ -23,7 +33,7 @@ module _ (s : List ℕ) (rows : ℕ) (tape : List ℕ) where
   members_on b = linked s rows tape b.inside b.first
 
   abbrev pub datum_on : Block → Datum
-  datum_on b = datum b.place (type_on s b.type_start b.type_end) (members_on b)
+  datum_on b = datum b.place (type_on s b.type_name) (members_on b)
 
 -- the row of the first member with a name, of the members from row n on, from link to link; `fuel` bounds how many
 unfoldable pub row_from : List ℕ → List ℕ → List ℕ → ℕ → ℕ → Option ℕ
@@ -43,8 +53,7 @@ pub record Begins (rows first inside : ℕ) : Type 0 where
 
 -- a block's type lies in a text of a size, and its members on the tape
 pub record BlockGood (size rows : ℕ) (b : Block) : Type 0 where
-  pub order : b.type_start ≤ b.type_end
-  pub ahead : b.type_end ≤ size
+  pub lies : TypeGood size b.type_name
   pub begins : Begins rows b.first b.inside
 
 -- a row of the tape that holds a string or a word
@@ -58,8 +67,7 @@ block_on tape n =
     let row = row_at tape n in
     record {
       place = row_number row 3;
-      type_start = row_number row 4;
-      type_end = row_number row 5;
+      type_name = type_at (row_number row 4) (row_number row 5);
       first = n + 1;
       inside = row_number row 7;
     }
