@@ -1,6 +1,9 @@
 -- What holds of a buffer that bytes of standard input were read into, of which nothing can be said; so many bytes of a buffer, and the front of one buffer copied to another. Assumes nothing.
 use Rattle.std.specs.Prelude.{◌≡◌, false, ◌||◌, cond, List, ℕ, ◌≤◌, ◌<◌, eqb, ltb, length, get_or, take, drop, Option, Some, None, IfSome}
 use Rattle.std.proofs.lemmas.List.Edits.{sets}
+use Rattle.std.specs.declared.result.Result.{Result}
+use Rattle.std.specs.declared.result.Result.TheVariants.{Ok, Err}
+use Rattle.refusals.specs.declared.Refusal.{Refusal}
 use Rattle.table.specs.Order.{get}
 use Rattle.vectors.specs.declared.reading.Head.{Head}
 
@@ -29,3 +32,8 @@ cut n buf = cond (ltb n (length buf)) n (length buf)
 pub record Copied (from before after : List ℕ) : Type 0 where
   pub is : after ≡ sets before 0 (take (length before) from)
   pub long : length after ≡ length before
+
+-- how long the table is that was compiled, 0 where there is none
+abbrev pub length_or_nought : Result ℕ Refusal → ℕ
+length_or_nought (Ok length) = length
+length_or_nought (Err r) = 0

@@ -1,11 +1,16 @@
 // The answers of the jobs, printed.
+ghost use Rattle.std.specs.Prelude.{◌≡◌};
+ghost use Rattle.vectors.specs.Reading.{length_or_nought};
+
 use crate::output::{say, say_number, say_refusal};
 use judge::Denial;
 use refusals::Refusal;
 use table_merge::{MergeRefusal, Merged};
 
 // What compiling answers; how long the table is, 0 where there is none.
-pub fn say_compile(answer: Result<usize, Refusal>) -> usize {
+pub fn say_compile(answer: Result<usize, Refusal>) -> usize
+    ensures { result ≡ length_or_nought answer }
+{
     match answer {
         Ok(length) => {
             say_number(b" length ", length as u64);
