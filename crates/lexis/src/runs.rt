@@ -17,15 +17,19 @@ pub trait Class {
 }
 
 // Digits.
+#[derive(Clone, Copy)]
 pub struct Digit;
 
 // The bytes of words.
+#[derive(Clone, Copy)]
 pub struct Word;
 
 // The bytes of strings.
+#[derive(Clone, Copy)]
 pub struct Text;
 
 // The bytes of runs of data text.
+#[derive(Clone, Copy)]
 pub struct Run;
 
 impl Class for Digit {
@@ -95,9 +99,13 @@ fn token_here(s: &[u8], at: usize, inside: bool) -> bool
     if inside {
         return false;
     }
-    match s[at] {
-        b'-' => byte_at(s, at + 1) != b'-',
-        b => b'-' < b || !is_blank(b),
+    let b = s[at];
+    if b'-' < b {
+        true
+    } else if b == b'-' {
+        byte_at(s, at + 1) != b'-'
+    } else {
+        !is_blank(b)
     }
 }
 

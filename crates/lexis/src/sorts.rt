@@ -53,7 +53,7 @@ pub fn byte_at(s: &[u8], at: usize) -> u8
 pub fn is_blank(b: u8) -> bool
     ensures { result ≡ is blank b }
 {
-    matches!(b, b' ' | b'\t' | b'\r' | b'\n')
+    b == b' ' || matches!(b, b'\t' | b'\n' | b'\r')
 }
 
 // CR or LF, which end a comment.
@@ -88,12 +88,18 @@ pub fn is_capital(b: u8) -> bool
     matches!(b, b'A'..=b'Z')
 }
 
-// A letter, a digit or `_`.
+// A letter, a digit or `_`. Small letters are tested first, since most bytes of names are: one pattern of all four took twice the instructions.
 #[tactic(auto, unfolding(crate::specs::Bytes::sort_of, crate::specs::Bytes::word_byte))]
 pub fn word_byte(b: u8) -> bool
     ensures { result ≡ word_byte b }
 {
-    matches!(b, b'a'..=b'z' | b'A'..=b'Z' | b'0'..=b'9' | b'_')
+    if b'a' <= b {
+        b <= b'z'
+    } else if b'A' <= b {
+        b <= b'Z' || b == b'_'
+    } else {
+        is_digit(b)
+    }
 }
 
 // A byte that a string may hold.

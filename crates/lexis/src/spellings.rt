@@ -22,9 +22,11 @@ pub trait Words {
 }
 
 // The words that are no NAME.
+#[derive(Clone, Copy)]
 pub struct Keywords;
 
 // The words that are no TYPE.
+#[derive(Clone, Copy)]
 pub struct Booleans;
 
 impl Words for Keywords {

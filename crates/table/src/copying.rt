@@ -3,10 +3,12 @@ ghost use Rattle.std.specs.Prelude.{◌≡◌, ◌+◌, ◌-◌, ◌≤◌, leng
 ghost use Rattle.std.proofs.lemmas.List.Edits.{sets};
 
 // The bytes from a place on, put at a place of others.
+#[tactic(auto, using(crate::proofs::CopySteps::of_copies))]
 pub fn copy_bytes(bytes: &[u8], from: usize, out: &mut [u8], to: usize)
     requires { (from ≤ length bytes.now) × (to + (length bytes.now - from) ≤ length out.old) }
     ensures { out.new ≡ sets out.old to (drop from bytes.now) }
 {
-    let end = to + (bytes.len() - from);
-    out[to..end].copy_from_slice(&bytes[from..]);
+    for i in 0..bytes.len() - from {
+        out[to + i] = bytes[from + i];
+    }
 }
