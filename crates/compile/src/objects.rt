@@ -46,7 +46,15 @@ pub fn read_object(
     let head = object_head(s, levels, p.next, p.place)?;
     let t = token_at(s, head.next);
     let any = t.sort == STAR;
-    let q = open_object(s, little, p, head, any, buffers);
+    let q = open_object(
+        s,
+        little,
+        p,
+        head,
+        any,
+        &mut buffers.records,
+        &mut buffers.bytes,
+    );
     if any {
         return close_object(s, q, t.end);
     }
@@ -100,7 +108,7 @@ fn read_attribute(
         buffers.old.bytes buffers.new.names buffers.new.records buffers.new.bytes result }
 {
     let head = attribute_head(s, &buffers.names, first, top, p.next, p.place)?;
-    let inner = keep_name(s, p, head, buffers, top);
+    let inner = keep_name(s, p, head, &mut buffers.bytes, &mut buffers.names, top);
     let q = read_value(s, little, levels, inner, top + 1, buffers)?;
     close_attribute(s, little, p, head, q, &mut buffers.records)
 }
@@ -125,6 +133,6 @@ fn read_value(
     match t.sort {
         STAR => Ok(Spot { place: t.end, ..p }),
         TYPE_NAME => read_object(s, little, levels, p, top, buffers),
-        _ => write_leaf(s, little, p, t, buffers),
+        _ => write_leaf(s, little, p, t, &mut buffers.records, &mut buffers.bytes),
     }
 }

@@ -11,14 +11,14 @@ ghost use Rattle.compile_emission.specs.Clauses.Answers.{first_link, typed_row, 
 
 use crate::pool::{place_of, put_part};
 use crate::rows::{link_below, put_row};
-use crate::spots::{AttributeEnd, Buffers, NAMES_ROOM, Spot};
+use crate::spots::{AttributeEnd, NAMES_ROOM, Spot};
 use cadl_items::spans::narrow;
 use cadl_objects::heads::{AttributeHead, ObjectHead};
 use lexis::CLOSE_BRACE;
 use lexis::tokens::token_at;
 use refusals::Refusal;
 use refusals::steps::expect;
-use table::layout::{ATTRIBUTE_KIND, OBJECT_KIND, RECORDS_ROOM};
+use table::layout::{ATTRIBUTE_KIND, OBJECT_KIND, POOL_ROOM, RECORDS_ROOM};
 use table::records::{Entry, plain};
 
 // The number of an object's first attribute, 0 where any may follow.
@@ -54,18 +54,17 @@ pub fn open_object(
     p: Spot,
     head: ObjectHead,
     any: bool,
-    buffers: &mut Buffers,
+    records: &mut [u8; RECORDS_ROOM],
+    bytes: &mut [u8; POOL_ROOM],
 ) -> Spot
     requires room { Room s.now p }
     requires typed_past { TypedPast s.now p.next p.place head.type_start head.type_end head.code_start head.code_end head.next }
-    ensures object_put { ObjectPut (part s.now head.type_start head.type_end)
-        (part s.now head.code_start head.code_end) little p head.next any buffers.old.records buffers.old.bytes
-        buffers.new.records buffers.new.bytes result }
-    ensures names_stay { buffers.new.names ≡ buffers.old.names }
+    ensures { ObjectPut (part s.now head.type_start head.type_end)
+        (part s.now head.code_start head.code_end) little p head.next any records.old bytes.old
+        records.new bytes.new result }
 {
     let first = first_link(any, p.next);
     let entry = object_entry(head, p.pool, first);
-    let Buffers { records, bytes, .. } = buffers;
     put_row(records, little, p.next, entry);
     let middle = put_part(s, head.type_start, head.type_end, bytes, p.pool);
     let pool = put_part(s, head.code_start, head.code_end, bytes, middle);
@@ -86,13 +85,18 @@ fn push(names: &mut [u32; NAMES_ROOM], top: usize, start: u32, end: u32)
 }
 
 // Writes an attribute's name to the pool and to the stack; the spot behind its opening brace.
-pub fn keep_name(s: &[u8], p: Spot, head: AttributeHead, buffers: &mut Buffers, top: usize) -> Spot
+pub fn keep_name(
+    s: &[u8],
+    p: Spot,
+    head: AttributeHead,
+    bytes: &mut [u8; POOL_ROOM],
+    names: &mut [u32; NAMES_ROOM],
+    top: usize,
+) -> Spot
     requires { NameRoom s.now p head.name_start head.name_end top }
-    ensures name_kept { NameKept (part s.now head.name_start head.name_end) p head.next head.name_start head.name_end top
-        buffers.old.bytes buffers.old.names buffers.new.bytes buffers.new.names result }
-    ensures records_stay { buffers.new.records ≡ buffers.old.records }
+    ensures { NameKept (part s.now head.name_start head.name_end) p head.next head.name_start head.name_end top
+        bytes.old names.old bytes.new names.new result }
 {
-    let Buffers { bytes, names, .. } = buffers;
     push(names, top, narrow(head.name_start), narrow(head.name_end));
     let pool = put_part(s, head.name_start, head.name_end, bytes, p.pool);
     Spot {

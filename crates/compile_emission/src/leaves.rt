@@ -9,12 +9,15 @@ ghost use Rattle.compile_flatten.specs.Flatten.{value_table};
 ghost use Rattle.compile_emission.specs.Clauses.Answers.{Room, wrote, written, leaf_value};
 
 use crate::lists::{put_ranges, put_single, put_strings};
-use crate::spots::{Buffers, Spot};
+use crate::spots::Spot;
 use cadl_items::leaves::{Leaf, SingleSort, read_leaf};
 use cadl_items::spans::SCRATCH_ROOM;
 use lexis::Token;
 use refusals::Refusal;
-use table::layout::{BOOLEAN_KIND, DATE_PATTERN_KIND, DURATION_PATTERN_KIND, TIME_PATTERN_KIND};
+use table::layout::{
+    BOOLEAN_KIND, DATE_PATTERN_KIND, DURATION_PATTERN_KIND, POOL_ROOM, RECORDS_ROOM,
+    TIME_PATTERN_KIND,
+};
 
 // The kind of the record of a leaf of one.
 fn single_kind(sort: SingleSort) -> u8
@@ -35,18 +38,17 @@ pub fn write_leaf(
     little: bool,
     p: Spot,
     t: Token,
-    buffers: &mut Buffers,
+    records: &mut [u8; RECORDS_ROOM],
+    bytes: &mut [u8; POOL_ROOM],
 ) -> Result<Spot, Refusal>
     requires room { Room s.now p }
     requires token_is { TokenIs s.now p.place (content_token_at s.now p.place) t }
-    ensures leaf_written { wrote result buffers.new.records buffers.new.bytes
-        ≡ written value_table value_pool little p buffers.old.records buffers.old.bytes
+    ensures { wrote result records.new bytes.new
+        ≡ written value_table value_pool little p records.old bytes.old
         (leaf_value s.now p) }
-    ensures names_stay { buffers.new.names ≡ buffers.old.names }
 {
     let mut scratch: [u32; SCRATCH_ROOM] = [0; SCRATCH_ROOM];
     let leaf = read_leaf(s, p.next, p.place, t, &mut scratch)?;
-    let Buffers { records, bytes, .. } = buffers;
     let behind = match leaf {
         Leaf::Single { sort, flag, next } => {
             put_single(records, little, p, single_kind(sort), flag, next)

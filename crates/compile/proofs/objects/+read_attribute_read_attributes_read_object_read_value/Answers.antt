@@ -20,22 +20,20 @@ pub read_attribute-keep_name-inner-requires : goal.read_attribute-keep_name-inne
 read_attribute-keep_name-inner-requires t c = name_room c.requires c.in_ok-head.ensures
 
 pub read_attribute-read_value-requires : goal.read_attribute-read_value-requires
-read_attribute-read_value-requires t c = (search rules, value_stacked c.requires c.in_ok-head.ensures c.keep_name-inner.ensures.name_kept)
+read_attribute-read_value-requires t c = (search rules, value_stacked c.requires c.in_ok-head.ensures c.keep_name-inner.ensures)
 
 pub read_attribute-returns-in_err-q : goal.read_attribute-returns-in_err-q
 read_attribute-returns-in_err-q t c =
     let p = err_from_is_err_and c.from_residual-in_err-q.result c.from_residual-in_err-q.ensures.1 in
-    let d = rw c.keep_name-inner.ensures.records_stay at c.in_err-q.ensures in
-    rw (p.1, p.2) (value_refused c.requires c.in_ok-head.ensures c.keep_name-inner.ensures.name_kept _ _ _ d _ refl)
+    rw (p.1, p.2) (value_refused c.requires c.in_ok-head.ensures c.keep_name-inner.ensures _ _ _ c.in_err-q.ensures _ refl)
 
 pub read_attribute-close_attribute-requires : goal.read_attribute-close_attribute-requires
 read_attribute-close_attribute-requires t c =
-    value_closing c.requires c.in_ok-head.ensures c.keep_name-inner.ensures.name_kept _ _ _ c.in_ok-q.ensures refl
+    value_closing c.requires c.in_ok-head.ensures c.keep_name-inner.ensures _ _ _ c.in_ok-q.ensures refl
 
 pub read_attribute-returns : goal.read_attribute-returns
 read_attribute-returns t c =
-    let d = rw c.keep_name-inner.ensures.records_stay at c.in_ok-q.ensures in
-    value_closed c.requires c.in_ok-head.ensures c.keep_name-inner.ensures.name_kept _ _ _ d refl _ _ (search rules) c.close_attribute.ensures
+    value_closed c.requires c.in_ok-head.ensures c.keep_name-inner.ensures _ _ _ c.in_ok-q.ensures refl _ _ (search rules) c.close_attribute.ensures
 
 pub read_attributes-loop-behind-init : goal.read_attributes-loop-behind-init
 read_attributes-loop-behind-init t c = attributes_start _ _ _ _ _ _ c.requires
@@ -70,9 +68,7 @@ read_object-returns-in_err-head t c =
     rw (p.1, p.2) (object_faulty c.requires _ _ _ _ _ _ c.in_err-head.ensures)
 
 pub read_object-returns-then-any : goal.read_object-returns-then-any
-read_object-returns-then-any t c =
-    let e = c.in_ok-head.ensures in
-    rw c.open_object-q.ensures.names_stay (search object_any)
+read_object-returns-then-any t c = let e = c.in_ok-head.ensures in search object_any
 
 pub read_object-overflow_sub-levels : goal.read_object-overflow_sub-levels
 read_object-overflow_sub-levels t c = object_level c.requires _ c.in_ok-head.ensures
@@ -80,16 +76,16 @@ read_object-overflow_sub-levels t c = object_level c.requires _ c.in_ok-head.ens
 pub read_object-read_attributes-requires : goal.read_object-read_attributes-requires
 read_object-read_attributes-requires t c =
     let l = object_level c.requires _ c.in_ok-head.ensures in
-    (omega arith, object_more c.requires _ c.in_ok-head.ensures c.token_at-t.ensures c.open_object-q.ensures.object_put)
+    (omega arith, object_more c.requires _ c.in_ok-head.ensures c.token_at-t.ensures c.open_object-q.ensures)
 
 pub read_object-returns : goal.read_object-returns
 read_object-returns t c =
     let pre = c.requires in
     let e = c.in_ok-head.ensures in
     let tok = c.token_at-t.ensures in
-    let put = c.open_object-q.ensures.object_put in
+    let put = c.open_object-q.ensures in
     let left = c.if-any.false in
-    let d = rw c.open_object-q.ensures.names_stay at c.read_attributes.ensures in
+    let d = c.read_attributes.ensures in
     search object_attributes
 
 pub read_value-returns-in-15 : goal.read_value-returns-in-15
@@ -99,4 +95,4 @@ pub read_value-returns-in-2 : goal.read_value-returns-in-2
 read_value-returns-in-2 t c = search value_object
 
 pub read_value-returns-in_default : goal.read_value-returns-in_default
-read_value-returns-in_default t c = rw c.write_leaf.ensures.names_stay (search value_leaf)
+read_value-returns-in_default t c = search value_leaf
