@@ -16,10 +16,10 @@ use refusals::{Cause, Refusal};
 
 // The place of a code, empty where there is none, and the place behind it.
 #[derive(Clone, Copy)]
-struct Code {
-    start: usize,
-    end: usize,
-    next: usize,
+pub struct Code {
+    pub start: usize,
+    pub end: usize,
+    pub next: usize,
 }
 
 // An object's type and code, and the place behind its opening brace.
