@@ -24,18 +24,18 @@ const LAST_DAY: u32 = 99_991_231;
 
 // A high end: the greatest value, or the value that all stay below.
 #[derive(Clone, Copy)]
-enum High {
+pub enum High {
     At(u32),
     Below(u32),
 }
 
 // An interval's kind, its ends and the place behind them. A low end that is moved may lie behind the range's end.
 #[derive(Clone, Copy)]
-struct Ends {
-    kind: u8,
-    low: u64,
-    high: High,
-    next: usize,
+pub struct Ends {
+    pub kind: u8,
+    pub low: u64,
+    pub high: High,
+    pub next: usize,
 }
 
 // An interval's kind, its closed pair and the place behind it.
