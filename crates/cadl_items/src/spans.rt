@@ -34,8 +34,7 @@ fn span_bytes<'a>(s: &'a [u8], spans: &[u32], i: usize) -> &'a [u8]
     &s[start..end]
 }
 
-// Whether bytes are those of a span from `first` on, up to `end`. A function of its own: merged into all of reading objects, the scan would keep its places on the stack.
-#[inline(never)]
+// Whether bytes are those of a span from `first` on, up to `end`.
 #[tactic(auto, using(crate::proofs::SpanSteps::longer_next, crate::proofs::SpanSteps::bytes_next, lexis::proofs::Comparing::bytes_on))]
 pub fn repeated(s: &[u8], spans: &[u32], first: usize, end: usize, name: &[u8]) -> bool
     requires { SpansIn s.now spans.now first end }

@@ -11,7 +11,7 @@ ghost use Rattle.compile.specs.Clauses.Answers.{answer_of};
 
 use crate::objects::read_object;
 use crate::output::finish;
-use compile_emission::spots::{Buffers, NAMES_ROOM, Spot};
+use compile_emission::spots::{NAMES_ROOM, Spot};
 use refusals::limits::{LEVEL_LIMIT, TEXT_LIMIT};
 use refusals::{Cause, Refusal};
 use table::layout::{POOL_ROOM, RECORDS_ROOM};
@@ -24,16 +24,23 @@ pub fn compile(text: &[u8], little: bool, out: &mut [u8]) -> Result<usize, Refus
     if TEXT_LIMIT < text.len() {
         return Err(Cause::TextTooLong.at(TEXT_LIMIT));
     }
-    let mut buffers = Buffers {
-        records: [0; RECORDS_ROOM],
-        bytes: [0; POOL_ROOM],
-        names: [0; NAMES_ROOM],
-    };
+    let mut records: [u8; RECORDS_ROOM] = [0; RECORDS_ROOM];
+    let mut bytes: [u8; POOL_ROOM] = [0; POOL_ROOM];
+    let mut names: [u32; NAMES_ROOM] = [0; NAMES_ROOM];
     let p = Spot {
         place: 0,
         next: 1,
         pool: 0,
     };
-    let q = read_object(text, little, LEVEL_LIMIT, p, 0, &mut buffers)?;
-    finish(text, little, q, &mut buffers.records, &buffers.bytes, out)
+    let q = read_object(
+        text,
+        little,
+        LEVEL_LIMIT,
+        p,
+        0,
+        &mut records,
+        &mut bytes,
+        &mut names,
+    )?;
+    finish(text, little, q, &mut records, &bytes, out)
 }

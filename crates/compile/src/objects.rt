@@ -9,11 +9,12 @@ ghost use Rattle.compile.specs.Clauses.Answers.{Stacked, TreeIs, EndIs, Attribut
 use cadl_objects::heads::{attribute_head, object_head};
 use compile_emission::heads::{close_attribute, keep_name, open_object};
 use compile_emission::leaves::write_leaf;
-use compile_emission::spots::{AttributeEnd, Buffers, Spot};
+use compile_emission::spots::{AttributeEnd, NAMES_ROOM, Spot};
 use lexis::tokens::{content_token_at, token_at};
 use lexis::{CLOSE_BRACE, STAR, TYPE_NAME};
 use refusals::Refusal;
 use refusals::steps::expect;
+use table::layout::{POOL_ROOM, RECORDS_ROOM};
 
 // The `}` of an object behind its `*`.
 fn close_object(s: &[u8], p: Spot, from: usize) -> Result<Spot, Refusal>
@@ -35,30 +36,24 @@ pub fn read_object(
     levels: usize,
     p: Spot,
     top: usize,
-    buffers: &mut Buffers,
+    records: &mut [u8; RECORDS_ROOM],
+    bytes: &mut [u8; POOL_ROOM],
+    names: &mut [u32; NAMES_ROOM],
 ) -> Result<Spot, Refusal>
     requires { Stacked s.now p top }
-    ensures { TreeIs top buffers.old.names buffers.new.names
-        (written object_table object_pool little p buffers.old.records buffers.old.bytes
+    ensures { TreeIs top names.old names.new
+        (written object_table object_pool little p records.old bytes.old
         (object_from s.now levels p.next p.place))
-        buffers.new.records buffers.new.bytes result }
+        records.new bytes.new result }
 {
     let head = object_head(s, levels, p.next, p.place)?;
     let t = token_at(s, head.next);
     let any = t.sort == STAR;
-    let q = open_object(
-        s,
-        little,
-        p,
-        head,
-        any,
-        &mut buffers.records,
-        &mut buffers.bytes,
-    );
+    let q = open_object(s, little, p, head, any, records, bytes);
     if any {
         return close_object(s, q, t.end);
     }
-    read_attributes(s, little, levels - 1, q, top, buffers)
+    read_attributes(s, little, levels - 1, q, top, records, bytes, names)
 }
 
 // The attributes of an object and its `}`; the objects inside have at most so many levels.
@@ -69,18 +64,20 @@ fn read_attributes(
     levels: usize,
     p: Spot,
     first: usize,
-    buffers: &mut Buffers,
+    records: &mut [u8; RECORDS_ROOM],
+    bytes: &mut [u8; POOL_ROOM],
+    names: &mut [u32; NAMES_ROOM],
 ) -> Result<Spot, Refusal>
     requires { Stacked s.now p first }
-    ensures { TreeIs first buffers.old.names buffers.new.names
-        (written attributes_table attribute_pool little p buffers.old.records buffers.old.bytes
+    ensures { TreeIs first names.old names.new
+        (written attributes_table attribute_pool little p records.old bytes.old
         (attributes s.now levels (length s.now + 1) [] p.next p.place))
-        buffers.new.records buffers.new.bytes result }
+        records.new bytes.new result }
 {
     let mut q = p;
     let mut top = first;
     loop {
-        match read_attribute(s, little, levels, q, first, top, buffers)? {
+        match read_attribute(s, little, levels, q, first, top, records, bytes, names)? {
             AttributeEnd::Last(behind) => {
                 return Ok(behind);
             }
@@ -101,16 +98,18 @@ fn read_attribute(
     p: Spot,
     first: usize,
     top: usize,
-    buffers: &mut Buffers,
+    records: &mut [u8; RECORDS_ROOM],
+    bytes: &mut [u8; POOL_ROOM],
+    names: &mut [u32; NAMES_ROOM],
 ) -> Result<AttributeEnd, Refusal>
-    requires { AttributeRoom s.now p first top buffers.old.names }
-    ensures { AttributeIs s.now little levels p first top buffers.old.names buffers.old.records
-        buffers.old.bytes buffers.new.names buffers.new.records buffers.new.bytes result }
+    requires { AttributeRoom s.now p first top names.old }
+    ensures { AttributeIs s.now little levels p first top names.old records.old
+        bytes.old names.new records.new bytes.new result }
 {
-    let head = attribute_head(s, &buffers.names, first, top, p.next, p.place)?;
-    let inner = keep_name(s, p, head, &mut buffers.bytes, &mut buffers.names, top);
-    let q = read_value(s, little, levels, inner, top + 1, buffers)?;
-    close_attribute(s, little, p, head, q, &mut buffers.records)
+    let head = attribute_head(s, names, first, top, p.next, p.place)?;
+    let inner = keep_name(s, p, head, bytes, names, top);
+    let q = read_value(s, little, levels, inner, top + 1, records, bytes, names)?;
+    close_attribute(s, little, p, head, q, records)
 }
 
 // What stands between an attribute's braces: `*`, an object of at most so many levels, or a leaf.
@@ -121,18 +120,20 @@ fn read_value(
     levels: usize,
     p: Spot,
     top: usize,
-    buffers: &mut Buffers,
+    records: &mut [u8; RECORDS_ROOM],
+    bytes: &mut [u8; POOL_ROOM],
+    names: &mut [u32; NAMES_ROOM],
 ) -> Result<Spot, Refusal>
     requires { Stacked s.now p top }
-    ensures { TreeIs top buffers.old.names buffers.new.names
-        (written value_table value_pool little p buffers.old.records buffers.old.bytes
+    ensures { TreeIs top names.old names.new
+        (written value_table value_pool little p records.old bytes.old
         (value s.now levels p.next p.place))
-        buffers.new.records buffers.new.bytes result }
+        records.new bytes.new result }
 {
     let t = content_token_at(s, p.place);
     match t.sort {
         STAR => Ok(Spot { place: t.end, ..p }),
-        TYPE_NAME => read_object(s, little, levels, p, top, buffers),
-        _ => write_leaf(s, little, p, t, &mut buffers.records, &mut buffers.bytes),
+        TYPE_NAME => read_object(s, little, levels, p, top, records, bytes, names),
+        _ => write_leaf(s, little, p, t, records, bytes),
     }
 }

@@ -1,17 +1,8 @@
-// How far reading and writing have come, and the buffers written.
+// How far reading and writing have come.
 use refusals::limits::RECORD_LIMIT;
-use table::layout::{POOL_ROOM, RECORDS_ROOM};
 
 // Numbers of the stack of names of open objects: two for each name, of which there are fewer than records.
 pub const NAMES_ROOM: usize = 2 * RECORD_LIMIT;
-
-// The buffers of a table that is being written: its records, the bytes of its pool, and the stack of names of open objects.
-#[derive(Drop)]
-pub struct Buffers {
-    pub records: [u8; RECORDS_ROOM],
-    pub bytes: [u8; POOL_ROOM],
-    pub names: [u32; NAMES_ROOM],
-}
 
 // A place of the text, the number of the next record and the bytes in the pool.
 #[derive(Clone, Copy)]

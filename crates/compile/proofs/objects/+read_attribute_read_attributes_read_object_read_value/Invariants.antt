@@ -18,7 +18,7 @@ decreases-read_value l = 4 * l.levels + 1
 
 abbrev pub invariant-read_attributes-loop-behind : goal.invariant-read_attributes-loop-behind
 invariant-read_attributes-loop-behind l =
-    InAttributes l.s l.little l.levels l.initial.q l.first l.initial.buffers.records l.initial.buffers.bytes l.initial.buffers.names l.q l.top l.buffers.records l.buffers.bytes l.buffers.names
+    InAttributes l.s l.little l.levels l.initial.q l.first l.initial.records l.initial.bytes l.initial.names l.q l.top l.records l.bytes l.names
 
 abbrev pub decreases-read_attributes-loop-behind : goal.decreases-read_attributes-loop-behind
 decreases-read_attributes-loop-behind l = length l.s - l.q.place
